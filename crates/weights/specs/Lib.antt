@@ -1,0 +1,6 @@
+pub mod Figures
+pub mod Measures
+pub mod Labels
+pub mod Laws
+pub mod Weighing
+pub mod Order

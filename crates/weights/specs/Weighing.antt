@@ -1,0 +1,51 @@
+-- What the laws of a measure give for the weight of a hyperedge, `weigh`: it is monotone in the own weight and in each weight of the tail, stays in range,
+-- and is no better than any of the weights of the tail. Assumes nothing.
+use mathlib.Core.Path.{_≡_, refl}
+use mathlib.Core.List.{List, [], _∷_, List·Memᴰ, List·Memᴰ·head, List·Memᴰ·tail}
+use Prim.Native.Nat.{ℕ}
+use Rattle.weights.specs.Measures.{Algebra, fold, weigh}
+use Rattle.weights.specs.Laws.{NoWorse, Within, Lawful}
+
+-- each weight of one list is no worse than the other's
+pub data Pointwise (A : Algebra) : List ℕ → List ℕ → Type 0 where
+  none : Pointwise A [] []
+  more : {x y : ℕ} {xs ys : List ℕ} → NoWorse (A .leq) x y → Pointwise A xs ys → Pointwise A (x ∷ xs) (y ∷ ys)
+
+module _ {A : Algebra} (L : Lawful A) where
+  -- equal weights are no worse than one another
+  pub no-worse-eq : {a b : ℕ} → a ≡ b → NoWorse (A .leq) a b
+  no-worse-eq {a} {b} e = rw e (L .ordered .reflexive)
+
+  fold-mono : {a b : ℕ} {xs ys : List ℕ} → NoWorse (A .leq) a b → Pointwise A xs ys → NoWorse (A .leq) (fold (A .join) a xs) (fold (A .join) b ys)
+  unfolding fold
+  fold-mono o Pointwise.none = o
+  fold-mono o (Pointwise.more p ps) = fold-mono (L .join-mono o p) ps
+
+  fold-within : {a : ℕ} (xs : List ℕ) → Within A a → Within A (fold (A .join) a xs)
+  unfolding fold
+  fold-within [] h = h
+  fold-within {a} (x ∷ xs) h = fold-within xs (L .join-within a x)
+
+  -- where the joining starts is no worse than the whole, and so is each weight on the way
+  fold-from : {a : ℕ} (xs : List ℕ) → Within A a → NoWorse (A .leq) a (fold (A .join) a xs)
+  unfolding fold
+  fold-from [] h = L .ordered .reflexive
+  fold-from {a} (x ∷ xs) h = L .ordered .transitive (L .join-left x h) (fold-from xs (L .join-within a x))
+
+  fold-superior : (a : ℕ) {x : ℕ} {xs : List ℕ} → List·Memᴰ x xs → Within A x → NoWorse (A .leq) x (fold (A .join) a xs)
+  unfolding fold
+  fold-superior a (List·Memᴰ·head {x = y} {xs = ys} e) h = rw e (L .ordered .transitive (L .join-right a (rw e at h)) (fold-from ys (L .join-within a y)))
+  fold-superior a (List·Memᴰ·tail {x = y} i) h = fold-superior (A .join a y) i h
+
+  pub weigh-mono : {own own′ : ℕ} {xs ys : List ℕ} → NoWorse (A .leq) own own′ → Pointwise A xs ys → NoWorse (A .leq) (weigh A own xs) (weigh A own′ ys)
+  unfolding weigh
+  weigh-mono o ps = L .finish-mono o (fold-mono (L .ordered .reflexive) ps)
+
+  pub weigh-within : (own : ℕ) (xs : List ℕ) → Within A (weigh A own xs)
+  unfolding weigh
+  weigh-within own xs = L .finish-within own (fold (A .join) (A .unit) xs)
+
+  -- superiority (document 000, before Lemma 2)
+  pub superior : (own : ℕ) {x : ℕ} {xs : List ℕ} → List·Memᴰ x xs → Within A x → NoWorse (A .leq) x (weigh A own xs)
+  unfolding weigh
+  superior own {x} {xs} i h = L .ordered .transitive (fold-superior (A .unit) i h) (L .finish-superior own (fold-within xs (L .unit-within)))

@@ -1,0 +1,192 @@
+// Weights, the measures by which they are joined and compared, and the labels and entries that are
+// made of them.
+ghost use mathlib.Core.Path.{_≡_};
+ghost use Prim.Native.Nat.{_+_, max};
+ghost use Rattle.weights.specs.Figures.{isStruck, isOver, capped};
+ghost use Rattle.weights.specs.Measures.{algebra};
+ghost use Rattle.weights.specs.Labels.{aheadOf, stateOf, entryOf};
+
+// A part, and a line of the table, each by its number: one is never taken for the other.
+pub struct Vertex(pub u64);
+
+pub struct Hyperedge(pub u64);
+
+// How the weights of a derivation are joined: costs are added, and of days the greatest counts.
+pub enum Measure {
+    Cost,
+    Days,
+}
+
+// A figure.
+pub struct Weight(pub u64);
+
+impl Weight {
+    // The greatest own weight of a hyperedge.
+    pub const GREATEST: Weight = Weight(1000000000);
+
+    // The mark, in place of an own weight, of a hyperedge that is struck.
+    pub const STRUCK: Weight = Weight(1000000001);
+
+    // The greatest sum.
+    pub const CEILING: Weight = Weight(1000000000000);
+
+    // What a sum above the ceiling becomes.
+    pub const OVER: Weight = Weight(1000000000001);
+
+    pub fn is_struck(self) -> bool
+        ensures { λ r. ⌜ r ≡ isStruck (self .0) ⌝ }
+    {
+        self.0 == Weight::STRUCK.0
+    }
+
+    pub fn is_over(self) -> bool
+        ensures { λ r. ⌜ r ≡ isOver (self .0) ⌝ }
+    {
+        self.0 == Weight::OVER.0
+    }
+
+    // The capped sum. It wraps for no two numbers.
+    pub fn plus(self, other: Weight) -> Weight
+        ensures { λ r. ⌜ r .0 ≡ capped (self .0 + other .0) ⌝ }
+    {
+        if self.0 > Weight::CEILING.0 {
+            return Weight::OVER;
+        }
+        if other.0 > Weight::CEILING.0 - self.0 {
+            return Weight::OVER;
+        }
+        Weight(self.0 + other.0)
+    }
+
+    pub fn greater(self, other: Weight) -> Weight
+        ensures { λ r. ⌜ r .0 ≡ max (self .0) (other .0) ⌝ }
+    {
+        if self.0 < other.0 {
+            return other;
+        }
+        self
+    }
+}
+
+impl Weight {
+    // Where a joining starts.
+    pub fn unit(measure: Measure) -> Weight
+        ensures { λ r. ⌜ r .0 ≡ algebra measure .unit ⌝ }
+    {
+        match measure {
+            Measure::Cost => Weight(0),
+            Measure::Days => Weight(0),
+        }
+    }
+
+    // The weights of two vertices of a tail, joined.
+    pub fn join(self, measure: Measure, other: Weight) -> Weight
+        ensures { λ r. ⌜ r .0 ≡ algebra measure .join (self .0) (other .0) ⌝ }
+    {
+        match measure {
+            Measure::Cost => self.plus(other),
+            Measure::Days => self.greater(other),
+        }
+    }
+
+    // A hyperedge's own weight with the joined weights of its tail.
+    pub fn finish(self, measure: Measure, joined: Weight) -> Weight
+        ensures { λ r. ⌜ r .0 ≡ algebra measure .finish (self .0) (joined .0) ⌝ }
+    {
+        match measure {
+            Measure::Cost => self.plus(joined),
+            Measure::Days => self.greater(joined),
+        }
+    }
+
+    // Whether it is no worse than the other.
+    pub fn no_worse(self, measure: Measure, other: Weight) -> bool
+        ensures { λ r. ⌜ r ≡ algebra measure .leq (self .0) (other .0) ⌝ }
+    {
+        match measure {
+            Measure::Cost => self.0 <= other.0,
+            Measure::Days => self.0 <= other.0,
+        }
+    }
+}
+
+// What is known of a vertex: the weight, the depth and the root of its chosen derivation. Depth 0
+// is unmade, and then all three are 0.
+pub struct Label {
+    pub weight: Weight,
+    pub depth: u64,
+    pub edge: Hyperedge,
+}
+
+// A label, where there is one.
+pub enum Offer {
+    Nothing,
+    Found(Label),
+}
+
+// Whether a comes before b, or is b: by weight, then by depth, then by hyperedge.
+pub fn ahead(measure: Measure, a: Label, b: Label) -> bool
+    ensures { λ r. ⌜ r ≡ aheadOf (algebra measure) a b ⌝ }
+{
+    let x = a.weight;
+    let y = b.weight;
+    if !x.no_worse(measure, y) {
+        return false;
+    }
+    if !y.no_worse(measure, x) {
+        return true;
+    }
+    if a.depth < b.depth {
+        return true;
+    }
+    if b.depth < a.depth {
+        return false;
+    }
+    a.edge.0 <= b.edge.0
+}
+
+pub enum State {
+    Made,
+    Over,
+    Unmade,
+}
+
+// A vertex's entry: its label, and the state that the label's numbers tell.
+pub struct Entry {
+    pub state: State,
+    pub weight: Weight,
+    pub depth: u64,
+    pub edge: Hyperedge,
+}
+
+impl Entry {
+    pub fn of(label: Label) -> Entry
+        ensures { λ r. ⌜ r ≡ entryOf label ⌝ }
+    {
+        let weight = label.weight;
+        let edge = label.edge;
+        let depth = label.depth;
+        let state = State::of(weight, depth);
+        Entry {
+            state,
+            weight,
+            depth,
+            edge,
+        }
+    }
+}
+
+impl State {
+    // Unmade at depth 0, else over at the mark, else made.
+    pub fn of(weight: Weight, depth: u64) -> State
+        ensures { λ r. ⌜ r ≡ stateOf (weight .0) depth ⌝ }
+    {
+        if depth == 0 {
+            return State::Unmade;
+        }
+        if weight.is_over() {
+            return State::Over;
+        }
+        State::Made
+    }
+}
