@@ -1,0 +1,82 @@
+-- What a refusal's number and place are, and the one number that a caller in C gets. The paper's table of refusals, and "The calls" for C.
+-- Assumes nothing: these are definitions, and the law `exact` of one of them.
+use mathlib.Core.Path.{_≡_}
+use Prim.Native.Nat.{ℕ, _+_, _*_, _≤_, min}
+use native.Mathlib.Omega.{arith}
+use Rattle.refusal.specs.declared.Refusal.{Refusal}
+use Rattle.refusal.specs.declared.Refusal.the-variants.{TooManyVertices, Lengths, Head, Own, Span, Tail, AnswerLength, WrongAnswers, NoSuchEdge, NewWeight, NoSuchVertex, Underivable, BillRoom, Text, TextRoom, MeasureNumber, InputLength}
+use Rattle.refusal.specs.declared.Code.{Code}
+use Rattle.refusal.specs.declared.Answer.{Answer}
+use Rattle.refusal.specs.declared.Answer.the-variants as answer
+use Rattle.refusal.specs.declared.Extent.{Extent}
+use Rattle.refusal.specs.declared.Extent.the-variants as extent
+
+-- a number and a place
+abbrev pub code : (number place : ℕ) → Code
+code n p = record { 0 = n; 1 = p }
+
+-- the paper's table: a table line as place for 3 to 6, a text line for 14, otherwise 0
+abbrev pub codeOf : Refusal → Code
+codeOf TooManyVertices = code 1 0
+codeOf Lengths = code 2 0
+codeOf (Head e) = code 3 (e .0)
+codeOf (Own e) = code 4 (e .0)
+codeOf (Span e) = code 5 (e .0)
+codeOf (Tail e) = code 6 (e .0)
+codeOf AnswerLength = code 7 0
+codeOf WrongAnswers = code 8 0
+codeOf NoSuchEdge = code 9 0
+codeOf NewWeight = code 10 0
+codeOf NoSuchVertex = code 11 0
+codeOf Underivable = code 12 0
+codeOf BillRoom = code 13 0
+codeOf (Text line) = code 14 (line .0)
+codeOf TextRoom = code 15 0
+codeOf MeasureNumber = code 16 0
+codeOf InputLength = code 17 0
+
+abbrev pub numberOf : Refusal → ℕ
+numberOf r = codeOf r .0
+
+abbrev pub placeOf : Refusal → ℕ
+placeOf r = codeOf r .1
+
+-- the greatest place that a result in C can hold
+abbrev pub lastPlace : ℕ
+lastPlace = 4_294_967_295
+
+-- in C: the number times 2^32, plus the place. A table has at most 4,096 lines, so no place of a call is cut: `exact`
+abbrev pub resultOf : Code → ℕ
+resultOf c = c .0 * 4_294_967_296 + min (c .1) lastPlace
+
+pub exact : (c : Code) → c .1 ≤ lastPlace → resultOf c ≡ c .0 * 4_294_967_296 + c .1
+exact c h = omega arith
+
+-- there are seventeen
+pub numbered : (r : Refusal) → numberOf r ≤ 17
+numbered TooManyVertices = omega arith
+numbered Lengths = omega arith
+numbered (Head e) = omega arith
+numbered (Own e) = omega arith
+numbered (Span e) = omega arith
+numbered (Tail e) = omega arith
+numbered AnswerLength = omega arith
+numbered WrongAnswers = omega arith
+numbered NoSuchEdge = omega arith
+numbered NewWeight = omega arith
+numbered NoSuchVertex = omega arith
+numbered Underivable = omega arith
+numbered BillRoom = omega arith
+numbered (Text line) = omega arith
+numbered TextRoom = omega arith
+numbered MeasureNumber = omega arith
+numbered InputLength = omega arith
+
+-- in C: 0 on acceptance, a length as it is
+abbrev pub answerResult : Answer → ℕ
+answerResult answer.Accepted = 0
+answerResult (answer.Refused r) = resultOf (codeOf r)
+
+abbrev pub extentResult : Extent → ℕ
+extentResult (extent.Length n) = n
+extentResult (extent.Refused r) = resultOf (codeOf r)

@@ -1,0 +1,157 @@
+// The reasons for which a call turns its input away, the answers of the calls, and the one number
+// that a caller in C gets of each.
+use weights::Hyperedge;
+use weights::Measure;
+ghost use mathlib.Core.Path.{_≡_};
+ghost use Rattle.refusal.specs.Refusals.{codeOf, numberOf, placeOf, resultOf, answerResult, extentResult};
+
+// A line of a text, counted from 1.
+pub struct TextLine(pub u64);
+
+// The paper's table of refusals, in its order.
+pub enum Refusal {
+    // 1: more than 1,024 vertices.
+    TooManyVertices,
+    // 2: columns that disagree in length, or that are too long.
+    Lengths,
+    // 3: a head that is not a vertex.
+    Head(Hyperedge),
+    // 4: an own weight above the struck mark.
+    Own(Hyperedge),
+    // 5: a span that starts too early, is too long, or passes the column's end.
+    Span(Hyperedge),
+    // 6: a listed vertex that is none.
+    Tail(Hyperedge),
+    // 7: an answer column that has not a place for each vertex.
+    AnswerLength,
+    // 8: answers that are not this table's.
+    WrongAnswers,
+    // 9: a named hyperedge that does not exist or is struck.
+    NoSuchEdge,
+    // 10: a new own weight above the greatest.
+    NewWeight,
+    // 11: a bill of a vertex that is none.
+    NoSuchVertex,
+    // 12: a bill of an unmade vertex.
+    Underivable,
+    // 13: a bill longer than the room.
+    BillRoom,
+    // 14: a text that breaks the form or a limit.
+    Text(TextLine),
+    // 15: a column, or the text's room, too short.
+    TextRoom,
+    // 16: a measure's number that is none.
+    MeasureNumber,
+    // 17: a program's input that is too long.
+    InputLength,
+}
+
+// A refusal's number, and its place: the hyperedge or the text line that it names, else 0.
+pub struct Code(pub u64, pub u64);
+
+impl Refusal {
+    // The paper's table, line by line.
+    pub fn code(self) -> Code
+        ensures { λ r. ⌜ r ≡ codeOf self ⌝ }
+    {
+        match self {
+            Refusal::TooManyVertices => Code(1, 0),
+            Refusal::Lengths => Code(2, 0),
+            Refusal::Head(e) => Code(3, e.0),
+            Refusal::Own(e) => Code(4, e.0),
+            Refusal::Span(e) => Code(5, e.0),
+            Refusal::Tail(e) => Code(6, e.0),
+            Refusal::AnswerLength => Code(7, 0),
+            Refusal::WrongAnswers => Code(8, 0),
+            Refusal::NoSuchEdge => Code(9, 0),
+            Refusal::NewWeight => Code(10, 0),
+            Refusal::NoSuchVertex => Code(11, 0),
+            Refusal::Underivable => Code(12, 0),
+            Refusal::BillRoom => Code(13, 0),
+            Refusal::Text(l) => Code(14, l.0),
+            Refusal::TextRoom => Code(15, 0),
+            Refusal::MeasureNumber => Code(16, 0),
+            Refusal::InputLength => Code(17, 0),
+        }
+    }
+
+    pub fn number(self) -> u64
+        ensures { λ r. ⌜ r ≡ numberOf self ⌝ }
+    {
+        self.code().0
+    }
+
+    pub fn place(self) -> u64
+        ensures { λ r. ⌜ r ≡ placeOf self ⌝ }
+    {
+        self.code().1
+    }
+
+    // The number and the place in one number, for C.
+    pub fn result(self) -> u64
+        ensures { λ r. ⌜ r ≡ resultOf (codeOf self) ⌝ }
+    {
+        let number = self.number();
+        let place = self.place();
+        if place > 4294967295 {
+            return number * 4294967296 + 4294967295;
+        }
+        number * 4294967296 + place
+    }
+}
+
+// What checking a table, settling, repricing and striking return.
+pub enum Answer {
+    Accepted,
+    Refused(Refusal),
+}
+
+// What checking answers returns.
+pub enum Verdict {
+    Yes,
+    No,
+    Refused(Refusal),
+}
+
+// What printing a bill and writing a text return: the length of what was written.
+pub enum Extent {
+    Length(u64),
+    Refused(Refusal),
+}
+
+// What a text says of its table: the vertices, the measure, and how many hyperedges and listed
+// vertices there are.
+pub struct Header {
+    pub vertices: u64,
+    pub measure: Measure,
+    pub edges: u64,
+    pub listed: u64,
+}
+
+// What reading a text returns.
+pub enum Reading {
+    Table(Header),
+    Refused(Refusal),
+}
+
+impl Answer {
+    pub fn result(self) -> u64
+        ensures { λ r. ⌜ r ≡ answerResult self ⌝ }
+    {
+        match self {
+            Answer::Accepted => 0,
+            Answer::Refused(r) => r.result(),
+        }
+    }
+}
+
+impl Extent {
+    pub fn result(self) -> u64
+        ensures { λ r. ⌜ r ≡ extentResult self ⌝ }
+    {
+        match self {
+            Extent::Length(n) => n,
+            Extent::Refused(r) => r.result(),
+        }
+    }
+}
