@@ -1,0 +1,2 @@
+pub mod Semiring
+pub mod Datalog

@@ -1,0 +1,1 @@
+// The source's definitions of provenance: in specs/. There is no code.
