@@ -1,0 +1,67 @@
+-- Labellings: a label (figure, depth, line) for each vertex; what a hyperedge gives from the labels of its tail; and the fixpoint, the local condition that a
+-- right labelling meets. Assumes nothing: these are definitions.
+use mathlib.Core.Path.{_≡_}
+use mathlib.Core.Bool.{Bool, true, false}
+use mathlib.Core.List.{List, [], _∷_}
+use Prim.Native.Nat.{ℕ, _+_, _<_, max}
+use lib.Dec.{eqb}
+use Rattle.weights.specs.declared.Label.{Label}
+use Rattle.weights.specs.declared.Offer.{Offer}
+use Rattle.weights.specs.declared.Offer.the-variants.{Nothing, Found}
+use Rattle.weights.specs.Measures.{Algebra, weigh}
+use Rattle.weights.specs.Labels.{pick, label, unmade}
+use Rattle.weights.specs.Order.{Ahead}
+use Rattle.provenance.specs.Hypergraph.{Hypergraph, Stands}
+
+-- depth 0 occurs only for unmade
+pub record Made (l : Label) : Type 0 where
+  pub deep : 0 < l .depth
+
+pub data AllMade (ls : ℕ → Label) : List ℕ → Type 0 where
+  none : AllMade ls []
+  more : {v : ℕ} {vs : List ℕ} → Made (ls v) → AllMade ls vs → AllMade ls (v ∷ vs)
+
+-- the same as a test
+unfoldable pub allMade : (ℕ → Label) → List ℕ → Bool
+allMade ls [] = true
+allMade ls (v ∷ vs) = pick (eqb (ls v .depth) 0) false (allMade ls vs)
+
+-- the weights of a tail, a vertex listed twice counted twice, and its greatest depth
+unfoldable pub tail-weights : (ℕ → Label) → List ℕ → List ℕ
+tail-weights ls [] = []
+tail-weights ls (v ∷ vs) = ls v .weight .0 ∷ tail-weights ls vs
+
+unfoldable pub deepest : (ℕ → Label) → List ℕ → ℕ
+deepest ls [] = 0
+deepest ls (v ∷ vs) = max (ls v .depth) (deepest ls vs)
+
+-- what hyperedge e of this own weight and tail gives: its depth is above those of its tail, so hyperedges in a circle can't support one another
+abbrev pub yield : Algebra → (own : ℕ) → List ℕ → (ℕ → Label) → ℕ → Label
+yield A own tail ls e = label (weigh A own (tail-weights ls tail)) (deepest ls tail + 1) e
+
+-- the same, unless it is struck or a vertex of its tail is unmade
+unfoldable pub offerOf : Algebra → (live : Bool) (own : ℕ) → List ℕ → (ℕ → Label) → ℕ → Offer
+offerOf A live own tail ls e = pick live (pick (allMade ls tail) (Found (yield A own tail ls e)) Nothing) Nothing
+
+-- e is unstruck, and every vertex of its tail is made
+pub record Ready (H : Hypergraph) (ls : ℕ → Label) (e : ℕ) : Type 0 where
+  pub stands : Stands H e
+  pub tails : AllMade ls (H .tail e)
+
+module _ (A : Algebra) (H : Hypergraph) (own : ℕ → ℕ) where
+  -- what e gives from the labels of its tail
+  abbrev pub candidate : (ℕ → Label) → ℕ → Label
+  candidate ls e = yield A (own e) (H .tail e) ls e
+
+  -- the label of v is what e gives
+  pub record Chosen (ls : ℕ → Label) (v e : ℕ) : Type 0 where
+    pub ready : Ready H ls e
+    pub yields : H .head e ≡ v
+    pub given : ls v ≡ candidate ls e
+
+  -- every label is the first of the candidates of its vertex
+  pub record Fixpoint (ls : ℕ → Label) : Type 0 where
+    pub blank : (v : ℕ) → ls v .depth ≡ 0 → ls v ≡ unmade
+    pub chosen : (v : ℕ) → Made (ls v) → Chosen ls v (ls v .edge .0)
+    pub made : (e : ℕ) → Ready H ls e → Made (ls (H .head e))
+    pub ahead : (e : ℕ) → Ready H ls e → Ahead A (ls (H .head e)) (candidate ls e)

@@ -1,0 +1,13 @@
+pub mod Hypergraph
+pub mod Labelling
+pub mod Means
+pub mod LowerBound
+pub mod Support
+pub mod Meaning
+pub mod BestFirst
+pub mod Existence
+pub mod Semirings
+pub mod Program
+pub mod Provenance
+pub mod Counting
+pub mod Sensitivity
