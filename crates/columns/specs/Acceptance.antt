@@ -1,0 +1,71 @@
+-- Which tables are accepted: the refusals 1 to 6, in the paper's order ("What is turned away"), as one function. Assumes nothing: these are definitions.
+use Prim.Native.Nat.{ℕ, zero, suc, _+_, _*_}
+use mathlib.Core.Bool.{Bool, true, false}
+use mathlib.Core.List.{List, [], _∷_}
+use lib.ListN.{length}
+use lib.Dec.{ltb, leb, eqb}
+use Rattle.weights.specs.declared.Hyperedge.{Hyperedge}
+use Rattle.weights.specs.Figures.{struck}
+use Rattle.weights.specs.Labels.{pick}
+use Rattle.refusal.specs.declared.Refusal.{Refusal}
+use Rattle.refusal.specs.declared.Refusal.the-variants.{TooManyVertices, Lengths, Head, Own, Span, Tail}
+use Rattle.refusal.specs.declared.Answer.{Answer}
+use Rattle.refusal.specs.declared.Answer.the-variants.{Accepted, Refused}
+use Rattle.columns.specs.Columns.{Columns, headAt, ownAt, offsetAt, lengthAt, part}
+
+-- the greatest numbers of parts, of lines, of needed parts in all and of one line
+abbrev pub mostVertices : ℕ
+mostVertices = 1024
+
+abbrev pub mostEdges : ℕ
+mostEdges = 4096
+
+abbrev pub mostListed : ℕ
+mostListed = 16384
+
+abbrev pub longestTail : ℕ
+longestTail = 16
+
+-- a test that refuses by r where it fails
+abbrev pub test : Bool → Refusal → Answer → Answer
+test true r a = a
+test false r a = Refused r
+
+-- the first refusal of two answers
+abbrev pub andThen : Answer → Answer → Answer
+andThen Accepted b = b
+andThen (Refused r) b = Refused r
+
+-- every listed part is below n
+unfoldable pub allBelow : ℕ → List ℕ → Bool
+allBelow n [] = true
+allBelow n (v ∷ vs) = pick (ltb v n) (allBelow n vs) false
+
+-- refusals 3 to 6 of one line, where the span before it ends at `end`
+unfoldable pub edgeAcceptance : (n : ℕ) → Hyperedge → (head own offset size end : ℕ) → List ℕ → Answer
+edgeAcceptance n e head own offset size end tails =
+    test (ltb head n) (Head e)
+    (test (leb own struck) (Own e)
+    (test (leb end offset) (Span e)
+    (test (leb size longestTail) (Span e)
+    (test (leb (offset + size) (length tails)) (Span e)
+    (test (allBelow n (part offset size tails)) (Tail e)
+    Accepted)))))
+
+abbrev pub edgeAt : Columns → (e end : ℕ) → Answer
+edgeAt c e end = edgeAcceptance (c .vertices) (record { 0 = e }) (headAt c e) (ownAt c e) (offsetAt c e) (lengthAt c e) end (c .tails)
+
+-- the first refusal of the `left` lines from e on
+unfoldable pub edgesAcceptance : Columns → (left e end : ℕ) → Answer
+edgesAcceptance c zero e end = Accepted
+edgesAcceptance c (suc left) e end = andThen (edgeAt c e end) (edgesAcceptance c left (e + 1) (offsetAt c e + lengthAt c e))
+
+-- a table is accepted, or refused by the first of 1 to 6 that applies
+unfoldable pub acceptance : Columns → Answer
+acceptance c =
+    test (leb (c .vertices) mostVertices) TooManyVertices
+    (test (eqb (length (c .own)) (length (c .heads))) Lengths
+    (test (eqb (length (c .spans)) (2 * length (c .heads))) Lengths
+    (test (leb (length (c .heads)) mostEdges) Lengths
+    (test (leb (length (c .tails)) mostListed) Lengths
+    (edgesAcceptance c (length (c .heads)) 0 0)))))

@@ -1,0 +1,112 @@
+-- What holds of an accepted table: its lengths and limits, of each line its head, own figure, span and listed parts; so its hypergraph is well formed.
+-- Assumes nothing.
+use mathlib.Core.Path.{_≡_, refl, sym, subst}
+use mathlib.Core.List.{List, [], _∷_}
+use mathlib.Core.Bool.{Bool, true, false}
+use mathlib.Core.Logic.{⊎-elim}
+use Prim.Native.Nat.{ℕ, zero, suc, _+_, _*_, _≤_, _<_}
+use native.Mathlib.Nat.{eq-or-lt-of-le}
+use native.Mathlib.Omega.{arith}
+use lib.ListN.{length, getD}
+use lib.Dec.{ltb}
+use borrow.Author.Tests.{ltb-true, leb-true, eqb-true}
+use Rattle.weights.specs.declared.Hyperedge.{Hyperedge}
+use Rattle.weights.specs.Figures.{struck}
+use Rattle.weights.specs.Labels.{pick}
+use Rattle.refusal.specs.declared.Refusal.{Refusal}
+use Rattle.refusal.specs.declared.Answer.{Answer}
+use Rattle.refusal.specs.declared.Answer.the-variants.{Accepted, Refused}
+use Rattle.provenance.specs.Hypergraph.{WellFormed}
+use Rattle.columns.specs.Columns.{Columns, headAt, ownAt, offsetAt, lengthAt, part, tailAt, hypergraph}
+use Rattle.columns.specs.Acceptance.{mostVertices, mostEdges, mostListed, longestTail, test, andThen, allBelow, edgeAcceptance, edgeAt, edgesAcceptance, acceptance}
+
+pub refused : {r : Refusal} → Refused r ≡ Accepted → ⊥
+refused e = let z : _≡_ {A = ℕ} 0 1 = cc in omega arith
+
+test-passed : (b : Bool) (r : Refusal) (a : Answer) → test b r a ≡ Accepted → (b ≡ true) × (a ≡ Accepted)
+test-passed true r a e = (refl, e)
+test-passed false r a e = absurd (refused e)
+
+pub both-accepted : (a b : Answer) → andThen a b ≡ Accepted → (a ≡ Accepted) × (b ≡ Accepted)
+both-accepted Accepted b e = (refl, e)
+both-accepted (Refused r) b e = absurd (refused e)
+
+both-true : (a b : Bool) → pick a b false ≡ true → (a ≡ true) × (b ≡ true)
+both-true true b e = (refl, e)
+both-true false b e = let z : false ≡ true = e in (z, (cc))
+
+pub below-at : (n : ℕ) (vs : List ℕ) → allBelow n vs ≡ true → (k : ℕ) → k < length vs → getD vs k 0 < n
+unfolding allBelow
+below-at n [] e k h = absurd (omega arith)
+below-at n (v ∷ vs) e zero h = ltb-true _ _ (both-true (ltb v n) (allBelow n vs) e .0)
+below-at n (v ∷ vs) e (suc k) h = below-at n vs (both-true (ltb v n) (allBelow n vs) e .1) k (omega arith)
+
+-- a line that is accepted
+pub record AcceptedEdge (n h o offset size end : ℕ) (tails : List ℕ) : Type 0 where
+  pub head : h < n
+  pub own : o ≤ struck
+  pub from : end ≤ offset
+  pub short : size ≤ longestTail
+  pub within : offset + size ≤ length tails
+  pub listed : allBelow n (part offset size tails) ≡ true
+
+pub edge-accepted : (n : ℕ) (e : Hyperedge) (h o offset size end : ℕ) (tails : List ℕ) → edgeAcceptance n e h o offset size end tails ≡ Accepted → AcceptedEdge n h o offset size end tails
+unfolding edgeAcceptance
+edge-accepted n e h o offset size end tails p =
+    let t1 = test-passed _ _ _ p in
+    let t2 = test-passed _ _ _ (t1 .1) in
+    let t3 = test-passed _ _ _ (t2 .1) in
+    let t4 = test-passed _ _ _ (t3 .1) in
+    let t5 = test-passed _ _ _ (t4 .1) in
+    let t6 = test-passed _ _ _ (t5 .1) in
+    record {
+      head = ltb-true _ _ (t1 .0);
+      own = leb-true _ _ (t2 .0);
+      from = leb-true _ _ (t3 .0);
+      short = leb-true _ _ (t4 .0);
+      within = leb-true _ _ (t5 .0);
+      listed = t6 .0;
+    }
+
+-- line e of the columns is accepted, where the span before it ends somewhere
+abbrev pub AcceptedAt : Columns → ℕ → Type 0
+AcceptedAt c e = (end : ℕ) × AcceptedEdge (c .vertices) (headAt c e) (ownAt c e) (offsetAt c e) (lengthAt c e) end (c .tails)
+
+edges-accepted : (c : Columns) (left e end : ℕ) → edgesAcceptance c left e end ≡ Accepted → (x : ℕ) → e ≤ x → x < e + left → AcceptedAt c x
+unfolding edgesAcceptance
+edges-accepted c zero e end p x h l = absurd (omega arith)
+edges-accepted c (suc left) e end p x h l =
+    let t = both-accepted (edgeAt c e end) (edgesAcceptance c left (e + 1) (offsetAt c e + lengthAt c e)) p in
+    ⊎-elim
+    (λ q. subst (AcceptedAt c) q (end, edge-accepted _ _ _ _ _ _ _ _ (t .0)))
+    (λ q. edges-accepted c left (e + 1) (offsetAt c e + lengthAt c e) (t .1) x (omega arith) (omega arith))
+    (eq-or-lt-of-le h)
+
+-- an accepted table
+pub record AcceptedTable (c : Columns) : Type 0 where
+  pub few : c .vertices ≤ mostVertices
+  pub own : length (c .own) ≡ length (c .heads)
+  pub spans : length (c .spans) ≡ 2 * length (c .heads)
+  pub edges : length (c .heads) ≤ mostEdges
+  pub tails : length (c .tails) ≤ mostListed
+  pub each : (e : ℕ) → e < length (c .heads) → AcceptedAt c e
+
+pub table-accepted : (c : Columns) → acceptance c ≡ Accepted → AcceptedTable c
+unfolding acceptance
+table-accepted c p =
+    let t1 = test-passed _ _ _ p in
+    let t2 = test-passed _ _ _ (t1 .1) in
+    let t3 = test-passed _ _ _ (t2 .1) in
+    let t4 = test-passed _ _ _ (t3 .1) in
+    let t5 = test-passed _ _ _ (t4 .1) in
+    record {
+      few = leb-true _ _ (t1 .0);
+      own = eqb-true _ _ (t2 .0);
+      spans = eqb-true _ _ (t3 .0);
+      edges = leb-true _ _ (t4 .0);
+      tails = leb-true _ _ (t5 .0);
+      each = λ e h. edges-accepted c (length (c .heads)) 0 0 (t5 .1) e (omega arith) (omega arith);
+    }
+
+pub well-formed : (c : Columns) → acceptance c ≡ Accepted → WellFormed (hypergraph c)
+well-formed c p = record { heads = λ e h. table-accepted c p .each e h .1 .head }

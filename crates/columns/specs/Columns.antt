@@ -1,0 +1,47 @@
+-- The lent columns of a table, and the hypergraph with own weights that they mean. The paper's "The table". Assumes nothing: these are definitions.
+use Prim.Native.Nat.{ℕ, _+_, _*_}
+use mathlib.Core.Bool.{not}
+use mathlib.Core.List.{List}
+use lib.ListN.{length, getD, take, drop}
+use Rattle.weights.specs.Figures.{isStruck}
+use Rattle.provenance.specs.Hypergraph.{Hypergraph}
+use Rattle.provenance.specs.BestFirst.{Answers}
+
+-- n, and the four columns: heads; own figures; spans, two places for each line; and the needed parts
+pub record Columns : Type 0 where
+  pub vertices : ℕ
+  pub heads : List ℕ
+  pub own : List ℕ
+  pub spans : List ℕ
+  pub tails : List ℕ
+
+abbrev pub columns : ℕ → (heads own spans tails : List ℕ) → Columns
+columns n heads own spans tails = record { vertices = n; heads = heads; own = own; spans = spans; tails = tails }
+
+-- the three answer columns
+abbrev pub answers : (weights depths edges : List ℕ) → Answers
+answers weights depths edges = record { weights = weights; depths = depths; edges = edges }
+
+-- a line's head and own figure; its span: offset, then length; and the parts that it lists
+abbrev pub headAt : Columns → ℕ → ℕ
+headAt c e = getD (c .heads) e 0
+
+abbrev pub ownAt : Columns → ℕ → ℕ
+ownAt c e = getD (c .own) e 0
+
+abbrev pub offsetAt : Columns → ℕ → ℕ
+offsetAt c e = getD (c .spans) (2 * e) 0
+
+abbrev pub lengthAt : Columns → ℕ → ℕ
+lengthAt c e = getD (c .spans) (2 * e + 1) 0
+
+-- `size` places of a column, from `offset` on
+abbrev pub part : (offset size : ℕ) → List ℕ → List ℕ
+part offset size xs = take size (drop offset xs)
+
+abbrev pub tailAt : Columns → ℕ → List ℕ
+tailAt c e = part (offsetAt c e) (lengthAt c e) (c .tails)
+
+-- the table: gaps between spans are in no tail, and a line of the struck mark yields nothing
+abbrev pub hypergraph : Columns → Hypergraph
+hypergraph c = record { vertices = c .vertices; edges = length (c .heads); head = headAt c; tail = tailAt c; live = λ e. not (isStruck (ownAt c e)) }

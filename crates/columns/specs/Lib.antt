@@ -1,0 +1,3 @@
+pub mod Columns
+pub mod Acceptance
+pub mod Accepted

@@ -1,0 +1,1 @@
+// What the lent columns mean: definitions and their laws, in specs/.
