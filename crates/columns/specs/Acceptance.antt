@@ -65,7 +65,7 @@ unfoldable pub acceptance : Columns → Answer
 acceptance c =
     test (leb (c .vertices) mostVertices) TooManyVertices
     (test (eqb (length (c .own)) (length (c .heads))) Lengths
-    (test (eqb (length (c .spans)) (2 * length (c .heads))) Lengths
     (test (leb (length (c .heads)) mostEdges) Lengths
+    (test (eqb (length (c .spans)) (2 * length (c .heads))) Lengths
     (test (leb (length (c .tails)) mostListed) Lengths
     (edgesAcceptance c (length (c .heads)) 0 0)))))

@@ -86,8 +86,8 @@ edges-accepted c (suc left) e end p x h l =
 pub record AcceptedTable (c : Columns) : Type 0 where
   pub few : c .vertices ≤ mostVertices
   pub own : length (c .own) ≡ length (c .heads)
-  pub spans : length (c .spans) ≡ 2 * length (c .heads)
   pub edges : length (c .heads) ≤ mostEdges
+  pub spans : length (c .spans) ≡ 2 * length (c .heads)
   pub tails : length (c .tails) ≤ mostListed
   pub each : (e : ℕ) → e < length (c .heads) → AcceptedAt c e
 
@@ -102,8 +102,8 @@ table-accepted c p =
     record {
       few = leb-true _ _ (t1 .0);
       own = eqb-true _ _ (t2 .0);
-      spans = eqb-true _ _ (t3 .0);
-      edges = leb-true _ _ (t4 .0);
+      edges = leb-true _ _ (t3 .0);
+      spans = eqb-true _ _ (t4 .0);
       tails = leb-true _ _ (t5 .0);
       each = λ e h. edges-accepted c (length (c .heads)) 0 0 (t5 .1) e (omega arith) (omega arith);
     }

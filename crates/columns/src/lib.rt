@@ -1,1 +1,123 @@
-// What the lent columns mean: definitions and their laws, in specs/.
+// The check of a table that is lent as columns of numbers, which may have any lengths and hold any
+// numbers. Hyperedge e has the head heads[e], the own weight own[e], and the tail of
+// spans[2 * e + 1] vertices that starts at spans[2 * e] in tails.
+use refusal::Answer;
+use refusal::Refusal;
+use weights::Hyperedge;
+use weights::Vertex;
+use weights::Weight;
+ghost use mathlib.Core.Path.{_≡_};
+ghost use Rattle.columns.specs.Columns.{columns};
+ghost use Rattle.columns.specs.Acceptance.{allBelow, edgeAcceptance, acceptance};
+
+// The greatest numbers of vertices, of hyperedges, of listed vertices in all and of one hyperedge.
+pub const MOST_VERTICES: u64 = 1024;
+
+pub const MOST_EDGES: usize = 4096;
+
+pub const MOST_LISTED: usize = 16384;
+
+pub const LONGEST_TAIL: u64 = 16;
+
+// Whether each number of a list is below n.
+pub fn all_below(n: u64, list: &[u64]) -> bool
+    ensures { λ r. ⌜ r ≡ allBelow n (now (list .entry)) ⌝ }
+{
+    let mut k = 0;
+    while k < list.len() {
+        if list[k] >= n {
+            return false;
+        }
+        k += 1;
+    }
+    true
+}
+
+// What is wrong with hyperedge e, whose tail is `size` vertices from `offset` on, where the tail
+// before it ends at `end`. `offset + size` could wrap, so it is not computed before it is known to
+// be within the column.
+fn check_edge(
+    n: u64,
+    e: Hyperedge,
+    head: Vertex,
+    own: Weight,
+    offset: u64,
+    size: u64,
+    end: u64,
+    tails: &[u64],
+) -> Answer
+    ensures { λ r. ⌜ r ≡ edgeAcceptance n e (head .0) (own .0) offset size end (now (tails .entry)) ⌝ }
+{
+    if head.0 >= n {
+        return Answer::Refused(Refusal::Head(e));
+    }
+    if own.0 > Weight::STRUCK.0 {
+        return Answer::Refused(Refusal::Own(e));
+    }
+    if offset < end {
+        return Answer::Refused(Refusal::Span(e));
+    }
+    if size > LONGEST_TAIL {
+        return Answer::Refused(Refusal::Span(e));
+    }
+    let all = tails.len() as u64;
+    if offset > all {
+        return Answer::Refused(Refusal::Span(e));
+    }
+    if size > all - offset {
+        return Answer::Refused(Refusal::Span(e));
+    }
+    let from = offset as usize;
+    let to = from + size as usize;
+    if all_below(n, &tails[from..to]) {
+        Answer::Accepted
+    } else {
+        Answer::Refused(Refusal::Tail(e))
+    }
+}
+
+// Whether the table of n vertices is accepted, or the first refusal.
+pub fn check_table(n: u64, heads: &[u64], own: &[u64], spans: &[u64], tails: &[u64]) -> Answer
+    ensures { λ r. ⌜ r ≡ acceptance (columns n (now (heads .entry)) (now (own .entry)) (now (spans .entry)) (now (tails .entry))) ⌝ }
+{
+    if n > MOST_VERTICES {
+        return Answer::Refused(Refusal::TooManyVertices);
+    }
+    if own.len() != heads.len() {
+        return Answer::Refused(Refusal::Lengths);
+    }
+    if heads.len() > MOST_EDGES {
+        return Answer::Refused(Refusal::Lengths);
+    }
+    if spans.len() != 2 * heads.len() {
+        return Answer::Refused(Refusal::Lengths);
+    }
+    if tails.len() > MOST_LISTED {
+        return Answer::Refused(Refusal::Lengths);
+    }
+    let mut end: u64 = 0;
+    let mut i = 0;
+    while i < heads.len() {
+        let head = Vertex(heads[i]);
+        let weight = Weight(own[i]);
+        let offset = spans[2 * i];
+        let size = spans[2 * i + 1];
+        let a = check_edge(
+            n,
+            Hyperedge(i as u64),
+            head,
+            weight,
+            offset,
+            size,
+            end,
+            tails,
+        );
+        match a {
+            Answer::Refused(r) => return Answer::Refused(r),
+            Answer::Accepted => {}
+        }
+        end = offset + size;
+        i += 1;
+    }
+    Answer::Accepted
+}

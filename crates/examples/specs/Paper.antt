@@ -8,7 +8,7 @@ use Rattle.weights.specs.declared.State.the-variants.{Made, Over, Unmade}
 use Rattle.weights.specs.Figures.{struck}
 use Rattle.weights.specs.Measures.{fold, weigh}
 use Rattle.weights.specs.Labels.{aheadOf}
-use Rattle.provenance.specs.Labelling.{allMade, tail-weights, deepest, offerOf}
+use Rattle.provenance.specs.Labelling.{each, greatest, noneZero, offerOf}
 use Rattle.provenance.specs.BestFirst.{opening, next, turn, turns, best-first}
 use Rattle.provenance.specs.Support.{bills, bill}
 use Rattle.provenance.specs.Counting.{count}
@@ -127,5 +127,5 @@ cases =
     ∷ []
 
 pub every-case-passes : allPass cases ≡ true
-unfolding cases allPass passes comesOut equal statesAre billsAre risesAre acceptance edgesAcceptance edgeAcceptance allBelow best-first turns turn next opening offerOf allMade aheadOf weigh fold tail-weights deepest bill bills count
+unfolding cases allPass passes comesOut equal statesAre billsAre risesAre acceptance edgesAcceptance edgeAcceptance allBelow best-first turns turn next opening offerOf noneZero aheadOf weigh fold each greatest bill bills count
 every-case-passes = refl

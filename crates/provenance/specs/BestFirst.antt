@@ -17,8 +17,8 @@ use Rattle.weights.specs.Measures.{Algebra}
 use Rattle.weights.specs.Labels.{pick, label, aheadOf}
 use Rattle.weights.specs.Laws.{Lawful}
 use Rattle.weights.specs.Order.{Ahead, ahead-refl, ahead-trans, Ranked, ahead, behind, ranked}
-use Rattle.provenance.specs.Hypergraph.{Hypergraph, Stands}
-use Rattle.provenance.specs.Labelling.{Made, AllMade, allMade, yield, offerOf, Ready, candidate}
+use Rattle.provenance.specs.Hypergraph.{Hypergraph}
+use Rattle.provenance.specs.Labelling.{Made, AllMade, weightIn, depthIn, noneZero, offerOf, Ready, candidate}
 
 -- the three answer columns: figure, depth and line of each part
 pub record Answers : Type 0 where
@@ -46,17 +46,17 @@ earlier A (Found a) (Found b) = pick (aheadOf A a b) (Found a) (Found b)
 
 module _ (A : Algebra) (H : Hypergraph) (own : ℕ → ℕ) where
   -- the candidate of hyperedge e, where it is ready
-  abbrev pub offer : (ℕ → Label) → ℕ → Offer
-  offer ls e = offerOf A (H .live e) (own e) (H .tail e) ls e
+  abbrev pub offer : (weight depth : ℕ → ℕ) → ℕ → Offer
+  offer w d e = offerOf A (H .live e) (own e) (H .tail e) w d e
 
   -- the same, where its head is unmade
-  unfoldable pub opening : (ℕ → Label) → ℕ → Offer
-  opening ls e = pick (eqb (ls (H .head e) .depth) 0) (offer ls e) Nothing
+  unfoldable pub opening : (weight depth : ℕ → ℕ) → ℕ → Offer
+  opening w d e = pick (eqb (d (H .head e)) 0) (offer w d e) Nothing
 
   -- the first of those of the hyperedges below k
-  unfoldable pub next : (ℕ → Label) → ℕ → Offer
-  next ls zero = Nothing
-  next ls (suc k) = earlier A (next ls k) (opening ls k)
+  unfoldable pub next : (weight depth : ℕ → ℕ) → ℕ → Offer
+  next w d zero = Nothing
+  next w d (suc k) = earlier A (next w d k) (opening w d k)
 
   -- a turn of the algorithm's loop
   abbrev pub place : Answers → Offer → Answers
@@ -64,7 +64,7 @@ module _ (A : Algebra) (H : Hypergraph) (own : ℕ → ℕ) where
   place a (Found l) = put a (H .head (l .edge .0)) l
 
   unfoldable pub turn : Answers → Answers
-  turn a = place a (next (labels a) (H .edges))
+  turn a = place a (next (weightIn (labels a)) (depthIn (labels a)) (H .edges))
 
   unfoldable pub turns : ℕ → Answers
   turns zero = blank (H .vertices)
@@ -93,10 +93,10 @@ data Tested (ls : ℕ → Label) (vs : List ℕ) : Bool → Type 0 where
 pub not-zero : {n : ℕ} → eqb n 0 ≡ false → 0 < n
 not-zero {n} e = let k : ¬ (n ≡ 0) = eqb-false n 0 e in omega arith
 
-tested : (ls : ℕ → Label) (vs : List ℕ) → Tested ls vs (allMade ls vs)
-unfolding allMade
+tested : (ls : ℕ → Label) (vs : List ℕ) → Tested ls vs (noneZero (depthIn ls) vs)
+unfolding noneZero
 tested ls [] = all AllMade.none
-tested ls (v ∷ vs) = go (eqb (ls v .depth) 0) (allMade ls vs) refl (tested ls vs)
+tested ls (v ∷ vs) = go (eqb (ls v .depth) 0) (noneZero (depthIn ls) vs) refl (tested ls vs)
   where
     go : (p q : Bool) → eqb (ls v .depth) 0 ≡ p → Tested ls vs q → Tested ls (v ∷ vs) (pick p false q)
     go true q e i = some (λ x. omega (arith, eqb-true (ls v .depth) 0 e, made-head x .deep))
@@ -109,9 +109,9 @@ module _ (A : Algebra) (H : Hypergraph) (own : ℕ → ℕ) (ls : ℕ → Label)
     given : Ready H ls e → Offered e (Found (candidate A H own ls e))
     refused : ¬ Ready H ls e → Offered e Nothing
 
-  pub offered : (e : ℕ) → e < H .edges → Offered e (offer A H own ls e)
+  pub offered : (e : ℕ) → e < H .edges → Offered e (offer A H own (weightIn ls) (depthIn ls) e)
   unfolding offerOf
-  offered e h = go (H .live e) (allMade ls (H .tail e)) refl (tested ls (H .tail e))
+  offered e h = go (H .live e) (noneZero (depthIn ls) (H .tail e)) refl (tested ls (H .tail e))
     where
       go : (p q : Bool) → H .live e ≡ p → Tested ls (H .tail e) q → Offered e (pick p (pick q (Found (candidate A H own ls e)) Nothing) Nothing)
       go false q p i = refused (λ r. let z : _≡_ {A = ℕ} 0 1 = let y = r .stands .unstruck in cc in omega arith)
@@ -122,9 +122,9 @@ module _ (A : Algebra) (H : Hypergraph) (own : ℕ → ℕ) (ls : ℕ → Label)
     given : Open H ls e → Opened e (Found (candidate A H own ls e))
     refused : ¬ Open H ls e → Opened e Nothing
 
-  opened : (e : ℕ) → e < H .edges → Opened e (opening A H own ls e)
+  opened : (e : ℕ) → e < H .edges → Opened e (opening A H own (weightIn ls) (depthIn ls) e)
   unfolding opening
-  opened e h = go (eqb (ls (H .head e) .depth) 0) (offer A H own ls e) refl (offered e h)
+  opened e h = go (eqb (ls (H .head e) .depth) 0) (offer A H own (weightIn ls) (depthIn ls) e) refl (offered e h)
     where
       go : (p : Bool) (o : Offer) → eqb (ls (H .head e) .depth) 0 ≡ p → Offered e o → Opened e (pick p o Nothing)
       go true o p (Offered.given r) = Opened.given (record { ready = r; fresh = eqb-true _ _ p })
@@ -154,7 +154,7 @@ module _ (A : Algebra) (H : Hypergraph) (own : ℕ → ℕ) (ls : ℕ → Label)
         go true (ahead p) = found e o (below k a (λ _. p))
         go false (behind n p) = found k o′ (below k (λ e′ h q. ahead-trans L p (a e′ h q)) (λ _. ahead-refl L))
 
-    pub next-is : (k : ℕ) → k ≤ H .edges → Next k (next A H own ls k)
+    pub next-is : (k : ℕ) → k ≤ H .edges → Next k (next A H own (weightIn ls) (depthIn ls) k)
     unfolding next
     next-is zero h = stuck (λ e k. absurd (omega arith))
     next-is (suc k) h = extend k (next-is k (omega arith)) (opened k h)

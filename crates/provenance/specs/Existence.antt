@@ -16,7 +16,7 @@ use Rattle.weights.specs.Laws.{Lawful}
 use Rattle.weights.specs.Weighing.{superior, weigh-within}
 use Rattle.weights.specs.Order.{Ahead, ahead-refl, ahead-trans}
 use Rattle.provenance.specs.Hypergraph.{Hypergraph, Stands, WellFormed}
-use Rattle.provenance.specs.Labelling.{Made, AllMade, tail-weights, deepest, Ready, candidate, Chosen, Fixpoint}
+use Rattle.provenance.specs.Labelling.{Made, AllMade, each, greatest, tail-weights, deepest, Ready, candidate, Chosen, Fixpoint}
 use Rattle.provenance.specs.Meaning.{unique}
 use Rattle.provenance.specs.BestFirst.{Open, Next, stuck, found, next, next-is, Answers, labels, put, blank, place, turn, turns, best-first}
 
@@ -30,7 +30,7 @@ record Kept (f g : ℕ → Label) (vs : List ℕ) : Type 0 where
   depth : deepest g vs ≡ deepest f vs
 
 kept : {f g : ℕ → Label} → Keeps f g → {vs : List ℕ} → AllMade f vs → Kept f g vs
-unfolding tail-weights deepest
+unfolding each greatest
 kept k AllMade.none = record { made = AllMade.none; weight = refl; depth = refl }
 kept {f} {g} k (AllMade.more {v = v} a b) =
     let r = kept k b in
@@ -38,12 +38,12 @@ kept {f} {g} k (AllMade.more {v = v} a b) =
     record { made = AllMade.more {v = v} (rw e a) (r .made); weight = cc; depth = cc }
 
 mem-tail-weights : (g : ℕ → Label) {v : ℕ} {vs : List ℕ} → List·Memᴰ v vs → List·Memᴰ (g v .weight .0) (tail-weights g vs)
-unfolding tail-weights
+unfolding each
 mem-tail-weights g (List·Memᴰ·head e) = List·Memᴰ·head (ap (λ x. g x .weight .0) e)
 mem-tail-weights g (List·Memᴰ·tail i) = List·Memᴰ·tail (mem-tail-weights g i)
 
 mem-depth : (g : ℕ → Label) {v : ℕ} {vs : List ℕ} → List·Memᴰ v vs → g v .depth ≤ deepest g vs
-unfolding deepest
+unfolding greatest
 mem-depth g (List·Memᴰ·head e) = omega (arith, ap (λ x. g x .depth) e)
 mem-depth g (List·Memᴰ·tail i) = omega (arith, mem-depth g i)
 
@@ -185,7 +185,7 @@ at-blank : (n v : ℕ) → labels (blank n) v ≡ unmade
 at-blank n v = λ i. record { weight = record { 0 = zeros n v i }; depth = zeros n v i; edge = record { 0 = zeros n v i } }
 
 deepest-le : (f : ℕ → Label) {k : ℕ} → ((v : ℕ) → f v .depth ≤ k) → (vs : List ℕ) → deepest f vs ≤ k
-unfolding deepest
+unfolding greatest
 deepest-le f h [] = omega arith
 deepest-le f h (v ∷ vs) = omega (arith, h v, deepest-le f h vs)
 

@@ -21,27 +21,39 @@ pub data AllMade (ls : ℕ → Label) : List ℕ → Type 0 where
   none : AllMade ls []
   more : {v : ℕ} {vs : List ℕ} → Made (ls v) → AllMade ls vs → AllMade ls (v ∷ vs)
 
--- the same as a test
-unfoldable pub allMade : (ℕ → Label) → List ℕ → Bool
-allMade ls [] = true
-allMade ls (v ∷ vs) = pick (eqb (ls v .depth) 0) false (allMade ls vs)
+-- a labelling's weights and depths
+abbrev pub weightIn : (ℕ → Label) → ℕ → ℕ
+weightIn ls v = ls v .weight .0
 
--- the weights of a tail, a vertex listed twice counted twice, and its greatest depth
-unfoldable pub tail-weights : (ℕ → Label) → List ℕ → List ℕ
-tail-weights ls [] = []
-tail-weights ls (v ∷ vs) = ls v .weight .0 ∷ tail-weights ls vs
+abbrev pub depthIn : (ℕ → Label) → ℕ → ℕ
+depthIn ls v = ls v .depth
 
-unfoldable pub deepest : (ℕ → Label) → List ℕ → ℕ
-deepest ls [] = 0
-deepest ls (v ∷ vs) = max (ls v .depth) (deepest ls vs)
+-- of a tail: the weights, a vertex listed twice counted twice; the greatest depth; and whether every vertex is made
+unfoldable pub each : (weight : ℕ → ℕ) → List ℕ → List ℕ
+each w [] = []
+each w (v ∷ vs) = w v ∷ each w vs
+
+unfoldable pub greatest : (depth : ℕ → ℕ) → List ℕ → ℕ
+greatest d [] = 0
+greatest d (v ∷ vs) = max (d v) (greatest d vs)
+
+unfoldable pub noneZero : (depth : ℕ → ℕ) → List ℕ → Bool
+noneZero d [] = true
+noneZero d (v ∷ vs) = pick (eqb (d v) 0) false (noneZero d vs)
+
+abbrev pub tail-weights : (ℕ → Label) → List ℕ → List ℕ
+tail-weights ls = each (weightIn ls)
+
+abbrev pub deepest : (ℕ → Label) → List ℕ → ℕ
+deepest ls = greatest (depthIn ls)
 
 -- what hyperedge e of this own weight and tail gives: its depth is above those of its tail, so hyperedges in a circle can't support one another
-abbrev pub yield : Algebra → (own : ℕ) → List ℕ → (ℕ → Label) → ℕ → Label
-yield A own tail ls e = label (weigh A own (tail-weights ls tail)) (deepest ls tail + 1) e
+abbrev pub yield : Algebra → (own : ℕ) → List ℕ → (weight depth : ℕ → ℕ) → ℕ → Label
+yield A own tail w d e = label (weigh A own (each w tail)) (greatest d tail + 1) e
 
 -- the same, unless it is struck or a vertex of its tail is unmade
-unfoldable pub offerOf : Algebra → (live : Bool) (own : ℕ) → List ℕ → (ℕ → Label) → ℕ → Offer
-offerOf A live own tail ls e = pick live (pick (allMade ls tail) (Found (yield A own tail ls e)) Nothing) Nothing
+unfoldable pub offerOf : Algebra → (live : Bool) (own : ℕ) → List ℕ → (weight depth : ℕ → ℕ) → ℕ → Offer
+offerOf A live own tail w d e = pick live (pick (noneZero d tail) (Found (yield A own tail w d e)) Nothing) Nothing
 
 -- e is unstruck, and every vertex of its tail is made
 pub record Ready (H : Hypergraph) (ls : ℕ → Label) (e : ℕ) : Type 0 where
@@ -51,7 +63,7 @@ pub record Ready (H : Hypergraph) (ls : ℕ → Label) (e : ℕ) : Type 0 where
 module _ (A : Algebra) (H : Hypergraph) (own : ℕ → ℕ) where
   -- what e gives from the labels of its tail
   abbrev pub candidate : (ℕ → Label) → ℕ → Label
-  candidate ls e = yield A (own e) (H .tail e) ls e
+  candidate ls e = yield A (own e) (H .tail e) (weightIn ls) (depthIn ls) e
 
   -- the label of v is what e gives
   pub record Chosen (ls : ℕ → Label) (v e : ℕ) : Type 0 where

@@ -8,7 +8,7 @@ use Rattle.weights.specs.Measures.{Algebra}
 use Rattle.weights.specs.Laws.{NoWorse, Lawful}
 use Rattle.weights.specs.Weighing.{Pointwise, weigh-mono}
 use Rattle.provenance.specs.Hypergraph.{Hypergraph, Stands, Derivation, Derivations, node, none, more, weight, weights}
-use Rattle.provenance.specs.Labelling.{Made, AllMade, tail-weights, Ready, Fixpoint}
+use Rattle.provenance.specs.Labelling.{Made, AllMade, each, tail-weights, Ready, Fixpoint}
 
 module _ (A : Algebra) {H : Hypergraph} (own : ℕ → ℕ) (ls : ℕ → Label) where
   -- v is made, and its label is no worse than d
@@ -28,7 +28,7 @@ module _ {A : Algebra} {H : Hypergraph} {own : ℕ → ℕ} {ls : ℕ → Label}
       record { made = rw h at (fix .made e r); low = rw (← h) (L .ordered .transitive (fix .ahead e r .weight) (weigh-mono L (L .ordered .reflexive) (b .low))) }
 
   mutual
-    unfolding weights tail-weights
+    unfolding weights each
 
     pub bound : {v : ℕ} (d : Derivation H v) → Bound A own ls d
     bound (node e s h ds) = node-bound e s h ds (bounds ds)

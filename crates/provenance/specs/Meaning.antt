@@ -12,7 +12,7 @@ use Rattle.weights.specs.Weighing.{no-worse-eq}
 use Rattle.weights.specs.Order.{Ahead}
 use Rattle.provenance.specs.Hypergraph.{Hypergraph, Stands, Derivation, Derivations, node, none, more, weight, weights, Best, Thrifty, AllThrifty, depth, root}
 use Rattle.provenance.specs.Hypergraph
-use Rattle.provenance.specs.Labelling.{tail-weights, deepest, candidate, Fixpoint}
+use Rattle.provenance.specs.Labelling.{each, greatest, tail-weights, deepest, candidate, Fixpoint}
 use Rattle.provenance.specs.Means.{Derivable, Means, underivable, derivable}
 use Rattle.provenance.specs.LowerBound.{bound, bounds}
 use Rattle.provenance.specs.Support.{follows-root, chosen, supports}
@@ -45,7 +45,7 @@ module _ {A : Algebra} {H : Hypergraph} {own : ℕ → ℕ} {ls : ℕ → Label}
       record { weighs = w; shallow = omega (arith, a .depth q, n .shallow); first = λ k. a .edge q (omega (arith, n .shallow)) }
 
   mutual
-    unfolding weight tail-weights Hypergraph.deepest deepest Thrifty
+    unfolding weight each Hypergraph.deepest greatest Thrifty
 
     near : {v : ℕ} (d : Derivation H v) → Thrifty A own d → Near A own ls d
     near (node e s h ds) t = node-near e s h ds (t .0) (all-near ds (t .1))

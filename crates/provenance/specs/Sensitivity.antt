@@ -12,7 +12,7 @@ use Rattle.weights.specs.Measures.{Algebra, cost, days, fold, weigh}
 use Rattle.weights.specs.Laws.{NoWorse, Lawful, least, at-most, cost-lawful, days-lawful}
 use Rattle.weights.specs.Weighing.{no-worse-eq, Pointwise, weigh-mono}
 use Rattle.provenance.specs.Hypergraph.{Hypergraph, Derivation, Derivations, node, none, more, weight, weights, listing, listings}
-use Rattle.provenance.specs.Labelling.{Made, Fixpoint}
+use Rattle.provenance.specs.Labelling.{Made, greatest, Fixpoint}
 use Rattle.provenance.specs.Means.{Follows}
 use Rattle.provenance.specs.LowerBound.{bound}
 use Rattle.provenance.specs.Support.{chosen, supports}
@@ -125,11 +125,7 @@ module _ {A : Algebra} (L : Lawful A) {H : Hypergraph} (own own′ : ℕ → ℕ
       L .ordered .transitive (bound L fix (t .tree) .low) (L .ordered .transitive (weight-mono (t .tree)) (no-worse-eq L (supports L fix′ (t .tree) (t .follows) .weighs)))
 
 -- in days no weight rises by more than d
-unfoldable greatest : List ℕ → ℕ
-greatest [] = 0
-greatest (x ∷ xs) = max x (greatest xs)
-
-fold-greatest : (a : ℕ) (xs : List ℕ) → fold max a xs ≡ max a (greatest xs)
+fold-greatest : (a : ℕ) (xs : List ℕ) → fold max a xs ≡ max a (greatest (λ x. x) xs)
 unfolding fold greatest
 fold-greatest a [] = omega arith
 fold-greatest a (x ∷ xs) = omega (arith, fold-greatest (max a x) xs)
@@ -141,7 +137,7 @@ module _ {H : Hypergraph} {own own′ : ℕ → ℕ} {e d : ℕ} (r : Raised own
     days-most : {v : ℕ} (t : Derivation H v) → weight days own′ t ≤ weight days own t + d
     days-most (node e s h ds) = omega (arith, raised-most r e, fold-greatest 0 (weights days own ds), fold-greatest 0 (weights days own′ ds), all-days-most ds)
 
-    all-days-most : {vs : List ℕ} (ds : Derivations H vs) → greatest (weights days own′ ds) ≤ greatest (weights days own ds) + d
+    all-days-most : {vs : List ℕ} (ds : Derivations H vs) → greatest (λ x. x) (weights days own′ ds) ≤ greatest (λ x. x) (weights days own ds) + d
     all-days-most none = omega arith
     all-days-most (more t ds) = omega (arith, days-most t, all-days-most ds)
 

@@ -11,7 +11,7 @@ use Rattle.weights.specs.Laws.{Lawful}
 use Rattle.weights.specs.Weighing.{no-worse-eq}
 use Rattle.provenance.specs.Hypergraph.{Hypergraph, Stands, Derivation, Derivations, node, none, more, weight, weights, Best, Thrifty, AllThrifty, depth, root, listing, listings}
 use Rattle.provenance.specs.Hypergraph
-use Rattle.provenance.specs.Labelling.{Made, AllMade, tail-weights, deepest, candidate, Fixpoint}
+use Rattle.provenance.specs.Labelling.{Made, AllMade, each, greatest, tail-weights, deepest, candidate, Fixpoint}
 use Rattle.provenance.specs.Means.{Follows, AllFollow}
 use Rattle.provenance.specs.LowerBound.{bound}
 
@@ -35,7 +35,7 @@ module _ {H : Hypergraph} (ls : ℕ → Label) where
   follows-root (node e s h ds) f = sym (f .0)
 
   mutual
-    unfolding Follows listing bills depth deepest Hypergraph.deepest
+    unfolding Follows listing bills depth Hypergraph.deepest
 
     -- the listing of the chosen make-up is the bill
     pub follows-bill : {v : ℕ} (d : Derivation H v) → Follows ls d → (fuel : ℕ) → depth d ≤ fuel → listing d ≡ bill H ls fuel v
@@ -68,7 +68,7 @@ module _ (H : Hypergraph) (ls : ℕ → Label) where
     pub follows : Follows ls tree
 
   grow : {k : ℕ} → ((v : ℕ) → Made (ls v) → ls v .depth ≤ k → ChosenDerivation v) → {vs : List ℕ} → AllMade ls vs → deepest ls vs ≤ k → Grown vs
-  unfolding deepest AllFollow
+  unfolding greatest AllFollow
   grow f AllMade.none h = record { trees = none; follow = tt }
   grow f (AllMade.more {v = v} a bs) h =
       let t = f v a (omega arith) in
@@ -98,7 +98,7 @@ module _ {A : Algebra} {H : Hypergraph} {own : ℕ → ℕ} {ls : ℕ → Label}
       record { weighs = w; deep = cc; thrifty = ((λ d′. L .ordered .transitive (no-worse-eq L w) (bound L fix d′ .low)), fs .thrifty) }
 
   mutual
-    unfolding weight tail-weights Hypergraph.deepest deepest Follows Thrifty
+    unfolding weight each Hypergraph.deepest greatest Follows Thrifty
 
     pub supports : {v : ℕ} (d : Derivation H v) → Follows ls d → Supports A own ls d
     supports (node e s h ds) f = node-supports e s h ds (f .0) (all-support ds (f .1))

@@ -1,0 +1,49 @@
+-- The laws of the definitions of specs/ by which the loops go. Assumes nothing.
+use mathlib.Core.Path.{_≡_}
+use mathlib.Core.List.{List, [], _∷_}
+use mathlib.Core.Bool.{true, false}
+use Prim.Native.Nat.{ℕ, suc, _+_, _-_, _≤_, _<_}
+use native.Mathlib.Numerals.{add-one}
+use native.Mathlib.Nat.{sub-eq-zero-of-le}
+use native.Mathlib.Omega.{arith}
+use lib.ListN.{length, getD, drop, drop-of-length-le}
+use lib.Seq.{drop-cons}
+use borrow.Author.Tests.{lt-ltb, le-ltb, le-leb, lt-leb, eq-eqb, ne-eqb}
+use Rattle.refusal.specs.declared.Refusal.{Refusal}
+use Rattle.refusal.specs.declared.Answer.the-variants.{Accepted, Refused}
+use Rattle.columns.specs.Columns.{Columns, offsetAt, lengthAt}
+use Rattle.columns.specs.Acceptance.{allBelow, edgeAt, edgesAcceptance}
+
+-- a test of a definition, from the fact that a branch gives: `search tests` at a return
+pub ruleset tests = (lt-ltb, le-ltb, le-leb, lt-leb, eq-eqb, ne-eqb)
+
+-- of a list from place i on: one number more that is below n, one that is not, and none left
+module _ (n : ℕ) (xs : List ℕ) (i : ℕ) where
+  pub below-more : i < length xs → getD xs i 0 < n → allBelow n (drop (i + 1) xs) ≡ allBelow n (drop i xs)
+  unfolding allBelow
+  below-more h l = rw (add-one, drop-cons xs i 0 h, lt-ltb _ _ l)
+
+  pub below-stop : i < length xs → n ≤ getD xs i 0 → false ≡ allBelow n (drop i xs)
+  unfolding allBelow
+  below-stop h l = rw (drop-cons xs i 0 h, le-ltb _ _ l)
+
+  pub below-end : length xs ≤ i → true ≡ allBelow n (drop i xs)
+  unfolding allBelow
+  below-end h = rw (drop-of-length-le xs h)
+
+-- of the m hyperedges from e on: one is passed, one is refused, and none is left
+module _ (c : Columns) (m e end : ℕ) where
+  one-more : e < m → m - e ≡ suc (m - (e + 1))
+  one-more h = omega arith
+
+  pub edges-step : e < m → edgeAt c e end ≡ Accepted → edgesAcceptance c (m - (e + 1)) (e + 1) (offsetAt c e + lengthAt c e) ≡ edgesAcceptance c (m - e) e end
+  unfolding edgesAcceptance
+  edges-step h p = rw (one-more h, p)
+
+  pub edges-stop : (r : Refusal) → e < m → edgeAt c e end ≡ Refused r → Refused r ≡ edgesAcceptance c (m - e) e end
+  unfolding edgesAcceptance
+  edges-stop r h p = rw (one-more h, p)
+
+  pub edges-end : m ≤ e → Accepted ≡ edgesAcceptance c (m - e) e end
+  unfolding edgesAcceptance
+  edges-end h = rw (sub-eq-zero-of-le h)

@@ -1,0 +1,101 @@
+-- `columns::check_edge` meets its contract: at each `return` the tests that led there say which test of `edgeAcceptance` is the first to fail. Assumes nothing.
+use mathlib.Core.Path.{_≡_, sym, _∙_, ap}
+use Prim.Native.Nat.{ℕ, _+_, _-_, _≤_, _<_}
+use native.Mathlib.Omega.{arith}
+use borrow.Author.Needs.{needs}
+use lib.ListN.{length}
+use Rattle.columns.specs.Columns.{part}
+use Rattle.columns.specs.Acceptance.{edgeAcceptance, allBelow}
+use Rattle.columns.proofs.Laws.{tests}
+use Rattle.columns.proofs.check_edge.Statement.{statement}
+use Rattle.columns.proofs.check_edge.Tie as tie
+
+returns : tie.Need-returns
+unfolding edgeAcceptance
+returns c = search tests
+
+returns-2 : tie.Need-returns-2
+unfolding edgeAcceptance
+returns-2 c = search tests
+
+returns-3 : tie.Need-returns-3
+unfolding edgeAcceptance
+returns-3 c = search tests
+
+returns-4 : tie.Need-returns-4
+unfolding edgeAcceptance
+returns-4 c = search tests
+
+returns-5 : tie.Need-returns-5
+unfolding edgeAcceptance
+returns-5 c =
+    let a = c .before .before .before .before .before .before .before .before .before .args in
+    let h : length (a .tails .now) < a .offset + a .size = omega arith in
+    search tests
+
+returns-6 : tie.Need-returns-6
+unfolding edgeAcceptance
+returns-6 c =
+    let a = c .before .before .before .before .before .before .before .before .before .before .args in
+    let h : length (a .tails .now) < a .offset + a .size = omega arith in
+    search tests
+
+add-to : tie.Need-add-to
+add-to c = search needs
+
+mul-all-below : tie.Need-mul-all-below
+mul-all-below c = search needs
+
+sub-all-below : tie.Need-sub-all-below
+sub-all-below c = search needs
+
+part-all-below-start : tie.Need-part-all-below-start
+part-all-below-start c = search needs
+
+part-all-below-end : tie.Need-part-all-below-end
+part-all-below-end c = search needs
+
+all-below-requires : tie.Need-all-below-requires
+all-below-requires c κs = search needs
+
+-- the part that is lent is the hyperedge's tail
+tail-is : (c : tie.After-all-below) → let a = c .before .before .before .before .before .before .before .before .before .before .before .before .args in c .all-below .result ≡ allBelow (a .n) (part (a .offset) (a .size) (a .tails .now))
+tail-is c =
+    let a = c .before .before .before .before .before .before .before .before .before .before .before .before .args in
+    let e : a .offset + a .size - a .offset ≡ a .size = omega arith in
+    c .all-below .ensures ∙ ap (λ (k : ℕ). allBelow (a .n) (part (a .offset) k (a .tails .now))) e
+
+returns-7 : tie.Need-returns-7
+unfolding edgeAcceptance
+returns-7 c =
+    let a = c .before .before .before .before .before .before .before .before .before .before .before .before .before .args in
+    let h : a .offset + a .size ≤ length (a .tails .now) = omega arith in
+    let t = sym (tail-is (c .before)) ∙ c .if7 .taken in
+    search (tests, t)
+
+returns-8 : tie.Need-returns-8
+unfolding edgeAcceptance
+returns-8 c =
+    let a = c .before .before .before .before .before .before .before .before .before .before .before .before .before .args in
+    let h : a .offset + a .size ≤ length (a .tails .now) = omega arith in
+    let t = sym (tail-is (c .before)) ∙ c .if7 .left in
+    search (tests, t)
+
+pub check-edge-spec : {M : Type 1} → statement M
+check-edge-spec =
+    tie.close
+    (tie.spec
+    returns
+    returns-2
+    returns-3
+    returns-4
+    returns-5
+    returns-6
+    add-to
+    mul-all-below
+    sub-all-below
+    part-all-below-start
+    part-all-below-end
+    all-below-requires
+    returns-7
+    returns-8)
