@@ -1,4 +1,5 @@
--- Which tables are accepted: the refusals 1 to 6, in the paper's order ("What is turned away"), as one function. Assumes nothing: these are definitions.
+-- Which tables and answer columns are accepted: the refusals 1 to 6, and then 7, in the paper's order ("What is turned away"). Assumes nothing: these are
+-- definitions.
 use Prim.Native.Nat.{ℕ, zero, suc, _+_, _*_}
 use mathlib.Core.Bool.{Bool, true, false}
 use mathlib.Core.List.{List, [], _∷_}
@@ -8,9 +9,10 @@ use Rattle.weights.specs.declared.Hyperedge.{Hyperedge}
 use Rattle.weights.specs.Figures.{struck}
 use Rattle.weights.specs.Labels.{pick}
 use Rattle.refusal.specs.declared.Refusal.{Refusal}
-use Rattle.refusal.specs.declared.Refusal.the-variants.{TooManyVertices, Lengths, Head, Own, Span, Tail}
+use Rattle.refusal.specs.declared.Refusal.the-variants.{TooManyVertices, Lengths, Head, Own, Span, Tail, AnswerLength}
 use Rattle.refusal.specs.declared.Answer.{Answer}
 use Rattle.refusal.specs.declared.Answer.the-variants.{Accepted, Refused}
+use Rattle.provenance.specs.BestFirst.{Answers}
 use Rattle.columns.specs.Columns.{Columns, headAt, ownAt, offsetAt, lengthAt, part}
 
 -- the greatest numbers of parts, of lines, of needed parts in all and of one line
@@ -69,3 +71,12 @@ acceptance c =
     (test (eqb (length (c .spans)) (2 * length (c .heads))) Lengths
     (test (leb (length (c .tails)) mostListed) Lengths
     (edgesAcceptance c (length (c .heads)) 0 0)))))
+
+-- the same with three answer columns, each exactly n long: 1 to 6, then 7
+unfoldable pub lentAcceptance : Columns → Answers → Answer
+lentAcceptance c a =
+    andThen (acceptance c)
+    (test (eqb (length (a .weights)) (c .vertices)) AnswerLength
+    (test (eqb (length (a .depths)) (c .vertices)) AnswerLength
+    (test (eqb (length (a .edges)) (c .vertices)) AnswerLength
+    Accepted)))

@@ -17,8 +17,10 @@ use Rattle.refusal.specs.declared.Refusal.{Refusal}
 use Rattle.refusal.specs.declared.Answer.{Answer}
 use Rattle.refusal.specs.declared.Answer.the-variants.{Accepted, Refused}
 use Rattle.provenance.specs.Hypergraph.{WellFormed}
+use Rattle.provenance.specs.BestFirst.{Answers}
+use Rattle.provenance.specs.Existence.{Sized}
 use Rattle.columns.specs.Columns.{Columns, headAt, ownAt, offsetAt, lengthAt, part, tailAt, hypergraph}
-use Rattle.columns.specs.Acceptance.{mostVertices, mostEdges, mostListed, longestTail, test, andThen, allBelow, edgeAcceptance, edgeAt, edgesAcceptance, acceptance}
+use Rattle.columns.specs.Acceptance.{mostVertices, mostEdges, mostListed, longestTail, test, andThen, allBelow, edgeAcceptance, edgeAt, edgesAcceptance, acceptance, lentAcceptance}
 
 pub refused : {r : Refusal} → Refused r ≡ Accepted → ⊥
 refused e = let z : _≡_ {A = ℕ} 0 1 = cc in omega arith
@@ -110,3 +112,17 @@ table-accepted c p =
 
 pub well-formed : (c : Columns) → acceptance c ≡ Accepted → WellFormed (hypergraph c)
 well-formed c p = record { heads = λ e h. table-accepted c p .each e h .1 .head }
+
+-- an accepted table with answer columns of its length
+pub record AcceptedColumns (c : Columns) (a : Answers) : Type 0 where
+  pub table : acceptance c ≡ Accepted
+  pub sized : Sized (c .vertices) a
+
+pub columns-accepted : (c : Columns) (a : Answers) → lentAcceptance c a ≡ Accepted → AcceptedColumns c a
+unfolding lentAcceptance
+columns-accepted c a p =
+    let t = both-accepted (acceptance c) _ p in
+    let t1 = test-passed _ _ _ (t .1) in
+    let t2 = test-passed _ _ _ (t1 .1) in
+    let t3 = test-passed _ _ _ (t2 .1) in
+    record { table = t .0; sized = record { weights = eqb-true _ _ (t1 .0); depths = eqb-true _ _ (t2 .0); edges = eqb-true _ _ (t3 .0) } }

@@ -7,8 +7,8 @@ use weights::Hyperedge;
 use weights::Vertex;
 use weights::Weight;
 ghost use mathlib.Core.Path.{_≡_};
-ghost use Rattle.columns.specs.Columns.{columns};
-ghost use Rattle.columns.specs.Acceptance.{allBelow, edgeAcceptance, acceptance};
+ghost use Rattle.columns.specs.Columns.{columns, answers};
+ghost use Rattle.columns.specs.Acceptance.{allBelow, edgeAcceptance, acceptance, lentAcceptance};
 
 // The greatest numbers of vertices, of hyperedges, of listed vertices in all and of one hyperedge.
 pub const MOST_VERTICES: u64 = 1024;
@@ -118,6 +118,36 @@ pub fn check_table(n: u64, heads: &[u64], own: &[u64], spans: &[u64], tails: &[u
         }
         end = offset + size;
         i += 1;
+    }
+    Answer::Accepted
+}
+
+// The same with three answer columns, each of which must be n long.
+pub fn check_lent(
+    n: u64,
+    heads: &[u64],
+    own: &[u64],
+    spans: &[u64],
+    tails: &[u64],
+    weights: &[u64],
+    depths: &[u64],
+    edges: &[u64],
+) -> Answer
+    ensures { λ r. ⌜ r ≡ lentAcceptance (columns n (now (heads .entry)) (now (own .entry)) (now (spans .entry)) (now (tails .entry))) (answers (now (weights .entry)) (now (depths .entry)) (now (edges .entry))) ⌝ }
+{
+    let a = check_table(n, heads, own, spans, tails);
+    match a {
+        Answer::Refused(r) => return Answer::Refused(r),
+        Answer::Accepted => {}
+    }
+    if weights.len() as u64 != n {
+        return Answer::Refused(Refusal::AnswerLength);
+    }
+    if depths.len() as u64 != n {
+        return Answer::Refused(Refusal::AnswerLength);
+    }
+    if edges.len() as u64 != n {
+        return Answer::Refused(Refusal::AnswerLength);
     }
     Answer::Accepted
 }
