@@ -9,10 +9,10 @@ use native.Mathlib.Nat.{eq-or-lt-of-le}
 use native.Mathlib.Omega.{arith}
 use lib.ListN.{length, getD}
 use lib.Dec.{ltb}
-use borrow.Author.Tests.{ltb-true, leb-true, eqb-true}
+use borrow.Author.Tests.{ltb-true, leb-true, eqb-true, lt-ltb}
 use Rattle.weights.specs.declared.Hyperedge.{Hyperedge}
 use Rattle.weights.specs.Figures.{struck}
-use Rattle.weights.specs.Labels.{pick}
+use Rattle.weights.specs.Choice.{both-true}
 use Rattle.refusal.specs.declared.Refusal.{Refusal}
 use Rattle.refusal.specs.declared.Answer.{Answer}
 use Rattle.refusal.specs.declared.Answer.the-variants.{Accepted, Refused}
@@ -33,15 +33,16 @@ pub both-accepted : (a b : Answer) → andThen a b ≡ Accepted → (a ≡ Accep
 both-accepted Accepted b e = (refl, e)
 both-accepted (Refused r) b e = absurd (refused e)
 
-both-true : (a b : Bool) → pick a b false ≡ true → (a ≡ true) × (b ≡ true)
-both-true true b e = (refl, e)
-both-true false b e = let z : false ≡ true = e in (z, (cc))
-
 pub below-at : (n : ℕ) (vs : List ℕ) → allBelow n vs ≡ true → (k : ℕ) → k < length vs → getD vs k 0 < n
 unfolding allBelow
 below-at n [] e k h = absurd (omega arith)
-below-at n (v ∷ vs) e zero h = ltb-true _ _ (both-true (ltb v n) (allBelow n vs) e .0)
-below-at n (v ∷ vs) e (suc k) h = below-at n vs (both-true (ltb v n) (allBelow n vs) e .1) k (omega arith)
+below-at n (v ∷ vs) e zero h = ltb-true _ _ (both-true {a = ltb v n} {b = allBelow n vs} e .0)
+below-at n (v ∷ vs) e (suc k) h = below-at n vs (both-true {a = ltb v n} {b = allBelow n vs} e .1) k (omega arith)
+
+pub below-all : (n : ℕ) (vs : List ℕ) → ((k : ℕ) → k < length vs → getD vs k 0 < n) → allBelow n vs ≡ true
+unfolding allBelow
+below-all n [] f = refl
+below-all n (v ∷ vs) f = rw (lt-ltb _ _ (f 0 (omega arith)), below-all n vs (λ k h. f (suc k) (omega arith)))
 
 -- a line that is accepted
 pub record AcceptedEdge (n h o offset size end : ℕ) (tails : List ℕ) : Type 0 where

@@ -1,3 +1,4 @@
 pub mod Columns
 pub mod Acceptance
 pub mod Accepted
+pub mod Same

@@ -9,7 +9,8 @@ use Rattle.weights.specs.declared.Measure.{Measure}
 use Rattle.weights.specs.declared.State.{State}
 use Rattle.weights.specs.declared.State.the-variants.{Made, Over, Unmade}
 use Rattle.weights.specs.Measures.{algebra}
-use Rattle.weights.specs.Labels.{pick, stateOf}
+use Rattle.weights.specs.Choice.{pick}
+use Rattle.weights.specs.Labels.{stateOf}
 use Rattle.refusal.specs.declared.Answer.{Answer}
 use Rattle.refusal.specs.declared.Answer.the-variants.{Accepted, Refused}
 use Rattle.provenance.specs.BestFirst.{Answers, labels, best-first}
@@ -17,6 +18,7 @@ use Rattle.provenance.specs.Support.{bill}
 use Rattle.provenance.specs.Counting.{count}
 use Rattle.columns.specs.Columns.{Columns, columns, ownAt, hypergraph}
 use Rattle.columns.specs.Acceptance.{acceptance}
+use Rattle.columns.specs.Same.{equal, same}
 
 -- nothing is changed, or the own figure of a line is
 pub data Change : Type 0 where
@@ -64,12 +66,6 @@ abbrev isAccepted : Answer → Bool
 isAccepted Accepted = true
 isAccepted (Refused r) = false
 
-unfoldable pub equal : List ℕ → List ℕ → Bool
-equal [] [] = true
-equal [] (y ∷ ys) = false
-equal (x ∷ xs) [] = false
-equal (x ∷ xs) (y ∷ ys) = pick (eqb x y) (equal xs ys) false
-
 abbrev sameState : State → State → Bool
 sameState Made Made = true
 sameState Made Over = false
@@ -113,12 +109,10 @@ unfoldable pub comesOut : Case → (c c′ : Columns) (a a′ : Answers) → Boo
 comesOut p c c′ a a′ =
     both (isAccepted (acceptance c))
     (both (isAccepted (acceptance c′))
-    (both (equal (a′ .weights) (p .answers .weights))
-    (both (equal (a′ .depths) (p .answers .depths))
-    (both (equal (a′ .edges) (p .answers .edges))
+    (both (same a′ (p .answers))
     (both (statesAre a′ 0 (p .states))
     (both (billsAre c′ a′ (p .bills))
-    (risesAre c c′ a a′ (changedLine (p .change)) (p .rises))))))))
+    (risesAre c c′ a a′ (changedLine (p .change)) (p .rises))))))
 
 unfoldable pub passes : Case → Bool
 passes p =

@@ -13,8 +13,9 @@ use Rattle.provenance.specs.BestFirst.{opening, next, turn, turns, best-first}
 use Rattle.provenance.specs.Support.{bills, bill}
 use Rattle.provenance.specs.Counting.{count}
 use Rattle.columns.specs.Columns.{Columns, columns, answers}
+use Rattle.columns.specs.Same.{equal, same}
 use Rattle.columns.specs.Acceptance.{allBelow, edgeAcceptance, edgesAcceptance, acceptance}
-use Rattle.examples.specs.Case.{Change, unchanged, figure, Bill, Rise, Case, equal, statesAre, billsAre, risesAre, comesOut, passes, allPass}
+use Rattle.examples.specs.Case.{Change, unchanged, figure, Bill, Rise, Case, statesAre, billsAre, risesAre, comesOut, passes, allPass}
 
 -- the table priced whole
 --   0 1200
@@ -127,5 +128,5 @@ cases =
     ∷ []
 
 pub every-case-passes : allPass cases ≡ true
-unfolding cases allPass passes comesOut equal statesAre billsAre risesAre acceptance edgesAcceptance edgeAcceptance allBelow best-first turns turn next opening offerOf noneZero aheadOf weigh fold each greatest bill bills count
+unfolding cases allPass passes comesOut same equal statesAre billsAre risesAre acceptance edgesAcceptance edgeAcceptance allBelow best-first turns turn next opening offerOf noneZero aheadOf weigh fold each greatest bill bills count
 every-case-passes = refl

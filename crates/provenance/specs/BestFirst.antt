@@ -14,7 +14,8 @@ use Rattle.weights.specs.declared.Label.{Label}
 use Rattle.weights.specs.declared.Offer.{Offer}
 use Rattle.weights.specs.declared.Offer.the-variants.{Nothing, Found}
 use Rattle.weights.specs.Measures.{Algebra}
-use Rattle.weights.specs.Labels.{pick, label, aheadOf}
+use Rattle.weights.specs.Choice.{pick}
+use Rattle.weights.specs.Labels.{label, aheadOf}
 use Rattle.weights.specs.Laws.{Lawful}
 use Rattle.weights.specs.Order.{Ahead, ahead-refl, ahead-trans, Ranked, ahead, behind, ranked}
 use Rattle.provenance.specs.Hypergraph.{Hypergraph}

@@ -8,7 +8,7 @@ use native.Mathlib.Omega.{arith}
 use native.Mathlib.Decide.{ℕ-discrete}
 use lib.Dec.{eqb}
 use borrow.Author.Tests.{eq-eqb, ne-eqb}
-use Rattle.weights.specs.Labels.{pick}
+use Rattle.weights.specs.Choice.{pick}
 
 -- 1 where x is e, else 0
 abbrev pub once : ℕ → ℕ → ℕ

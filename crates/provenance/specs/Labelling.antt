@@ -9,7 +9,8 @@ use Rattle.weights.specs.declared.Label.{Label}
 use Rattle.weights.specs.declared.Offer.{Offer}
 use Rattle.weights.specs.declared.Offer.the-variants.{Nothing, Found}
 use Rattle.weights.specs.Measures.{Algebra, weigh}
-use Rattle.weights.specs.Labels.{pick, label, unmade}
+use Rattle.weights.specs.Choice.{pick}
+use Rattle.weights.specs.Labels.{label, unmade}
 use Rattle.weights.specs.Order.{Ahead}
 use Rattle.provenance.specs.Hypergraph.{Hypergraph, Stands}
 

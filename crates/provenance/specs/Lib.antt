@@ -11,3 +11,4 @@ pub mod Program
 pub mod Provenance
 pub mod Counting
 pub mod Sensitivity
+pub mod Local

@@ -13,7 +13,8 @@ use Rattle.weights.specs.declared.Offer.{Offer}
 use Rattle.weights.specs.declared.Offer.the-variants.{Nothing, Found}
 use Rattle.weights.specs.Figures.{isStruck}
 use Rattle.weights.specs.Measures.{Algebra, fold, weigh}
-use Rattle.weights.specs.Labels.{pick, label}
+use Rattle.weights.specs.Choice.{pick}
+use Rattle.weights.specs.Labels.{label}
 use Rattle.weights.specs.Laws.{Lawful}
 use Rattle.provenance.specs.Hypergraph.{Hypergraph}
 use Rattle.provenance.specs.Labelling.{weightIn, depthIn, each, greatest, noneZero, offerOf, candidate}

@@ -13,9 +13,9 @@ use Rattle.refusal.specs.declared.Answer.the-variants.{Accepted, Refused}
 use Rattle.provenance.specs.BestFirst.{Answers, turn, turns, best-first}
 use Rattle.provenance.specs.Existence.{Sized, After, after}
 use Rattle.columns.specs.Columns.{Columns, columns, answers, ownAt, hypergraph}
-use Rattle.columns.specs.Acceptance.{acceptance, lentAcceptance}
+use Rattle.columns.specs.Acceptance.{mostVertices, acceptance, lentAcceptance}
 use Rattle.columns.specs.Accepted.{table-accepted, well-formed}
-use Rattle.settle.specs.Lent.{Turning}
+use Rattle.settle.specs.Lent.{cell, Turning}
 use Rattle.settle.specs.Settling.{answersOf, settled}
 
 -- k turns on a table
@@ -36,6 +36,22 @@ pub cleared : (m : Measure) (c : Columns) {ws ds es : List ℕ} (a : Answers) �
 unfolding turns
 cleared m c a p q r s = rw (p, q, r, s .weights, s .depths, s .edges)
 
+-- a table of n vertices and the same columns: by the length of a column, it is the table
+abbrev pub same-table : Columns → ℕ → Columns
+same-table c n = columns n (c .heads) (c .own) (c .spans) (c .tails)
+
+pub turning-columns : (c : Columns) (a : Answers) → acceptance c ≡ Accepted → Sized (c .vertices) a → ((v : ℕ) → cell (a .depths) v ≤ mostVertices) → Turning (same-table c (length (a .depths))) a
+turning-columns c a p s shallow =
+    record {
+      usable = record {
+        accepted = subst (λ (n : ℕ). acceptance (same-table c n) ≡ Accepted) (sym (s .depths)) p;
+        level = s .weights ∙ sym (s .depths);
+        vertices = refl;
+        shallow = shallow;
+      };
+      edges = s .edges ∙ sym (s .depths);
+    }
+
 module _ (m : Measure) (c : Columns) (p : acceptance c ≡ Accepted) {a : Answers} (k : ℕ) (q : a ≡ turnsOf m c k) where
   -- after k turns
   so-far : After (algebra m) (hypergraph c) (ownAt c) k a
@@ -44,26 +60,12 @@ module _ (m : Measure) (c : Columns) (p : acceptance c ≡ Accepted) {a : Answer
   pub sizes : Sized (c .vertices) a
   sizes = so-far .size
 
-  -- the table by the length of a column is the table
-  abbrev same-table : ℕ → Columns
-  same-table n = columns n (c .heads) (c .own) (c .spans) (c .tails)
-
-  pub turning : k ≤ c .vertices → Turning (same-table (length (a .depths))) a
-  turning h =
-      let s = sizes in
-      record {
-        usable = record {
-          accepted = subst (λ (n : ℕ). acceptance (same-table n) ≡ Accepted) (sym (s .depths)) p;
-          level = s .weights ∙ sym (s .depths);
-          vertices = refl;
-          shallow = λ v. omega (arith, so-far .shallow v, table-accepted c p .few);
-        };
-        edges = s .edges ∙ sym (s .depths);
-      }
+  pub turning : k ≤ c .vertices → Turning (same-table c (length (a .depths))) a
+  turning h = turning-columns c a p sizes (λ v. omega (arith, so-far .shallow v, table-accepted c p .few))
 
   -- one turn more
-  pub turns-more : {b : Answers} → b ≡ turn (algebra m) (hypergraph (same-table (length (a .depths)))) (ownAt c) a → b ≡ turnsOf m c (k + 1)
+  pub turns-more : {b : Answers} → b ≡ turn (algebra m) (hypergraph (same-table c (length (a .depths)))) (ownAt c) a → b ≡ turnsOf m c (k + 1)
   unfolding turns
   turns-more {b} t =
-      let t′ : b ≡ turn (algebra m) (hypergraph c) (ownAt c) a = subst (λ (n : ℕ). b ≡ turn (algebra m) (hypergraph (same-table n)) (ownAt c) a) (sizes .depths) t in
+      let t′ : b ≡ turn (algebra m) (hypergraph c) (ownAt c) a = subst (λ (n : ℕ). b ≡ turn (algebra m) (hypergraph (same-table c n)) (ownAt c) a) (sizes .depths) t in
       t′ ∙ rw (add-one, ← q)

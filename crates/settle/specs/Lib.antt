@@ -1,3 +1,4 @@
 pub mod Lent
 pub mod Settling
 pub mod Checking
+pub mod Demands

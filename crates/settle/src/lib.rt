@@ -18,9 +18,11 @@ ghost use Rattle.weights.specs.Measures.{algebra};
 ghost use Rattle.weights.specs.Labels.{entryOf};
 ghost use Rattle.provenance.specs.Labelling.{offerOf};
 ghost use Rattle.provenance.specs.BestFirst.{labels, earlier, next, turn};
-ghost use Rattle.columns.specs.Columns.{columns, answers, ownAt, hypergraph};
+ghost use Rattle.provenance.specs.Local.{every, gives, keepsUp, vertexRight, edgeRight};
+ghost use Rattle.columns.specs.Columns.{columns, answers, hypergraph};
 ghost use Rattle.settle.specs.Lent.{lent, cell, tailOf, Legible, EdgeIn, Usable, Turning};
 ghost use Rattle.settle.specs.Settling.{settled};
+ghost use Rattle.settle.specs.Checking.{checked};
 
 fn deeper(a: u64, b: u64) -> u64
     ensures { λ r. ⌜ r ≡ max a b ⌝ }
@@ -206,4 +208,203 @@ pub fn settle(
         k += 1;
     }
     Answer::Accepted
+}
+
+// Whether an offer is of this weight and depth.
+fn gives(o: Offer, weight: Weight, depth: u64) -> bool
+    ensures { λ r. ⌜ r ≡ gives o (weight .0) depth ⌝ }
+{
+    let Offer::Found(x) = o else {
+        return false;
+    };
+    let y = x.weight;
+    if y.0 != weight.0 {
+        return false;
+    }
+    x.depth == depth
+}
+
+// Whether a head of the label l does not come after what one of its hyperedges offers.
+fn keeps_up(measure: Measure, l: Label, o: Offer) -> bool
+    ensures { λ r. ⌜ r ≡ keepsUp (algebra measure) l o ⌝ }
+{
+    let Offer::Found(x) = o else {
+        return true;
+    };
+    if l.depth == 0 {
+        return false;
+    }
+    weights::ahead(measure, l, x)
+}
+
+// Whether the label of v is blank, or what its own hyperedge offers.
+fn vertex_right(
+    measure: Measure,
+    v: Vertex,
+    heads: &[u64],
+    own: &[u64],
+    spans: &[u64],
+    tails: &[u64],
+    weights: &[u64],
+    depths: &[u64],
+    edges: &[u64],
+) -> bool
+    requires { ⌜ (Turning (lent (now heads) (now own) (now spans) (now tails) (now depths)) (answers (now weights) (now depths) (now edges))) × (v .0 < length (now depths)) ⌝ }
+    ensures { λ r. ⌜ r ≡ vertexRight (algebra measure) (hypergraph (lent (now (heads .entry)) (now (own .entry)) (now (spans .entry)) (now (tails .entry)) (now (depths .entry)))) (cell (now (own .entry))) (labels (answers (now (weights .entry)) (now (depths .entry)) (now (edges .entry)))) (v .0) ⌝ }
+{
+    let i = v.0 as usize;
+    let w = weights[i];
+    let d = depths[i];
+    let e = edges[i];
+    if d == 0 {
+        if w != 0 {
+            return false;
+        }
+        return e == 0;
+    }
+    if e >= heads.len() as u64 {
+        return false;
+    }
+    let j = e as usize;
+    if heads[j] != v.0 {
+        return false;
+    }
+    let o = offer(measure, Hyperedge(e), own, spans, tails, weights, depths);
+    gives(o, Weight(w), d)
+}
+
+// Whether the label of e's head does not come after what e offers.
+fn edge_right(
+    measure: Measure,
+    e: Hyperedge,
+    heads: &[u64],
+    own: &[u64],
+    spans: &[u64],
+    tails: &[u64],
+    weights: &[u64],
+    depths: &[u64],
+    edges: &[u64],
+) -> bool
+    requires { ⌜ (Turning (lent (now heads) (now own) (now spans) (now tails) (now depths)) (answers (now weights) (now depths) (now edges))) × (e .0 < length (now heads)) ⌝ }
+    ensures { λ r. ⌜ r ≡ edgeRight (algebra measure) (hypergraph (lent (now (heads .entry)) (now (own .entry)) (now (spans .entry)) (now (tails .entry)) (now (depths .entry)))) (cell (now (own .entry))) (labels (answers (now (weights .entry)) (now (depths .entry)) (now (edges .entry)))) (e .0) ⌝ }
+{
+    let i = e.0 as usize;
+    let v = heads[i] as usize;
+    let o = offer(measure, e, own, spans, tails, weights, depths);
+    let weight = weights[v];
+    let depth = depths[v];
+    let root = edges[v];
+    let l = Label {
+        weight: Weight(weight),
+        depth,
+        edge: Hyperedge(root),
+    };
+    keeps_up(measure, l, o)
+}
+
+// The same of every vertex.
+fn vertices_right(
+    measure: Measure,
+    heads: &[u64],
+    own: &[u64],
+    spans: &[u64],
+    tails: &[u64],
+    weights: &[u64],
+    depths: &[u64],
+    edges: &[u64],
+) -> bool
+    requires { ⌜ Turning (lent (now heads) (now own) (now spans) (now tails) (now depths)) (answers (now weights) (now depths) (now edges)) ⌝ }
+    ensures { λ r. ⌜ r ≡ every (vertexRight (algebra measure) (hypergraph (lent (now (heads .entry)) (now (own .entry)) (now (spans .entry)) (now (tails .entry)) (now (depths .entry)))) (cell (now (own .entry))) (labels (answers (now (weights .entry)) (now (depths .entry)) (now (edges .entry))))) (length (now (depths .entry))) ⌝ }
+{
+    let mut i = 0;
+    while i < depths.len() {
+        let v = Vertex(i as u64);
+        if !vertex_right(measure, v, heads, own, spans, tails, weights, depths, edges) {
+            return false;
+        }
+        i += 1;
+    }
+    true
+}
+
+// The same of every hyperedge.
+fn edges_right(
+    measure: Measure,
+    heads: &[u64],
+    own: &[u64],
+    spans: &[u64],
+    tails: &[u64],
+    weights: &[u64],
+    depths: &[u64],
+    edges: &[u64],
+) -> bool
+    requires { ⌜ Turning (lent (now heads) (now own) (now spans) (now tails) (now depths)) (answers (now weights) (now depths) (now edges)) ⌝ }
+    ensures { λ r. ⌜ r ≡ every (edgeRight (algebra measure) (hypergraph (lent (now (heads .entry)) (now (own .entry)) (now (spans .entry)) (now (tails .entry)) (now (depths .entry)))) (cell (now (own .entry))) (labels (answers (now (weights .entry)) (now (depths .entry)) (now (edges .entry))))) (length (now (heads .entry))) ⌝ }
+{
+    let mut i = 0;
+    while i < heads.len() {
+        let e = Hyperedge(i as u64);
+        if !edge_right(measure, e, heads, own, spans, tails, weights, depths, edges) {
+            return false;
+        }
+        i += 1;
+    }
+    true
+}
+
+// Whether the answer columns hold the table's answers, whoever wrote them. A depth above n is none
+// of them, so no sum below wraps.
+pub fn check_answers(
+    measure: Measure,
+    n: u64,
+    heads: &[u64],
+    own: &[u64],
+    spans: &[u64],
+    tails: &[u64],
+    weights: &[u64],
+    depths: &[u64],
+    edges: &[u64],
+) -> Verdict
+    ensures { λ r. ⌜ r ≡ checked measure (columns n (now (heads .entry)) (now (own .entry)) (now (spans .entry)) (now (tails .entry))) (answers (now (weights .entry)) (now (depths .entry)) (now (edges .entry))) ⌝ }
+{
+    let a = columns::check_lent(n, heads, own, spans, tails, weights, depths, edges);
+    match a {
+        Answer::Refused(r) => return Verdict::Refused(r),
+        Answer::Accepted => {}
+    }
+    if !columns::all_below(n + 1, depths) {
+        return Verdict::No;
+    }
+    if !vertices_right(measure, heads, own, spans, tails, weights, depths, edges) {
+        return Verdict::No;
+    }
+    if !edges_right(measure, heads, own, spans, tails, weights, depths, edges) {
+        return Verdict::No;
+    }
+    Verdict::Yes
+}
+
+// What a column holds for a vertex, and 0 for a vertex beyond its end.
+fn cell(column: &[u64], v: Vertex) -> u64
+    ensures { λ r. ⌜ r ≡ cell (now (column .entry)) (v .0) ⌝ }
+{
+    if v.0 >= column.len() as u64 {
+        return 0;
+    }
+    let i = v.0 as usize;
+    column[i]
+}
+
+// The entry of a vertex, with its state. A vertex beyond the columns is unmade.
+pub fn entry(weights: &[u64], depths: &[u64], edges: &[u64], v: Vertex) -> Entry
+    ensures { λ r. ⌜ r ≡ entryOf (labels (answers (now (weights .entry)) (now (depths .entry)) (now (edges .entry))) (v .0)) ⌝ }
+{
+    let weight = cell(weights, v);
+    let depth = cell(depths, v);
+    let root = cell(edges, v);
+    Entry::of(Label {
+        weight: Weight(weight),
+        depth,
+        edge: Hyperedge(root),
+    })
 }

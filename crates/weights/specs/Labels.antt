@@ -9,13 +9,9 @@ use Rattle.weights.specs.declared.Label.{Label}
 use Rattle.weights.specs.declared.State.{State}
 use Rattle.weights.specs.declared.State.the-variants.{Made, Over, Unmade}
 use Rattle.weights.specs.declared.Entry.{Entry}
+use Rattle.weights.specs.Choice.{pick}
 use Rattle.weights.specs.Figures.{isOver}
 use Rattle.weights.specs.Measures.{Algebra}
-
--- a choice by a test
-abbrev pub pick : {A : Type 0} → Bool → A → A → A
-pick true a b = a
-pick false a b = b
 
 -- a label of three numbers: figure, depth, line
 abbrev pub label : (weight depth edge : ℕ) → Label

@@ -1,3 +1,4 @@
+pub mod Choice
 pub mod Figures
 pub mod Measures
 pub mod Labels

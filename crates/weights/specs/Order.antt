@@ -6,8 +6,9 @@ use native.Mathlib.Omega.{arith}
 use lib.Dec.{leb, ltb}
 use borrow.Author.Tests.{ltb-true, ltb-false, leb-true, leb-false}
 use Rattle.weights.specs.declared.Label.{Label}
+use Rattle.weights.specs.Choice.{pick, apart}
 use Rattle.weights.specs.Measures.{Algebra}
-use Rattle.weights.specs.Labels.{pick, aheadOf}
+use Rattle.weights.specs.Labels.{aheadOf}
 use Rattle.weights.specs.Laws.{NoWorse, Lawful}
 
 -- a comes before b, or is b

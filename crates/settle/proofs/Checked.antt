@@ -1,0 +1,82 @@
+-- The laws by which `check_answers` goes: where every test passes the answers are the table's, and where one fails they are not. Assumes nothing.
+use mathlib.Core.Path.{_≡_, refl, sym, _∙_, ap, subst}
+use mathlib.Core.Bool.{Bool, true, false}
+use Prim.Native.Nat.{ℕ, _+_, _≤_, _<_}
+use native.Mathlib.Omega.{arith}
+use native.Mathlib.Decide.{decLe}
+use lib.ListN.{length, getD, List·getD-eq-default}
+use Rattle.weights.specs.declared.Measure.{Measure}
+use Rattle.weights.specs.Choice.{apart}
+use Rattle.weights.specs.Measures.{algebra}
+use Rattle.weights.specs.Laws.{lawful}
+use Rattle.refusal.specs.declared.Refusal.{Refusal}
+use Rattle.refusal.specs.declared.Answer.the-variants.{Accepted, Refused}
+use Rattle.refusal.specs.declared.Verdict.the-variants as verdict
+use Rattle.provenance.specs.BestFirst.{Answers, labels}
+use Rattle.provenance.specs.Existence.{exists-shallow}
+use Rattle.provenance.specs.Local.{every, vertexRight, edgeRight, all-right, not-fixpoint, vertex-fails, edge-fails}
+use Rattle.columns.specs.Columns.{Columns, columns, ownAt, hypergraph}
+use Rattle.columns.specs.Acceptance.{mostVertices, acceptance, lentAcceptance, allBelow}
+use Rattle.columns.specs.Accepted.{AcceptedColumns, table-accepted, well-formed, below-at, below-all}
+use Rattle.columns.specs.Same.{same, same-refl, same-not}
+use Rattle.settle.specs.Lent.{Turning}
+use Rattle.settle.specs.Settling.{answersOf}
+use Rattle.settle.specs.Checking.{checked}
+use Rattle.settle.proofs.Settled.{same-table, turning-columns}
+
+module _ (m : Measure) (c : Columns) (a : Answers) where
+  pub checked-refused : (r : Refusal) → lentAcceptance c a ≡ Refused r → verdict.Refused r ≡ checked m c a
+  unfolding checked
+  checked-refused r p = rw p
+
+  pub checked-yes : lentAcceptance c a ≡ Accepted → a ≡ answersOf m c → verdict.Yes ≡ checked m c a
+  unfolding checked
+  checked-yes p e =
+      let q : same a (answersOf m c) ≡ true = subst (λ (b : Answers). same a b ≡ true) e (same-refl a) in
+      rw (p, q)
+
+  pub checked-no : lentAcceptance c a ≡ Accepted → ¬ (a ≡ answersOf m c) → verdict.No ≡ checked m c a
+  unfolding checked
+  checked-no p n = rw (p, same-not a (answersOf m c) n)
+
+module _ (m : Measure) (c : Columns) (a : Answers) (l : AcceptedColumns c a) where
+  -- a depth above the number of vertices is none of the table's
+  pub too-deep : allBelow (c .vertices + 1) (a .depths) ≡ false → ¬ (a ≡ answersOf m c)
+  unfolding answersOf
+  too-deep q e =
+      let f : (k : ℕ) → k < length (a .depths) → getD (a .depths) k 0 < c .vertices + 1 =
+      λ k h. omega (arith, exists-shallow (lawful m) (ownAt c) (well-formed c (l .table)) k, ap (λ (b : Answers). getD (b .depths) k 0) e) in
+      apart (sym q ∙ below-all _ _ f)
+
+  -- else the columns can be looked at
+  shallow : allBelow (c .vertices + 1) (a .depths) ≡ true → (v : ℕ) → Dec (length (a .depths) ≤ v) → getD (a .depths) v 0 ≤ mostVertices
+  shallow q v (yes h) = omega (arith, List·getD-eq-default (a .depths) 0 {n = v} h)
+  shallow q v (no n) = omega (arith, below-at _ _ q v (omega arith), table-accepted c (l .table) .few)
+
+  pub usable : allBelow (c .vertices + 1) (a .depths) ≡ true → Turning (same-table c (length (a .depths))) a
+  usable q = turning-columns c a (l .table) (l .sized) (λ v. shallow q v (decLe (length (a .depths)) v))
+
+  -- the tests of all vertices and of all hyperedges, as the functions give them
+  abbrev pub vertices : Bool
+  vertices = every (vertexRight (algebra m) (hypergraph (same-table c (length (a .depths)))) (ownAt c) (labels a)) (length (a .depths))
+
+  abbrev pub edges : Bool
+  edges = every (edgeRight (algebra m) (hypergraph (same-table c (length (a .depths)))) (ownAt c) (labels a)) (length (c .heads))
+
+  vertices-at : {b : Bool} → vertices ≡ b → every (vertexRight (algebra m) (hypergraph c) (ownAt c) (labels a)) (c .vertices) ≡ b
+  vertices-at {b} q = subst (λ (n : ℕ). every (vertexRight (algebra m) (hypergraph (same-table c n)) (ownAt c) (labels a)) n ≡ b) (l .sized .depths) q
+
+  edges-at : {b : Bool} → edges ≡ b → every (edgeRight (algebra m) (hypergraph c) (ownAt c) (labels a)) (length (c .heads)) ≡ b
+  edges-at {b} q = subst (λ (n : ℕ). every (edgeRight (algebra m) (hypergraph (same-table c n)) (ownAt c) (labels a)) (length (c .heads)) ≡ b) (l .sized .depths) q
+
+  pub wrong-vertex : vertices ≡ false → ¬ (a ≡ answersOf m c)
+  unfolding answersOf
+  wrong-vertex q = not-fixpoint (lawful m) (hypergraph c) (ownAt c) a (l .sized) (well-formed c (l .table)) (vertex-fails (lawful m) (hypergraph c) (ownAt c) a (l .sized) (vertices-at q))
+
+  pub wrong-edge : edges ≡ false → ¬ (a ≡ answersOf m c)
+  unfolding answersOf
+  wrong-edge q = not-fixpoint (lawful m) (hypergraph c) (ownAt c) a (l .sized) (well-formed c (l .table)) (edge-fails (lawful m) (hypergraph c) (ownAt c) a (l .sized) (edges-at q))
+
+  pub right-all : vertices ≡ true → edges ≡ true → a ≡ answersOf m c
+  unfolding answersOf
+  right-all p q = all-right (lawful m) (hypergraph c) (ownAt c) a (l .sized) (well-formed c (l .table)) (vertices-at p) (edges-at q)

@@ -1,0 +1,68 @@
+-- `settle::edges_right` meets its contract: the invariant: every hyperedge passed is right. Assumes nothing.
+use mathlib.Core.Path.{_≡_, refl, sym, _∙_, ap}
+use mathlib.Core.Bool.{Bool, true}
+use Prim.Native.Nat.{ℕ, _≤_, _-_}
+use native.Mathlib.Omega.{arith}
+use borrow.Author.Needs.{needs}
+use borrow.Author.Tests.{not-true, not-false}
+use lib.ListN.{length}
+use Rattle.weights.specs.Measures.{algebra}
+use Rattle.columns.specs.Columns.{answers, hypergraph}
+use Rattle.provenance.specs.BestFirst.{labels}
+use Rattle.provenance.specs.Local.{every, edgeRight, every-more, every-stop}
+use Rattle.settle.specs.Lent.{lent, cell}
+use Rattle.settle.proofs.edges_right.Statement.{statement}
+use Rattle.settle.proofs.edges_right.Tie as tie
+
+abbrev Inv-loop : tie.InvT-loop
+Inv-loop measure heads own spans tails weights depths edges i₀ i =
+    (i ≤ length heads) × (every (edgeRight (algebra measure) (hypergraph (lent heads own spans tails depths)) (cell own) (labels (answers weights depths edges))) i ≡ true)
+
+abbrev μ-loop : tie.MeasureT-loop
+μ-loop measure heads own spans tails weights depths edges i₀ i = length heads - i
+
+-- the test at the loop's head
+abbrev tested : tie.At-loop Inv-loop μ-loop → ℕ → Bool
+tested l =
+    let a = l .before .before .before .before .before .before .before .before .args in
+    edgeRight (algebra (a .measure)) (hypergraph (lent (a .heads .now) (a .own .now) (a .spans .now) (a .tails .now) (a .depths .now))) (cell (a .own .now)) (labels (answers (a .weights .now) (a .depths .now) (a .edges .now)))
+
+loop-holds : tie.Need-loop-holds Inv-loop μ-loop
+unfolding every
+loop-holds c = (omega arith, refl)
+
+edge-right-requires : tie.Need-edge-right-requires Inv-loop μ-loop
+edge-right-requires c κs = (c .before .before .before .before .before .before .before .before .before .pre, c .loop-test .taken)
+
+returns : tie.Need-returns Inv-loop μ-loop
+returns c = sym (every-stop (tested (c .before .before .before)) _ _ (c .before .before .loop-test .taken) (sym (c .before .edge-right .ensures) ∙ not-true _ (c .if1 .taken)))
+
+add-i : tie.Need-add-i Inv-loop μ-loop
+add-i c = search needs
+
+loop-less : tie.Need-loop-less Inv-loop μ-loop
+loop-less c = search needs
+
+loop-again : tie.Need-loop-again Inv-loop μ-loop
+loop-again c =
+    (omega arith, every-more (tested (c .before .before .before)) _ (sym (c .before .edge-right .ensures) ∙ not-false _ (c .if1 .left)) (c .before .before .before .loop .inv .1))
+
+returns-2 : tie.Need-returns-2 Inv-loop μ-loop
+returns-2 c =
+    let l = c .before in
+    let e : l .loop .i ≡ length (l .before .before .before .before .before .before .before .before .args .heads .now) = omega arith in
+    sym (l .loop .inv .1) ∙ ap (every (tested l)) e
+
+pub edges-right-spec : {M : Type 1} → statement M
+edges-right-spec =
+    tie.close
+    (tie.spec
+    Inv-loop
+    μ-loop
+    loop-holds
+    edge-right-requires
+    returns
+    add-i
+    loop-less
+    loop-again
+    returns-2)
