@@ -1,6 +1,11 @@
 -- What a refusal's number and place are, and the one number that a caller in C gets. The paper's table of refusals, and "The calls" for C.
 -- Assumes nothing: these are definitions, and the law `exact` of one of them.
 use mathlib.Core.Path.{_≡_}
+use lib.Dec.{eqb}
+use Rattle.weights.specs.declared.Measure.the-variants.{Cost, Days}
+use Rattle.weights.specs.Choice.{pick}
+use Rattle.refusal.specs.declared.MeasureChoice.{MeasureChoice}
+use Rattle.refusal.specs.declared.MeasureChoice.the-variants as choice
 use Prim.Native.Nat.{ℕ, _+_, _*_, _≤_, min}
 use native.Mathlib.Omega.{arith}
 use Rattle.refusal.specs.declared.Refusal.{Refusal}
@@ -8,6 +13,8 @@ use Rattle.refusal.specs.declared.Refusal.the-variants.{TooManyVertices,
 use Rattle.refusal.specs.declared.Code.{Code}
 use Rattle.refusal.specs.declared.Answer.{Answer}
 use Rattle.refusal.specs.declared.Answer.the-variants as answer
+use Rattle.refusal.specs.declared.Verdict.{Verdict}
+use Rattle.refusal.specs.declared.Verdict.the-variants as verdict
 use Rattle.refusal.specs.declared.Extent.{Extent}
 use Rattle.refusal.specs.declared.Extent.the-variants as extent
 
@@ -72,11 +79,20 @@ numbered TextRoom = omega arith
 numbered MeasureNumber = omega arith
 numbered InputLength = omega arith
 
--- in C: 0 on acceptance, a length as it is
+-- in C: 0 on acceptance; 1 for yes, 0 for no; a length as it is
 abbrev pub answerResult : Answer → ℕ
 answerResult answer.Accepted = 0
 answerResult (answer.Refused r) = resultOf (codeOf r)
 
+abbrev pub verdictResult : Verdict → ℕ
+verdictResult verdict.Yes = 1
+verdictResult verdict.No = 0
+verdictResult (verdict.Refused r) = resultOf (codeOf r)
+
 abbrev pub extentResult : Extent → ℕ
 extentResult (extent.Length n) = n
 extentResult (extent.Refused r) = resultOf (codeOf r)
+
+-- the measure's number from C: 0 is cost, 1 is days, and any other is refused by 16
+abbrev pub measureOf : ℕ → MeasureChoice
+measureOf n = pick (eqb n 0) (choice.Measure Cost) (pick (eqb n 1) (choice.Measure Days) (choice.Refused MeasureNumber))

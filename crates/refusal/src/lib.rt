@@ -3,7 +3,7 @@
 use weights::Hyperedge;
 use weights::Measure;
 ghost use mathlib.Core.Path.{_≡_};
-ghost use Rattle.refusal.specs.Refusals.{codeOf, numberOf, placeOf, resultOf, answerResult, extentResult};
+ghost use Rattle.refusal.specs.Refusals.{codeOf, numberOf, placeOf, resultOf, answerResult, verdictResult, extentResult, measureOf};
 
 // A line of a text, counted from 1.
 pub struct TextLine(pub u64);
@@ -145,6 +145,18 @@ impl Answer {
     }
 }
 
+impl Verdict {
+    pub fn result(self) -> u64
+        ensures { λ r. ⌜ r ≡ verdictResult self ⌝ }
+    {
+        match self {
+            Verdict::Yes => 1,
+            Verdict::No => 0,
+            Verdict::Refused(r) => r.result(),
+        }
+    }
+}
+
 impl Extent {
     pub fn result(self) -> u64
         ensures { λ r. ⌜ r ≡ extentResult self ⌝ }
@@ -154,4 +166,23 @@ impl Extent {
             Extent::Refused(r) => r.result(),
         }
     }
+}
+
+// A measure, where a number from C is one.
+pub enum MeasureChoice {
+    Measure(Measure),
+    Refused(Refusal),
+}
+
+// The measure of a number: 0 is cost, 1 is days.
+pub fn measure_numbered(number: u64) -> MeasureChoice
+    ensures { λ r. ⌜ r ≡ measureOf number ⌝ }
+{
+    if number == 0 {
+        return MeasureChoice::Measure(Measure::Cost);
+    }
+    if number == 1 {
+        return MeasureChoice::Measure(Measure::Days);
+    }
+    MeasureChoice::Refused(Refusal::MeasureNumber)
 }

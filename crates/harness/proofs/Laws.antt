@@ -1,0 +1,47 @@
+-- The laws by which the exports go: by the measure's number, and of a room of three places. Assumes nothing.
+use mathlib.Core.Path.{_≡_, refl, sym, _∙_, ap}
+use mathlib.Core.List.{List, [], _∷_}
+use Prim.Native.Nat.{ℕ}
+use native.Mathlib.Omega.{arith}
+use lib.ListN.{length, set}
+use borrow.Author.Tests.{eq-eqb, ne-eqb}
+use Rattle.weights.specs.declared.Measure.{Measure}
+use Rattle.weights.specs.declared.Entry.{Entry}
+use Rattle.refusal.specs.declared.Refusal.{Refusal}
+use Rattle.refusal.specs.declared.Answer.{Answer}
+use Rattle.refusal.specs.declared.Verdict.{Verdict}
+use Rattle.refusal.specs.declared.MeasureChoice.{MeasureChoice}
+use Rattle.refusal.specs.declared.MeasureChoice.the-variants as choice
+use Rattle.refusal.specs.Refusals.{codeOf, resultOf, answerResult, verdictResult}
+use Rattle.provenance.specs.BestFirst.{Answers}
+use Rattle.columns.specs.Columns.{Columns}
+use Rattle.settle.specs.Settling.{Outcome, settled}
+use Rattle.settle.specs.Checking.{checked}
+use Rattle.harness.specs.Results.{outcomeResult, settledResult, checkedResult, entryWritten}
+
+module _ {o : MeasureChoice} (c : Columns) (a : Answers) {n : ℕ} where
+  pub settled-refused : {r : Refusal} → o ≡ choice.Refused r → n ≡ resultOf (codeOf r) → record { result = n; left = a } ≡ settledResult o c a
+  settled-refused p q = rw (p, q)
+
+  pub settled-measure : {m : Measure} {x : Answer} {b : Answers} → o ≡ choice.Measure m → n ≡ answerResult x → record { result = x; left = b } ≡ settled m c a → record { result = n; left = b } ≡ settledResult o c a
+  settled-measure {m} {x} {b} p q e = rw (p, q) (ap outcomeResult e)
+
+  pub checked-refused : {r : Refusal} → o ≡ choice.Refused r → n ≡ resultOf (codeOf r) → n ≡ checkedResult o c a
+  checked-refused p q = rw (p, q)
+
+  pub checked-measure : {m : Measure} {v : Verdict} → o ≡ choice.Measure m → n ≡ verdictResult v → v ≡ checked m c a → n ≡ checkedResult o c a
+  checked-measure p q e = rw (p, q) (ap verdictResult e)
+
+three : (xs : List ℕ) (w d e : ℕ) → length xs ≡ 3 → set (set (set xs 0 w) 1 d) 2 e ≡ w ∷ d ∷ e ∷ []
+three [] w d e h = absurd (omega arith)
+three (x ∷ []) w d e h = absurd (omega arith)
+three (x ∷ (y ∷ [])) w d e h = absurd (omega arith)
+three (x ∷ (y ∷ (z ∷ []))) w d e h = refl
+three (x ∷ (y ∷ (z ∷ (t ∷ ts)))) w d e h = absurd (omega arith)
+
+module _ (e : Entry) (room : List ℕ) where
+  pub written : length room ≡ 3 → set (set (set room 0 (e .weight .0)) 1 (e .depth)) 2 (e .edge .0) ≡ entryWritten e room
+  written h = rw (eq-eqb (length room) 3 h) (three room (e .weight .0) (e .depth) (e .edge .0) h)
+
+  pub unwritten : ¬ (length room ≡ 3) → room ≡ entryWritten e room
+  unwritten n = rw (ne-eqb (length room) 3 n)

@@ -1,0 +1,42 @@
+-- The calls' outcomes as a caller in C gets them: one number, and the columns as they are left. The paper's "The calls". Assumes nothing: these are definitions.
+use Prim.Native.Nat.{ℕ}
+use mathlib.Core.List.{List, [], _∷_}
+use lib.ListN.{length}
+use lib.Dec.{eqb}
+use Rattle.weights.specs.declared.State.{State}
+use Rattle.weights.specs.declared.State.the-variants.{Made, Over, Unmade}
+use Rattle.weights.specs.declared.Entry.{Entry}
+use Rattle.weights.specs.Choice.{pick}
+use Rattle.refusal.specs.declared.MeasureChoice.{MeasureChoice}
+use Rattle.refusal.specs.declared.MeasureChoice.the-variants.{Measure, Refused}
+use Rattle.refusal.specs.Refusals.{codeOf, resultOf, answerResult, verdictResult}
+use Rattle.provenance.specs.BestFirst.{Answers}
+use Rattle.columns.specs.Columns.{Columns}
+use Rattle.settle.specs.Settling.{Outcome, settled}
+use Rattle.settle.specs.Checking.{checked}
+
+-- a number, and the answer columns
+pub record Left : Type 0 where
+  pub result : ℕ
+  pub left : Answers
+
+abbrev pub outcomeResult : Outcome → Left
+outcomeResult o = record { result = answerResult (o .result); left = o .left }
+
+-- a measure's number is tested before everything
+abbrev pub settledResult : MeasureChoice → Columns → Answers → Left
+settledResult (Refused r) c a = record { result = resultOf (codeOf r); left = a }
+settledResult (Measure m) c a = outcomeResult (settled m c a)
+
+abbrev pub checkedResult : MeasureChoice → Columns → Answers → ℕ
+checkedResult (Refused r) c a = resultOf (codeOf r)
+checkedResult (Measure m) c a = verdictResult (checked m c a)
+
+abbrev pub stateNumber : State → ℕ
+stateNumber Made = 0
+stateNumber Over = 1
+stateNumber Unmade = 2
+
+-- figure, depth and line, where three places are lent
+abbrev pub entryWritten : Entry → List ℕ → List ℕ
+entryWritten e room = pick (eqb (length room) 3) (e .weight .0 ∷ e .depth ∷ e .edge .0 ∷ []) room

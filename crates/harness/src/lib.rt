@@ -1,0 +1,110 @@
+// The calls, exported for the tests alone. Each gives one number, as a caller in C gets it.
+use refusal::MeasureChoice;
+use weights::State;
+use weights::Vertex;
+ghost use mathlib.Core.Path.{_≡_};
+ghost use Rattle.weights.specs.Labels.{entryOf};
+ghost use Rattle.refusal.specs.Refusals.{answerResult, measureOf};
+ghost use Rattle.provenance.specs.BestFirst.{labels};
+ghost use Rattle.columns.specs.Columns.{columns, answers};
+ghost use Rattle.columns.specs.Acceptance.{acceptance};
+ghost use Rattle.harness.specs.Results.{settledResult, checkedResult, stateNumber, entryWritten};
+
+#[no_mangle]
+pub extern "C" fn harness_check_table(
+    n: u64,
+    heads: &[u64],
+    own: &[u64],
+    spans: &[u64],
+    tails: &[u64],
+) -> u64
+    ensures { λ r. ⌜ r ≡ answerResult (acceptance (columns n (now (heads .entry)) (now (own .entry)) (now (spans .entry)) (now (tails .entry)))) ⌝ }
+{
+    let a = columns::check_table(n, heads, own, spans, tails);
+    a.result()
+}
+
+#[no_mangle]
+pub extern "C" fn harness_settle(
+    measure: u64,
+    n: u64,
+    heads: &[u64],
+    own: &[u64],
+    spans: &[u64],
+    tails: &[u64],
+    weights: &mut [u64],
+    depths: &mut [u64],
+    edges: &mut [u64],
+) -> u64
+    ensures { λ r. ⌜ record { result = r; left = answers (now (weights .exit)) (now (depths .exit)) (now (edges .exit)) } ≡ settledResult (measureOf measure) (columns n (now (heads .entry)) (now (own .entry)) (now (spans .entry)) (now (tails .entry))) (answers (now (weights .entry)) (now (depths .entry)) (now (edges .entry))) ⌝ }
+{
+    let choice = refusal::measure_numbered(measure);
+    match choice {
+        MeasureChoice::Refused(r) => return r.result(),
+        MeasureChoice::Measure(m) => {
+            let a = settle::settle(m, n, heads, own, spans, tails, weights, depths, edges);
+            return a.result();
+        }
+    }
+}
+
+#[no_mangle]
+pub extern "C" fn harness_check_answers(
+    measure: u64,
+    n: u64,
+    heads: &[u64],
+    own: &[u64],
+    spans: &[u64],
+    tails: &[u64],
+    weights: &[u64],
+    depths: &[u64],
+    edges: &[u64],
+) -> u64
+    ensures { λ r. ⌜ r ≡ checkedResult (measureOf measure) (columns n (now (heads .entry)) (now (own .entry)) (now (spans .entry)) (now (tails .entry))) (answers (now (weights .entry)) (now (depths .entry)) (now (edges .entry))) ⌝ }
+{
+    let choice = refusal::measure_numbered(measure);
+    match choice {
+        MeasureChoice::Refused(r) => return r.result(),
+        MeasureChoice::Measure(m) => {
+            let v = settle::check_answers(m, n, heads, own, spans, tails, weights, depths, edges);
+            return v.result();
+        }
+    }
+}
+
+// The number of a state.
+fn state_number(state: State) -> u64
+    ensures { λ r. ⌜ r ≡ stateNumber state ⌝ }
+{
+    match state {
+        State::Made => 0,
+        State::Over => 1,
+        State::Unmade => 2,
+    }
+}
+
+// The state of a vertex's entry, with its figure, depth and line in the room if three places are
+// lent.
+#[no_mangle]
+pub extern "C" fn harness_entry(
+    weights: &[u64],
+    depths: &[u64],
+    edges: &[u64],
+    vertex: u64,
+    room: &mut [u64],
+) -> u64
+    ensures number { λ r. ⌜ r ≡ stateNumber (entryOf (labels (answers (now (weights .entry)) (now (depths .entry)) (now (edges .entry))) vertex) .state) ⌝ }
+    ensures written { λ r. ⌜ now (room .exit) ≡ entryWritten (entryOf (labels (answers (now (weights .entry)) (now (depths .entry)) (now (edges .entry))) vertex)) (now (room .entry)) ⌝ }
+{
+    let e = settle::entry(weights, depths, edges, Vertex(vertex));
+    let state = e.state;
+    if room.len() != 3 {
+        return state_number(state);
+    }
+    let weight = e.weight;
+    let root = e.edge;
+    room[0] = weight.0;
+    room[1] = e.depth;
+    room[2] = root.0;
+    state_number(state)
+}
