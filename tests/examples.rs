@@ -1,0 +1,71 @@
+//! The specification's own examples, with the answers that it states.
+
+use crate::model::*;
+
+pub struct Example {
+    pub name: &'static str,
+    pub measure: u64,
+    pub table: Table,
+    pub labels: Vec<Label>,
+}
+
+pub fn worked() -> Table {
+    let edges: [(u64, u64, &[u64]); 6] = [
+        (0, 1_200, &[]),
+        (1, 300, &[]),
+        (2, 500, &[0, 1]),
+        (2, 2_100, &[]),
+        (3, 0, &[2, 1, 1]),
+        (4, 10, &[4]),
+    ];
+    Table::of(5, &edges)
+}
+
+/// The worked table with another own weight, as a change of that hyperedge leaves it.
+fn worked_with(edge: usize, own: u64) -> Table {
+    let mut table = worked();
+    table.own[edge] = own;
+    table
+}
+
+/// Two vertices that need one another and nothing else.
+pub fn circle() -> Table {
+    Table::of(2, &[(0, 0, [1]), (1, 0, [0])])
+}
+
+fn thousands(last: u64) -> Table {
+    let ten = |vertex| vec![vertex; 10];
+    Table::of(4, &[(0, GREATEST, vec![]), (1, 0, ten(0)), (2, 0, ten(1)), (3, last, ten(2))])
+}
+
+fn example(name: &'static str, measure: u64, table: Table, labels: &[(u64, u64, u64)]) -> Example {
+    let labels = labels.iter().map(|&(weight, depth, edge)| Label { weight, depth, edge });
+    Example { name, measure, table, labels: labels.collect() }
+}
+
+pub fn examples() -> Vec<Example> {
+    let none = (0, 0, 0);
+    let sources = [(1_200, 1, 0), (300, 1, 1)];
+    let [zero, one] = sources;
+    let tens = [(GREATEST, 1, 0), (10 * GREATEST, 2, 1), (100 * GREATEST, 3, 2)];
+    let [first, second, third] = tens;
+    let shorter = Table::of(2, &[(0, 5, vec![]), (1, 0, vec![0]), (1, 5, vec![])]);
+    let p1 = [zero, one, (2_000, 2, 2), (2_600, 3, 4), none];
+    let p3 = [zero, (500, 1, 1), (2_100, 1, 3), (3_100, 2, 4), none];
+    let p4 = [zero, one, (1_200, 2, 2), (1_200, 3, 4), none];
+    let p10 = [none, one, (2_100, 1, 3), (2_700, 2, 4), none];
+    vec![
+        example("P1", COST, worked(), &p1),
+        example("P3, settled anew", COST, worked_with(1, 500), &p3),
+        example("P4", DAYS, worked(), &p4),
+        example("P5", COST, Table::new(0), &[]),
+        example("P5 in days", DAYS, Table::new(0), &[]),
+        example("P6", COST, circle(), &[none, none]),
+        example("P6 in days", DAYS, circle(), &[none, none]),
+        example("P7", COST, thousands(0), &[first, second, third, (CEILING, 4, 3)]),
+        example("P8", COST, thousands(1), &[first, second, third, (OVER, 4, 3)]),
+        example("P9", COST, shorter.clone(), &[(5, 1, 0), (5, 1, 2)]),
+        example("P9 in days", DAYS, shorter, &[(5, 1, 0), (5, 1, 2)]),
+        example("P10, settled anew", COST, worked_with(0, STRUCK), &p10),
+    ]
+}

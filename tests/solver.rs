@@ -1,0 +1,151 @@
+//! The answers worked out a second way, to compare with: weights by rounds over all hyperedges
+//! until nothing changes, then depths over the tight ones, then the lowest hyperedge. No queue, no
+//! order of settling. And the refusals 1 to 7 and 16, in the order of the specification.
+
+use crate::model::*;
+
+pub fn solve(measure: u64, table: &Table) -> Labelling {
+    let weights = best_weights(measure, table);
+    let tight = tight_edges(measure, table, &weights);
+    let depths = least_depths(table, &tight);
+    let mut labelling = Labelling::unmade(table.n);
+    // From the highest down, so that the lowest of the fitting hyperedges stays.
+    for &edge in tight.iter().rev() {
+        let head = table.heads[edge] as usize;
+        if let (Some(weight), Some(depth)) = (weights[head], depths[head]) {
+            if depth_by(table, edge, &depths) == Some(depth) {
+                labelling.set(head, Label { weight, depth, edge: edge as u64 });
+            }
+        }
+    }
+    labelling
+}
+
+/// A hyperedge's weight from those of its tail; none while one of them has none.
+pub fn weight_by(measure: u64, table: &Table, edge: usize, weights: &[Option<u64>]) -> Option<u64> {
+    let mut total = u128::from(table.own[edge]);
+    for &vertex in table.tail(edge) {
+        let weight = u128::from(weights[vertex as usize]?);
+        total = if measure == COST { total + weight } else { total.max(weight) };
+    }
+    let ceiling = u128::from(CEILING);
+    Some(if total > ceiling { OVER } else { total as u64 })
+}
+
+/// After as many rounds as there are vertices nothing changes: a least derivation needs no vertex
+/// twice on a path.
+fn best_weights(measure: u64, table: &Table) -> Vec<Option<u64>> {
+    let mut best: Vec<Option<u64>> = vec![None; table.n as usize];
+    loop {
+        let mut changed = false;
+        for edge in (0..table.edges()).filter(|&edge| table.is_live(edge)) {
+            let Some(weight) = weight_by(measure, table, edge, &best) else { continue };
+            let head = &mut best[table.heads[edge] as usize];
+            if head.is_none_or(|known| weight < known) {
+                *head = Some(weight);
+                changed = true;
+            }
+        }
+        if !changed {
+            return best;
+        }
+    }
+}
+
+/// The live hyperedges that give their head its best weight, ascending.
+pub fn tight_edges(measure: u64, table: &Table, weights: &[Option<u64>]) -> Vec<usize> {
+    let is_tight = |edge: &usize| {
+        let weight = weight_by(measure, table, *edge, weights);
+        table.is_live(*edge) && weight.is_some() && weight == weights[table.heads[*edge] as usize]
+    };
+    (0..table.edges()).filter(is_tight).collect()
+}
+
+fn depth_by(table: &Table, edge: usize, depths: &[Option<u64>]) -> Option<u64> {
+    let mut deepest = 0;
+    for &vertex in table.tail(edge) {
+        deepest = deepest.max(depths[vertex as usize]?);
+    }
+    Some(deepest + 1)
+}
+
+fn least_depths(table: &Table, tight: &[usize]) -> Vec<Option<u64>> {
+    let mut least: Vec<Option<u64>> = vec![None; table.n as usize];
+    loop {
+        let mut changed = false;
+        for &edge in tight {
+            let Some(depth) = depth_by(table, edge, &least) else { continue };
+            let head = &mut least[table.heads[edge] as usize];
+            if head.is_none_or(|known| depth < known) {
+                *head = Some(depth);
+                changed = true;
+            }
+        }
+        if !changed {
+            return least;
+        }
+    }
+}
+
+/// A refusal as the calls return it.
+pub fn refusal(number: u64, place: u64) -> u64 {
+    number * 4_294_967_296 + place
+}
+
+/// What checking the table must return: 0, or the first of the refusals 1 to 6.
+pub fn table_result(table: &Table) -> u64 {
+    let edges = table.heads.len();
+    if table.n > MOST_VERTICES {
+        return refusal(1, 0);
+    }
+    let agree = table.own.len() == edges && table.spans.len() == 2 * edges;
+    if !agree || edges > MOST_EDGES || table.tails.len() > MOST_TAILS {
+        return refusal(2, 0);
+    }
+    let mut end = 0;
+    for edge in 0..edges {
+        let offset = u128::from(table.spans[2 * edge]);
+        let length = u128::from(table.spans[2 * edge + 1]);
+        if let Some(number) = edge_fault(table, edge, end) {
+            return refusal(number, edge as u64);
+        }
+        end = offset + length;
+    }
+    0
+}
+
+/// The first of the refusals 3 to 6 that a hyperedge meets, where the span before ends at `end`.
+fn edge_fault(table: &Table, edge: usize, end: u128) -> Option<u64> {
+    if table.heads[edge] >= table.n {
+        return Some(3);
+    }
+    if table.own[edge] > STRUCK {
+        return Some(4);
+    }
+    // Wider than the columns' numbers, so that no sum can wrap.
+    let offset = u128::from(table.spans[2 * edge]);
+    let length = u128::from(table.spans[2 * edge + 1]);
+    let last = table.tails.len() as u128;
+    if offset < end || length > LONGEST_TAIL as u128 || offset + length > last {
+        return Some(5);
+    }
+    let outside = table.tail(edge).iter().any(|&vertex| vertex >= table.n);
+    outside.then_some(6)
+}
+
+/// What a call with a measure and answer columns must return before it looks at the answers.
+pub fn call_result(measure: u64, table: &Table, answers: &Labelling) -> u64 {
+    if !MEASURES.contains(&measure) {
+        return refusal(16, 0);
+    }
+    let result = table_result(table);
+    if result != 0 {
+        return result;
+    }
+    let fits = answers.lengths().iter().all(|&length| length as u64 == table.n);
+    if fits {
+        0
+    } else {
+        refusal(7, 0)
+    }
+}
