@@ -9,7 +9,7 @@ use native.Mathlib.Nat.{eq-or-lt-of-le}
 use native.Mathlib.Omega.{arith}
 use lib.ListN.{length, getD}
 use lib.Dec.{ltb}
-use borrow.Author.Tests.{ltb-true, leb-true, eqb-true, lt-ltb}
+use borrow.Author.Tests.{ltb-true, leb-true, eqb-true, lt-ltb, le-leb, eq-eqb}
 use Rattle.weights.specs.declared.Hyperedge.{Hyperedge}
 use Rattle.weights.specs.Figures.{struck}
 use Rattle.weights.specs.Choice.{both-true}
@@ -71,6 +71,10 @@ edge-accepted n e h o offset size end tails p =
       listed = t6 .0;
     }
 
+pub edge-accepts : {n h o offset size end : ℕ} {tails : List ℕ} (e : Hyperedge) → AcceptedEdge n h o offset size end tails → edgeAcceptance n e h o offset size end tails ≡ Accepted
+unfolding edgeAcceptance
+edge-accepts e g = rw (lt-ltb _ _ (g .head), le-leb _ _ (g .own), le-leb _ _ (g .from), le-leb _ _ (g .short), le-leb _ _ (g .within), g .listed)
+
 -- line e of the columns is accepted, where the span before it ends somewhere
 abbrev pub AcceptedAt : Columns → ℕ → Type 0
 AcceptedAt c e = (end : ℕ) × AcceptedEdge (c .vertices) (headAt c e) (ownAt c e) (offsetAt c e) (lengthAt c e) end (c .tails)
@@ -92,6 +96,7 @@ pub record AcceptedTable (c : Columns) : Type 0 where
   pub edges : length (c .heads) ≤ mostEdges
   pub spans : length (c .spans) ≡ 2 * length (c .heads)
   pub tails : length (c .tails) ≤ mostListed
+  pub rest : edgesAcceptance c (length (c .heads)) 0 0 ≡ Accepted
   pub each : (e : ℕ) → e < length (c .heads) → AcceptedAt c e
 
 pub table-accepted : (c : Columns) → acceptance c ≡ Accepted → AcceptedTable c
@@ -108,6 +113,7 @@ table-accepted c p =
       edges = leb-true _ _ (t3 .0);
       spans = eqb-true _ _ (t4 .0);
       tails = leb-true _ _ (t5 .0);
+      rest = t5 .1;
       each = λ e h. edges-accepted c (length (c .heads)) 0 0 (t5 .1) e (omega arith) (omega arith);
     }
 
@@ -127,3 +133,7 @@ columns-accepted c a p =
     let t2 = test-passed _ _ _ (t1 .1) in
     let t3 = test-passed _ _ _ (t2 .1) in
     record { table = t .0; sized = record { weights = eqb-true _ _ (t1 .0); depths = eqb-true _ _ (t2 .0); edges = eqb-true _ _ (t3 .0) } }
+
+pub columns-accept : (c : Columns) (a : Answers) → acceptance c ≡ Accepted → Sized (c .vertices) a → lentAcceptance c a ≡ Accepted
+unfolding lentAcceptance
+columns-accept c a p s = rw (p, eq-eqb _ _ (s .weights), eq-eqb _ _ (s .depths), eq-eqb _ _ (s .edges))

@@ -2,7 +2,7 @@
 use Prim.Native.Nat.{ℕ, _+_, _*_}
 use mathlib.Core.Bool.{not}
 use mathlib.Core.List.{List}
-use lib.ListN.{length, getD, take, drop}
+use lib.ListN.{length, getD, set, take, drop}
 use Rattle.weights.specs.Figures.{isStruck}
 use Rattle.provenance.specs.Hypergraph.{Hypergraph}
 use Rattle.provenance.specs.BestFirst.{Answers}
@@ -45,3 +45,7 @@ tailAt c e = part (offsetAt c e) (lengthAt c e) (c .tails)
 -- the table: gaps between spans are in no tail, and a line of the struck mark yields nothing
 abbrev pub hypergraph : Columns → Hypergraph
 hypergraph c = record { vertices = c .vertices; edges = length (c .heads); head = headAt c; tail = tailAt c; live = λ e. not (isStruck (ownAt c e)) }
+
+-- the same columns with the own figure w at line e
+abbrev pub withOwn : Columns → (e w : ℕ) → Columns
+withOwn c e w = columns (c .vertices) (c .heads) (set (c .own) e w) (c .spans) (c .tails)

@@ -2,3 +2,4 @@ pub mod Columns
 pub mod Acceptance
 pub mod Accepted
 pub mod Same
+pub mod Repriced

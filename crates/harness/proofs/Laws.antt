@@ -17,7 +17,8 @@ use Rattle.provenance.specs.BestFirst.{Answers}
 use Rattle.columns.specs.Columns.{Columns}
 use Rattle.settle.specs.Settling.{Outcome, settled}
 use Rattle.settle.specs.Checking.{checked}
-use Rattle.harness.specs.Results.{outcomeResult, settledResult, checkedResult, entryWritten}
+use Rattle.reprice.specs.Repricing.{Change, repriced, stricken}
+use Rattle.harness.specs.Results.{outcomeResult, settledResult, checkedResult, changeResult, repricedResult, strickenResult, entryWritten}
 
 module _ {o : MeasureChoice} (c : Columns) (a : Answers) {n : ℕ} where
   pub settled-refused : {r : Refusal} → o ≡ choice.Refused r → n ≡ resultOf (codeOf r) → record { result = n; left = a } ≡ settledResult o c a
@@ -31,6 +32,20 @@ module _ {o : MeasureChoice} (c : Columns) (a : Answers) {n : ℕ} where
 
   pub checked-measure : {m : Measure} {v : Verdict} → o ≡ choice.Measure m → n ≡ verdictResult v → v ≡ checked m c a → n ≡ checkedResult o c a
   checked-measure p q e = rw (p, q) (ap verdictResult e)
+
+  -- the same of a change of line e
+  module _ (e : ℕ) where
+    pub repriced-refused : (w : ℕ) {r : Refusal} → o ≡ choice.Refused r → n ≡ resultOf (codeOf r) → record { result = n; own = c .own; left = a } ≡ repricedResult o c a e w
+    repriced-refused w p q = rw (p, q)
+
+    pub repriced-measure : (w : ℕ) {m : Measure} {x : Answer} {os : List ℕ} {b : Answers} → o ≡ choice.Measure m → n ≡ answerResult x → record { result = x; own = os; left = b } ≡ repriced m c a e w → record { result = n; own = os; left = b } ≡ repricedResult o c a e w
+    repriced-measure w p q k = rw (p, q) (ap changeResult k)
+
+    pub stricken-refused : {r : Refusal} → o ≡ choice.Refused r → n ≡ resultOf (codeOf r) → record { result = n; own = c .own; left = a } ≡ strickenResult o c a e
+    stricken-refused p q = rw (p, q)
+
+    pub stricken-measure : {m : Measure} {x : Answer} {os : List ℕ} {b : Answers} → o ≡ choice.Measure m → n ≡ answerResult x → record { result = x; own = os; left = b } ≡ stricken m c a e → record { result = n; own = os; left = b } ≡ strickenResult o c a e
+    stricken-measure p q k = rw (p, q) (ap changeResult k)
 
 three : (xs : List ℕ) (w d e : ℕ) → length xs ≡ 3 → set (set (set xs 0 w) 1 d) 2 e ≡ w ∷ d ∷ e ∷ []
 three [] w d e h = absurd (omega arith)

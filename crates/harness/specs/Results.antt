@@ -14,6 +14,7 @@ use Rattle.provenance.specs.BestFirst.{Answers}
 use Rattle.columns.specs.Columns.{Columns}
 use Rattle.settle.specs.Settling.{Outcome, settled}
 use Rattle.settle.specs.Checking.{checked}
+use Rattle.reprice.specs.Repricing.{Change, repriced, stricken}
 
 -- a number, and the answer columns
 pub record Left : Type 0 where
@@ -31,6 +32,23 @@ settledResult (Measure m) c a = outcomeResult (settled m c a)
 abbrev pub checkedResult : MeasureChoice → Columns → Answers → ℕ
 checkedResult (Refused r) c a = resultOf (codeOf r)
 checkedResult (Measure m) c a = verdictResult (checked m c a)
+
+-- a number, the own figures, and the answer columns
+pub record LeftOwn : Type 0 where
+  pub result : ℕ
+  pub own : List ℕ
+  pub left : Answers
+
+abbrev pub changeResult : Change → LeftOwn
+changeResult x = record { result = answerResult (x .result); own = x .own; left = x .left }
+
+abbrev pub repricedResult : MeasureChoice → Columns → Answers → (e w : ℕ) → LeftOwn
+repricedResult (Refused r) c a e w = record { result = resultOf (codeOf r); own = c .own; left = a }
+repricedResult (Measure m) c a e w = changeResult (repriced m c a e w)
+
+abbrev pub strickenResult : MeasureChoice → Columns → Answers → ℕ → LeftOwn
+strickenResult (Refused r) c a e = record { result = resultOf (codeOf r); own = c .own; left = a }
+strickenResult (Measure m) c a e = changeResult (stricken m c a e)
 
 abbrev pub stateNumber : State → ℕ
 stateNumber Made = 0

@@ -1,14 +1,16 @@
 // The calls, exported for the tests alone. Each gives one number, as a caller in C gets it.
 use refusal::MeasureChoice;
+use weights::Hyperedge;
 use weights::State;
 use weights::Vertex;
+use weights::Weight;
 ghost use mathlib.Core.Path.{_≡_};
 ghost use Rattle.weights.specs.Labels.{entryOf};
 ghost use Rattle.refusal.specs.Refusals.{answerResult, measureOf};
 ghost use Rattle.provenance.specs.BestFirst.{labels};
 ghost use Rattle.columns.specs.Columns.{columns, answers};
 ghost use Rattle.columns.specs.Acceptance.{acceptance};
-ghost use Rattle.harness.specs.Results.{settledResult, checkedResult, stateNumber, entryWritten};
+ghost use Rattle.harness.specs.Results.{settledResult, checkedResult, repricedResult, strickenResult, stateNumber, entryWritten};
 
 #[no_mangle]
 pub extern "C" fn harness_check_table(
@@ -68,6 +70,80 @@ pub extern "C" fn harness_check_answers(
         MeasureChoice::Measure(m) => {
             let v = settle::check_answers(m, n, heads, own, spans, tails, weights, depths, edges);
             return v.result();
+        }
+    }
+}
+
+#[no_mangle]
+pub extern "C" fn harness_reprice(
+    measure: u64,
+    n: u64,
+    heads: &[u64],
+    own: &mut [u64],
+    spans: &[u64],
+    tails: &[u64],
+    weights: &mut [u64],
+    depths: &mut [u64],
+    edges: &mut [u64],
+    line: u64,
+    figure: u64,
+) -> u64
+    ensures { λ r. ⌜ record { result = r; own = now (own .exit); left = answers (now (weights .exit)) (now (depths .exit)) (now (edges .exit)) } ≡ repricedResult (measureOf measure) (columns n (now (heads .entry)) (now (own .entry)) (now (spans .entry)) (now (tails .entry))) (answers (now (weights .entry)) (now (depths .entry)) (now (edges .entry))) line figure ⌝ }
+{
+    let choice = refusal::measure_numbered(measure);
+    match choice {
+        MeasureChoice::Refused(r) => return r.result(),
+        MeasureChoice::Measure(m) => {
+            let a = reprice::reprice(
+                m,
+                n,
+                heads,
+                own,
+                spans,
+                tails,
+                weights,
+                depths,
+                edges,
+                Hyperedge(line),
+                Weight(figure),
+            );
+            return a.result();
+        }
+    }
+}
+
+#[no_mangle]
+pub extern "C" fn harness_strike(
+    measure: u64,
+    n: u64,
+    heads: &[u64],
+    own: &mut [u64],
+    spans: &[u64],
+    tails: &[u64],
+    weights: &mut [u64],
+    depths: &mut [u64],
+    edges: &mut [u64],
+    line: u64,
+) -> u64
+    ensures { λ r. ⌜ record { result = r; own = now (own .exit); left = answers (now (weights .exit)) (now (depths .exit)) (now (edges .exit)) } ≡ strickenResult (measureOf measure) (columns n (now (heads .entry)) (now (own .entry)) (now (spans .entry)) (now (tails .entry))) (answers (now (weights .entry)) (now (depths .entry)) (now (edges .entry))) line ⌝ }
+{
+    let choice = refusal::measure_numbered(measure);
+    match choice {
+        MeasureChoice::Refused(r) => return r.result(),
+        MeasureChoice::Measure(m) => {
+            let a = reprice::strike(
+                m,
+                n,
+                heads,
+                own,
+                spans,
+                tails,
+                weights,
+                depths,
+                edges,
+                Hyperedge(line),
+            );
+            return a.result();
         }
     }
 }

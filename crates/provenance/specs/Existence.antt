@@ -12,7 +12,7 @@ use Rattle.weights.specs.declared.Label.{Label}
 use Rattle.weights.specs.declared.Offer.{Offer}
 use Rattle.weights.specs.Measures.{Algebra, weigh}
 use Rattle.weights.specs.Labels.{label, unmade}
-use Rattle.weights.specs.Laws.{Lawful}
+use Rattle.weights.specs.Laws.{Within, Lawful}
 use Rattle.weights.specs.Weighing.{superior, weigh-within}
 use Rattle.weights.specs.Order.{Ahead, ahead-refl, ahead-trans}
 use Rattle.provenance.specs.Hypergraph.{Hypergraph, Stands, WellFormed}
@@ -300,3 +300,9 @@ module _ {A : Algebra} (L : Lawful A) {H : Hypergraph} (own : ℕ → ℕ) (wf :
       let q : a .depths ≡ b .depths = ext-getD 0 (a .depths) (b .depths) (s .depths ∙ sym (t .depths)) (λ v _. ap (λ (l : Label). l .depth) (u v)) in
       let r : a .edges ≡ b .edges = ext-getD 0 (a .edges) (b .edges) (s .edges ∙ sym (t .edges)) (λ v _. ap (λ (l : Label). l .edge .0) (u v)) in
       λ i. record { weights = p i; depths = q i; edges = r i }
+
+-- a made label's weight is in range
+pub label-within : {A : Algebra} (L : Lawful A) {H : Hypergraph} {own : ℕ → ℕ} {ls : ℕ → Label} → Fixpoint A H own ls → (v : ℕ) → Made (ls v) → Within A (ls v .weight .0)
+label-within {A} L {H} {own} {ls} fix v k =
+    let e = ls v .edge .0 in
+    subst (λ (w : ℕ). Within A w) (sym (ap (λ (l : Label). l .weight .0) (fix .chosen v k .given))) (weigh-within L (own e) (tail-weights ls (H .tail e)))

@@ -52,7 +52,7 @@ upward = record {
   total = λ a b e. least (omega (arith, leb-false a b e));
 }
 
-below-over : {a : ℕ} → Within cost a → a ≤ over
+pub below-over : {a : ℕ} → Within cost a → a ≤ over
 below-over {a} p = leb-true a over (p .holds)
 
 within-cost : {a : ℕ} → a ≤ over → Within cost a

@@ -1,0 +1,3 @@
+pub mod Repricing
+pub mod Storing
+pub mod Demand3

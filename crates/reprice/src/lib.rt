@@ -1,0 +1,175 @@
+// Repricing and striking a line. Everything is checked before anything lent is written; then the
+// figure is stored and the table is settled anew.
+use refusal::Answer;
+use refusal::Refusal;
+use refusal::Verdict;
+use weights::Hyperedge;
+use weights::Measure;
+use weights::Weight;
+ghost use mathlib.Core.Path.{_≡_};
+ghost use Rattle.refusal.specs.declared.Answer.the-variants.{Accepted};
+ghost use Rattle.columns.specs.Columns.{columns, answers};
+ghost use Rattle.columns.specs.Acceptance.{andThen, lentAcceptance};
+ghost use Rattle.reprice.specs.Repricing.{lineAcceptance, answersAcceptance, changed, repriced, stricken};
+ghost use Rattle.reprice.specs.Storing.{Storable};
+
+// Whether table, answer columns and line are accepted: 1 to 6, 7, 9.
+fn check_line(
+    n: u64,
+    heads: &[u64],
+    own: &[u64],
+    spans: &[u64],
+    tails: &[u64],
+    weights: &[u64],
+    depths: &[u64],
+    edges: &[u64],
+    line: Hyperedge,
+) -> Answer
+    ensures { λ r. ⌜ r ≡ lineAcceptance (columns n (now (heads .entry)) (now (own .entry)) (now (spans .entry)) (now (tails .entry))) (answers (now (weights .entry)) (now (depths .entry)) (now (edges .entry))) (line .0) ⌝ }
+{
+    let a = columns::check_lent(n, heads, own, spans, tails, weights, depths, edges);
+    match a {
+        Answer::Refused(r) => return Answer::Refused(r),
+        Answer::Accepted => {}
+    }
+    if line.0 >= heads.len() as u64 {
+        return Answer::Refused(Refusal::NoSuchEdge);
+    }
+    let i = line.0 as usize;
+    let figure = own[i];
+    let weight = Weight(figure);
+    if weight.is_struck() {
+        return Answer::Refused(Refusal::NoSuchEdge);
+    }
+    Answer::Accepted
+}
+
+// Whether the lent answers are this table's: 8, after 1 to 7.
+fn check_right(
+    measure: Measure,
+    n: u64,
+    heads: &[u64],
+    own: &[u64],
+    spans: &[u64],
+    tails: &[u64],
+    weights: &[u64],
+    depths: &[u64],
+    edges: &[u64],
+) -> Answer
+    ensures { λ r. ⌜ r ≡ andThen (lentAcceptance (columns n (now (heads .entry)) (now (own .entry)) (now (spans .entry)) (now (tails .entry))) (answers (now (weights .entry)) (now (depths .entry)) (now (edges .entry)))) (answersAcceptance measure (columns n (now (heads .entry)) (now (own .entry)) (now (spans .entry)) (now (tails .entry))) (answers (now (weights .entry)) (now (depths .entry)) (now (edges .entry)))) ⌝ }
+{
+    let v = settle::check_answers(measure, n, heads, own, spans, tails, weights, depths, edges);
+    match v {
+        Verdict::Yes => Answer::Accepted,
+        Verdict::No => Answer::Refused(Refusal::WrongAnswers),
+        Verdict::Refused(r) => Answer::Refused(r),
+    }
+}
+
+// The figure is stored, and the table settled.
+fn store(
+    measure: Measure,
+    n: u64,
+    heads: &[u64],
+    own: &mut [u64],
+    spans: &[u64],
+    tails: &[u64],
+    weights: &mut [u64],
+    depths: &mut [u64],
+    edges: &mut [u64],
+    line: Hyperedge,
+    figure: Weight,
+) -> Answer
+    requires { ⌜ Storable (columns n (now heads) (now own) (now spans) (now tails)) (answers (now weights) (now depths) (now edges)) (line .0) (figure .0) ⌝ }
+    ensures { λ r. ⌜ record { result = r; own = now (own .exit); left = answers (now (weights .exit)) (now (depths .exit)) (now (edges .exit)) } ≡ changed measure (columns n (now (heads .entry)) (now (own .entry)) (now (spans .entry)) (now (tails .entry))) (answers (now (weights .entry)) (now (depths .entry)) (now (edges .entry))) (line .0) (figure .0) Accepted ⌝ }
+{
+    let i = line.0 as usize;
+    own[i] = figure.0;
+    settle::settle(measure, n, heads, own, spans, tails, weights, depths, edges)
+}
+
+// The line's own figure becomes this one, and the answers those of the table as it then is; or a
+// refusal, and nothing has changed.
+pub fn reprice(
+    measure: Measure,
+    n: u64,
+    heads: &[u64],
+    own: &mut [u64],
+    spans: &[u64],
+    tails: &[u64],
+    weights: &mut [u64],
+    depths: &mut [u64],
+    edges: &mut [u64],
+    line: Hyperedge,
+    figure: Weight,
+) -> Answer
+    ensures { λ r. ⌜ record { result = r; own = now (own .exit); left = answers (now (weights .exit)) (now (depths .exit)) (now (edges .exit)) } ≡ repriced measure (columns n (now (heads .entry)) (now (own .entry)) (now (spans .entry)) (now (tails .entry))) (answers (now (weights .entry)) (now (depths .entry)) (now (edges .entry))) (line .0) (figure .0) ⌝ }
+{
+    let a = check_line(n, heads, own, spans, tails, weights, depths, edges, line);
+    match a {
+        Answer::Refused(r) => return Answer::Refused(r),
+        Answer::Accepted => {}
+    }
+    if figure.0 > Weight::GREATEST.0 {
+        return Answer::Refused(Refusal::NewWeight);
+    }
+    let b = check_right(measure, n, heads, own, spans, tails, weights, depths, edges);
+    match b {
+        Answer::Refused(r) => return Answer::Refused(r),
+        Answer::Accepted => {}
+    }
+    store(
+        measure,
+        n,
+        heads,
+        own,
+        spans,
+        tails,
+        weights,
+        depths,
+        edges,
+        line,
+        figure,
+    )
+}
+
+// The line is struck, and the answers become those of the table as it then is; or a refusal, and
+// nothing has changed.
+pub fn strike(
+    measure: Measure,
+    n: u64,
+    heads: &[u64],
+    own: &mut [u64],
+    spans: &[u64],
+    tails: &[u64],
+    weights: &mut [u64],
+    depths: &mut [u64],
+    edges: &mut [u64],
+    line: Hyperedge,
+) -> Answer
+    ensures { λ r. ⌜ record { result = r; own = now (own .exit); left = answers (now (weights .exit)) (now (depths .exit)) (now (edges .exit)) } ≡ stricken measure (columns n (now (heads .entry)) (now (own .entry)) (now (spans .entry)) (now (tails .entry))) (answers (now (weights .entry)) (now (depths .entry)) (now (edges .entry))) (line .0) ⌝ }
+{
+    let a = check_line(n, heads, own, spans, tails, weights, depths, edges, line);
+    match a {
+        Answer::Refused(r) => return Answer::Refused(r),
+        Answer::Accepted => {}
+    }
+    let b = check_right(measure, n, heads, own, spans, tails, weights, depths, edges);
+    match b {
+        Answer::Refused(r) => return Answer::Refused(r),
+        Answer::Accepted => {}
+    }
+    store(
+        measure,
+        n,
+        heads,
+        own,
+        spans,
+        tails,
+        weights,
+        depths,
+        edges,
+        line,
+        Weight::STRUCK,
+    )
+}
