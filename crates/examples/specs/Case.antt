@@ -3,22 +3,22 @@
 use Prim.Native.Nat.{ℕ, zero, suc, _+_, _-_, _*_}
 use mathlib.Core.Bool.{Bool, true, false}
 use mathlib.Core.List.{List, [], _∷_}
-use lib.ListN.{getD, set, length}
+use lib.ListN.{length}
 use lib.Dec.{eqb, leb}
 use Rattle.weights.specs.declared.Measure.{Measure}
 use Rattle.weights.specs.declared.State.{State}
 use Rattle.weights.specs.declared.State.the-variants.{Made, Over, Unmade}
-use Rattle.weights.specs.Measures.{algebra}
 use Rattle.weights.specs.Choice.{pick}
 use Rattle.weights.specs.Labels.{stateOf}
 use Rattle.refusal.specs.declared.Answer.{Answer}
 use Rattle.refusal.specs.declared.Answer.the-variants.{Accepted, Refused}
-use Rattle.provenance.specs.BestFirst.{Answers, labels, best-first}
+use Rattle.provenance.specs.BestFirst.{Answers, labels}
 use Rattle.provenance.specs.Support.{bill}
 use Rattle.provenance.specs.Counting.{count}
-use Rattle.columns.specs.Columns.{Columns, columns, ownAt, hypergraph}
+use Rattle.columns.specs.Columns.{Columns, ownAt, withOwn, hypergraph}
 use Rattle.columns.specs.Acceptance.{acceptance}
 use Rattle.columns.specs.Same.{equal, same}
+use Rattle.settle.specs.Settling.{answersOf}
 
 -- nothing is changed, or the own figure of a line is
 pub data Change : Type 0 where
@@ -49,11 +49,7 @@ pub record Case : Type 0 where
 -- the table after the change
 abbrev pub changed : Columns → Change → Columns
 changed c unchanged = c
-changed c (figure e w) = columns (c .vertices) (c .heads) (set (c .own) e w) (c .spans) (c .tails)
-
--- the answers of a table
-abbrev pub answersOf : Measure → Columns → Answers
-answersOf m c = best-first (algebra m) (hypergraph c) (ownAt c)
+changed c (figure e w) = withOwn c e w
 
 -- the bill of a part by these answers
 abbrev pub billOf : Columns → Answers → ℕ → List ℕ
