@@ -25,7 +25,7 @@ use Rattle.columns.specs.Acceptance.{mostVertices, mostEdges, mostListed
 pub refused : {r : Refusal} → Refused r ≡ Accepted → ⊥
 refused e = let z : _≡_ {A = ℕ} 0 1 = cc in omega arith
 
-test-passed : (b : Bool) (r : Refusal) (a : Answer) → test b r a ≡ Accepted → (b ≡ true) × (a ≡ Accepted)
+pub test-passed : (b : Bool) (r : Refusal) (a : Answer) → test b r a ≡ Accepted → (b ≡ true) × (a ≡ Accepted)
 test-passed true r a e = (refl, e)
 test-passed false r a e = absurd (refused e)
 

@@ -1,0 +1,49 @@
+-- Printing a bill: the bill of a part, the refusals of the call in the paper's order, and its outcome. The paper's "The calls" and "What is turned away".
+-- Assumes nothing: these are definitions.
+use mathlib.Core.List.{List, _++_}
+use Prim.Native.Nat.{ℕ}
+use lib.ListN.{length, drop}
+use lib.Dec.{ltb, leb}
+use Rattle.weights.specs.declared.Measure.{Measure}
+use Rattle.refusal.specs.declared.Refusal.the-variants.{NoSuchVertex, WrongAnswers, Underivable, BillRoom}
+use Rattle.refusal.specs.declared.Answer.{Answer}
+use Rattle.refusal.specs.declared.Answer.the-variants as answer
+use Rattle.refusal.specs.declared.Extent.{Extent}
+use Rattle.refusal.specs.declared.Extent.the-variants.{Length, Refused}
+use Rattle.provenance.specs.BestFirst.{Answers, labels}
+use Rattle.provenance.specs.Support.{bill}
+use Rattle.columns.specs.Columns.{Columns, hypergraph}
+use Rattle.columns.specs.Acceptance.{test, andThen, lentAcceptance}
+use Rattle.columns.specs.Same.{same}
+use Rattle.settle.specs.Settling.{answersOf}
+
+-- the bill of part v: the lines of its chosen make-up, as the answers tell it
+unfoldable pub billOf : Columns → Answers → (v : ℕ) → List ℕ
+billOf c a v = bill (hypergraph c) (labels a) (labels a v .depth) v
+
+-- the table, the answers and the part: 1 to 7, then 11, 8 and 12
+unfoldable pub partAcceptance : Measure → Columns → Answers → (v : ℕ) → Answer
+partAcceptance m c a v =
+    andThen (lentAcceptance c a)
+    (test (ltb v (c .vertices)) NoSuchVertex
+    (test (same a (answersOf m c)) WrongAnswers
+    (test (ltb 0 (labels a v .depth)) Underivable
+    answer.Accepted)))
+
+-- then 13: the bill is longer than the room
+unfoldable pub billAcceptance : Measure → Columns → Answers → (v places : ℕ) → Answer
+billAcceptance m c a v places = andThen (partAcceptance m c a v) (test (leb (length (billOf c a v)) places) BillRoom answer.Accepted)
+
+-- what the call returns, and the room as it leaves it
+pub record Outcome : Type 0 where
+  pub result : Extent
+  pub left : List ℕ
+
+-- on acceptance the bill's length, and the bill with the room's old content behind it; on a refusal the room as it came
+abbrev pub outcome : Answer → (bill room : List ℕ) → Outcome
+outcome answer.Accepted bill room = record { result = Length (length bill); left = bill ++ drop (length bill) room }
+outcome (answer.Refused r) bill room = record { result = Refused r; left = room }
+
+-- printing the bill of v, from the columns, the answers and the room at entry
+unfoldable pub billed : Measure → Columns → Answers → (v : ℕ) → List ℕ → Outcome
+billed m c a v room = outcome (billAcceptance m c a v (length room)) (billOf c a v) room

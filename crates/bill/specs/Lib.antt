@@ -1,0 +1,4 @@
+pub mod Walk
+pub mod Billing
+pub mod Listing
+pub mod Bills

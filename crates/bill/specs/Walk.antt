@@ -1,0 +1,72 @@
+-- What the walks of a bill read and write: the lists of the lines and the chosen line of each part, as three columns hold them; what must hold of them; a room
+-- that is written from a place on; a budget. Assumes nothing: these are definitions.
+use mathlib.Core.Path.{_≡_}
+use mathlib.Core.List.{List, [], _∷_, _++_}
+use Prim.Native.Nat.{ℕ, zero, suc, _+_, _-_, _*_, _≤_, _<_}
+use lib.ListN.{length, take, drop}
+use lib.Dec.{leb}
+use Rattle.weights.specs.declared.Label.{Label}
+use Rattle.weights.specs.Choice.{pick}
+use Rattle.provenance.specs.Hypergraph.{Hypergraph}
+use Rattle.provenance.specs.BestFirst.{labels}
+use Rattle.provenance.specs.Support.{bills, bill}
+use Rattle.columns.specs.Columns.{columns, answers, hypergraph}
+use Rattle.columns.specs.Acceptance.{longestTail}
+use Rattle.settle.specs.Lent.{cell, tailOf}
+use Rattle.bill.specs.declared.Budget.{Budget}
+use Rattle.bill.specs.declared.Budget.the-variants.{Left, Spent}
+
+-- of a table and its answers, what a bill reads: the lists of the lines, and the chosen line of each part
+abbrev pub lists : (spans tails : List ℕ) → Hypergraph
+lists spans tails = hypergraph (columns 0 [] [] spans tails)
+
+abbrev pub choices : (edges : List ℕ) → ℕ → Label
+choices edges = labels (answers [] [] edges)
+
+-- the bill of a part whose chosen make-up is at most `depth` deep, and the bills of a list of such parts
+abbrev pub vertexBill : (spans tails edges : List ℕ) → (depth v : ℕ) → List ℕ
+vertexBill spans tails edges depth = bill (lists spans tails) (choices edges) depth
+
+abbrev pub tailBill : (spans tails edges : List ℕ) → (depth : ℕ) → List ℕ → List ℕ
+tailBill spans tails edges depth vs = bills (vertexBill spans tails edges depth) vs
+
+-- line e has its span, which is short, and the span its places
+pub record Placed (spans tails : List ℕ) (e : ℕ) : Type 0 where
+  pub span : 2 * e + 1 < length spans
+  pub short : cell spans (2 * e + 1) ≤ longestTail
+  pub within : cell spans (2 * e) + cell spans (2 * e + 1) ≤ length tails
+
+-- P holds of every number of a list
+unfoldable pub Each : (ℕ → Type 0) → List ℕ → Type 0
+Each P [] = Unit {0}
+Each P (v ∷ vs) = P v × Each P vs
+
+-- the chosen make-up of v is at most `depth` deep, and every line of it has its place
+unfoldable pub Grounded : (spans tails edges : List ℕ) → (depth v : ℕ) → Type 0
+Grounded spans tails edges zero v = ⊥
+Grounded spans tails edges (suc depth) v = (v < length edges) × Placed spans tails (cell edges v) × Each (Grounded spans tails edges depth) (tailOf spans tails (cell edges v))
+
+abbrev pub AllGrounded : (spans tails edges : List ℕ) → (depth : ℕ) → List ℕ → Type 0
+AllGrounded spans tails edges depth = Each (Grounded spans tails edges depth)
+
+-- a room with `new` written over it from its start
+abbrev pub written : (new room : List ℕ) → List ℕ
+written new room = new ++ drop (length new) room
+
+-- what writing the bill of v asks, and the bills of a tail: they are grounded, and the room holds them from a place on
+pub record VertexFits (spans tails edges : List ℕ) (depth v : ℕ) (room : List ℕ) : Type 0 where
+  pub grounded : Grounded spans tails edges depth v
+  pub fits : length (vertexBill spans tails edges depth v) ≤ length room
+
+pub record TailFits (spans tails edges : List ℕ) (depth : ℕ) (tail : List ℕ) (filled : ℕ) (room : List ℕ) : Type 0 where
+  pub grounded : AllGrounded spans tails edges depth tail
+  pub fits : filled + length (tailBill spans tails edges depth tail) ≤ length room
+
+-- after `new` was written from a place on, the room is filled to `to`, and `left` is its content
+pub record Written (from : ℕ) (new room : List ℕ) (to : ℕ) (left : List ℕ) : Type 0 where
+  pub filled : to ≡ from + length new
+  pub content : left ≡ take from room ++ written new (drop from room)
+
+-- what is left of a budget after so many lines
+abbrev pub spend : (budget lines : ℕ) → Budget
+spend budget lines = pick (leb lines budget) (Left (budget - lines)) Spent

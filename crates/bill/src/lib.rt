@@ -1,0 +1,213 @@
+// Printing the bill of a vertex: the hyperedges of its chosen derivation, root first, then the bill
+// of each vertex of the root's tail, in order.
+use refusal::Answer;
+use refusal::Extent;
+use refusal::Refusal;
+use refusal::Verdict;
+use weights::Hyperedge;
+use weights::Measure;
+use weights::Vertex;
+ghost use mathlib.Core.Path.{_≡_};
+ghost use lib.ListN.{length};
+ghost use Rattle.columns.specs.Columns.{columns, answers};
+ghost use Rattle.settle.specs.Lent.{tailOf};
+ghost use Rattle.bill.specs.Billing.{partAcceptance, billed};
+ghost use Rattle.bill.specs.Walk.{vertexBill, tailBill, Placed, Grounded, AllGrounded, VertexFits, TailFits, Written, spend};
+
+// What is left of the room that a bill may take.
+enum Budget {
+    Left(usize),
+    Spent,
+}
+
+// The tail of a hyperedge.
+fn tail_of<'a>(e: Hyperedge, spans: &[u64], tails: &'a [u64]) -> &'a [u64]
+    requires { ⌜ Placed (now spans) (now tails) (e .0) ⌝ }
+    ensures { λ r. ⌜ now r ≡ tailOf (now (spans .entry)) (now (tails .entry)) (e .0) ⌝ }
+{
+    let i = e.0 as usize;
+    let from = spans[2 * i] as usize;
+    let to = from + spans[2 * i + 1] as usize;
+    &tails[from..to]
+}
+
+// What the bill of v leaves of a budget. It is at most `depth` deep, and no more of it is looked at
+// than the budget pays for.
+fn vertex_spend(
+    depth: u64,
+    v: Vertex,
+    spans: &[u64],
+    tails: &[u64],
+    edges: &[u64],
+    budget: usize,
+) -> Budget
+    requires { ⌜ Grounded (now spans) (now tails) (now edges) depth (v .0) ⌝ }
+    ensures { λ r. ⌜ r ≡ spend budget (length (vertexBill (now (spans .entry)) (now (tails .entry)) (now (edges .entry)) depth (v .0))) ⌝ }
+{
+    if budget == 0 {
+        return Budget::Spent;
+    }
+    let i = v.0 as usize;
+    let root = edges[i];
+    let tail = tail_of(Hyperedge(root), spans, tails);
+    tail_spend(depth - 1, tail, spans, tails, edges, budget - 1)
+}
+
+// The same for the bills of the vertices of a tail.
+fn tail_spend(
+    depth: u64,
+    tail: &[u64],
+    spans: &[u64],
+    tails: &[u64],
+    edges: &[u64],
+    budget: usize,
+) -> Budget
+    requires { ⌜ AllGrounded (now spans) (now tails) (now edges) depth (now tail) ⌝ }
+    ensures { λ r. ⌜ r ≡ spend budget (length (tailBill (now (spans .entry)) (now (tails .entry)) (now (edges .entry)) depth (now (tail .entry)))) ⌝ }
+{
+    if tail.len() == 0 {
+        return Budget::Left(budget);
+    }
+    let v = tail[0];
+    let b = vertex_spend(depth, Vertex(v), spans, tails, edges, budget);
+    let Budget::Left(rest) = b else {
+        return Budget::Spent;
+    };
+    tail_spend(depth, &tail[1..], spans, tails, edges, rest)
+}
+
+// Writes the bill of v, which is at most `depth` deep, from the start of a room that holds it, and
+// gives its length.
+fn vertex_bill(
+    depth: u64,
+    v: Vertex,
+    spans: &[u64],
+    tails: &[u64],
+    edges: &[u64],
+    room: &mut [u64],
+) -> usize
+    requires { ⌜ VertexFits (now spans) (now tails) (now edges) depth (v .0) (now room) ⌝ }
+    ensures { λ r. ⌜ Written 0 (vertexBill (now (spans .entry)) (now (tails .entry)) (now (edges .entry)) depth (v .0)) (now (room .entry)) r (now (room .exit)) ⌝ }
+{
+    let i = v.0 as usize;
+    let root = edges[i];
+    room[0] = root;
+    let tail = tail_of(Hyperedge(root), spans, tails);
+    tail_bill(depth - 1, tail, spans, tails, edges, room, 1)
+}
+
+// The same for the bills of the vertices of a tail, one behind the other, in a room that is filled
+// so far; gives how far it is filled then.
+fn tail_bill(
+    depth: u64,
+    tail: &[u64],
+    spans: &[u64],
+    tails: &[u64],
+    edges: &[u64],
+    room: &mut [u64],
+    filled: usize,
+) -> usize
+    requires { ⌜ TailFits (now spans) (now tails) (now edges) depth (now tail) filled (now room) ⌝ }
+    ensures { λ r. ⌜ Written filled (tailBill (now (spans .entry)) (now (tails .entry)) (now (edges .entry)) depth (now (tail .entry))) (now (room .entry)) r (now (room .exit)) ⌝ }
+{
+    if tail.len() == 0 {
+        return filled;
+    }
+    let v = tail[0];
+    let length = vertex_bill(depth, Vertex(v), spans, tails, edges, &mut room[filled..]);
+    tail_bill(
+        depth,
+        &tail[1..],
+        spans,
+        tails,
+        edges,
+        room,
+        filled + length,
+    )
+}
+
+// Whether the table, the answers and the part allow a bill: refusals 1 to 7, 11, 8 and 12.
+fn check_part(
+    measure: Measure,
+    n: u64,
+    heads: &[u64],
+    own: &[u64],
+    spans: &[u64],
+    tails: &[u64],
+    weights: &[u64],
+    depths: &[u64],
+    edges: &[u64],
+    part: Vertex,
+) -> Answer
+    ensures { λ r. ⌜ r ≡ partAcceptance measure (columns n (now (heads .entry)) (now (own .entry)) (now (spans .entry)) (now (tails .entry))) (answers (now (weights .entry)) (now (depths .entry)) (now (edges .entry))) (part .0) ⌝ }
+{
+    let verdict = settle::check_answers(
+        measure,
+        n,
+        heads,
+        own,
+        spans,
+        tails,
+        weights,
+        depths,
+        edges,
+    );
+    if let Verdict::Refused(r) = verdict {
+        return Answer::Refused(r);
+    }
+    if part.0 >= n {
+        return Answer::Refused(Refusal::NoSuchVertex);
+    }
+    if let Verdict::No = verdict {
+        return Answer::Refused(Refusal::WrongAnswers);
+    }
+    let i = part.0 as usize;
+    if depths[i] == 0 {
+        return Answer::Refused(Refusal::Underivable);
+    }
+    Answer::Accepted
+}
+
+// Prints the bill of a part from the start of the room, and gives its length. Nothing is written
+// before the whole bill is known to fit.
+pub fn bill(
+    measure: Measure,
+    n: u64,
+    heads: &[u64],
+    own: &[u64],
+    spans: &[u64],
+    tails: &[u64],
+    weights: &[u64],
+    depths: &[u64],
+    edges: &[u64],
+    part: Vertex,
+    room: &mut [u64],
+) -> Extent
+    ensures { λ r. ⌜ record { result = r; left = now (room .exit) } ≡ billed measure (columns n (now (heads .entry)) (now (own .entry)) (now (spans .entry)) (now (tails .entry))) (answers (now (weights .entry)) (now (depths .entry)) (now (edges .entry))) (part .0) (now (room .entry)) ⌝ }
+{
+    let a = check_part(
+        measure,
+        n,
+        heads,
+        own,
+        spans,
+        tails,
+        weights,
+        depths,
+        edges,
+        part,
+    );
+    match a {
+        Answer::Refused(r) => return Extent::Refused(r),
+        Answer::Accepted => {}
+    }
+    let i = part.0 as usize;
+    let depth = depths[i];
+    let budget = vertex_spend(depth, part, spans, tails, edges, room.len());
+    match budget {
+        Budget::Spent => return Extent::Refused(Refusal::BillRoom),
+        Budget::Left(_) => {}
+    }
+    let length = vertex_bill(depth, part, spans, tails, edges, room);
+    Extent::Length(length as u64)
+}
