@@ -13,12 +13,12 @@ use Rattle.weights.specs.Labels.{stateOf}
 use Rattle.refusal.specs.declared.Answer.{Answer}
 use Rattle.refusal.specs.declared.Answer.the-variants.{Accepted, Refused}
 use Rattle.provenance.specs.BestFirst.{Answers, labels}
-use Rattle.provenance.specs.Support.{bill}
 use Rattle.provenance.specs.Counting.{count}
-use Rattle.columns.specs.Columns.{Columns, ownAt, withOwn, hypergraph}
+use Rattle.columns.specs.Columns.{Columns, ownAt, withOwn}
 use Rattle.columns.specs.Acceptance.{acceptance}
 use Rattle.columns.specs.Same.{equal, same}
 use Rattle.settle.specs.Settling.{answersOf}
+use Rattle.bill.specs.Billing.{billOf}
 
 -- nothing is changed, or the own figure of a line is
 pub data Change : Type 0 where
@@ -50,10 +50,6 @@ pub record Case : Type 0 where
 abbrev pub changed : Columns → Change → Columns
 changed c unchanged = c
 changed c (figure e w) = withOwn c e w
-
--- the bill of a part by these answers
-abbrev pub billOf : Columns → Answers → ℕ → List ℕ
-billOf c a v = bill (hypergraph c) (labels a) (labels a v .depth) v
 
 abbrev both : Bool → Bool → Bool
 both a b = pick a b false

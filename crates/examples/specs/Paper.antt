@@ -16,6 +16,7 @@ use Rattle.columns.specs.Columns.{Columns, columns, answers}
 use Rattle.columns.specs.Same.{equal, same}
 use Rattle.columns.specs.Acceptance.{allBelow, edgeAcceptance, edgesAcceptance, acceptance}
 use Rattle.settle.specs.Settling.{answersOf}
+use Rattle.bill.specs.Billing.{billOf}
 use Rattle.examples.specs.Case.{Change, unchanged, figure, Bill, Rise, Case, statesAre, billsAre, risesAre, comesOut, passes, allPass}
 
 -- the table priced whole
@@ -129,5 +130,5 @@ cases =
     ∷ []
 
 pub every-case-passes : allPass cases ≡ true
-unfolding cases allPass passes answersOf comesOut same equal statesAre billsAre risesAre acceptance edgesAcceptance edgeAcceptance allBelow best-first turns turn next opening offerOf noneZero aheadOf weigh fold each greatest bill bills count
+unfolding cases allPass passes answersOf billOf comesOut same equal statesAre billsAre risesAre acceptance edgesAcceptance edgeAcceptance allBelow best-first turns turn next opening offerOf noneZero aheadOf weigh fold each greatest bill bills count
 every-case-passes = refl

@@ -19,7 +19,7 @@ use Rattle.refusal.specs.declared.Verdict.the-variants as verdict
 use Rattle.provenance.specs.BestFirst.{Answers}
 use Rattle.columns.specs.Columns.{Columns, ownAt, withOwn}
 use Rattle.columns.specs.Acceptance.{test, andThen, lentAcceptance}
-use Rattle.columns.specs.Accepted.{refused, both-accepted, columns-accepted, table-accepted}
+use Rattle.columns.specs.Accepted.{test-passed, both-accepted, columns-accepted, table-accepted}
 use Rattle.columns.specs.Repriced.{lent-kept}
 use Rattle.columns.specs.Same.{same}
 use Rattle.settle.specs.Settling.{Outcome, answersOf, settled}
@@ -46,17 +46,13 @@ right-is m c a p = ap answer-of p ∙ judged (lentAcceptance c a) (same a (answe
 
 -- an accepted line
 module _ (c : Columns) (a : Answers) (e : ℕ) (p : lineAcceptance c a e ≡ Accepted) where
-  tested : (b : Bool) → test b NoSuchEdge Accepted ≡ Accepted → b ≡ true
-  tested true q = refl
-  tested false q = absurd (refused q)
-
   pub line-lent : lentAcceptance c a ≡ Accepted
   unfolding lineAcceptance
   line-lent = both-accepted (lentAcceptance c a) _ p .0
 
   pub line-stands : stands c e ≡ true
   unfolding lineAcceptance
-  line-stands = tested (stands c e) (both-accepted (lentAcceptance c a) _ p .1)
+  line-stands = test-passed (stands c e) NoSuchEdge Accepted (both-accepted (lentAcceptance c a) _ p .1) .0
 
   pub storable : (w : ℕ) → w ≤ struck → Storable c a e w
   storable w h = record { accepted = line-lent; numbered = ltb-true _ _ (both-true {a = ltb e (length (c .heads))} {b = not (isStruck (ownAt c e))} line-stands .0); low = h }
