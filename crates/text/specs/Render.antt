@@ -1,0 +1,93 @@
+-- The bytes of a table: the whole meaning of the format; and which texts are permitted. The paper's "The text". Assumes nothing: these are definitions.
+use Prim.Native.Nat.{ℕ, zero, suc, _+_, _/_, _%_}
+use mathlib.Core.Path.{_≡_}
+use mathlib.Core.List.{List, [], _∷_, _++_}
+use mathlib.Core.Bool.{Bool, true, false}
+use lib.Dec.{ltb}
+use Rattle.weights.specs.declared.Measure.{Measure}
+use Rattle.weights.specs.declared.Measure.the-variants.{Cost, Days}
+use Rattle.weights.specs.Figures.{isStruck}
+use Rattle.weights.specs.Choice.{pick}
+use Rattle.refusal.specs.declared.Answer.the-variants.{Accepted}
+use Rattle.columns.specs.Columns.{Columns}
+use Rattle.columns.specs.Acceptance.{acceptance}
+use Rattle.text.specs.Tables.{Edge, Table, tableOf}
+
+-- Numbers: decimal without leading zeros -------------------------------------------------------------------------------------------------
+
+-- for n at most the first argument
+unfoldable pub digitsOn : ℕ → ℕ → List ℕ
+digitsOn zero n = (48 + n) ∷ []
+digitsOn (suc k) n =
+    let more = digitsOn k (n / 10) ++ (48 + n % 10) ∷ [] in
+    pick (ltb n 10) ((48 + n) ∷ []) more
+
+unfoldable pub digits : ℕ → List ℕ
+digits n = digitsOn n n
+
+-- The first line: `parts N`, or `parts N days` -------------------------------------------------------------------------------------------
+
+-- the measure that no word names, and the word of the other, with the space before it: the two names that another default would change
+abbrev pub default : Measure
+default = Cost
+
+unfoldable pub word : List ℕ
+word = 32 ∷ 100 ∷ 97 ∷ 121 ∷ 115 ∷ []
+
+abbrev pub other : Measure → Measure
+other Cost = Days
+other Days = Cost
+
+abbrev pub spoken : Measure
+spoken = other default
+
+abbrev pub same : Measure → Measure → Bool
+same Cost Cost = true
+same Cost Days = false
+same Days Cost = false
+same Days Days = true
+
+-- `parts `
+unfoldable pub opening : List ℕ
+opening = 112 ∷ 97 ∷ 114 ∷ 116 ∷ 115 ∷ 32 ∷ []
+
+-- the end of the first line
+unfoldable pub measureText : Measure → List ℕ
+measureText m = pick (same m default) (10 ∷ []) (word ++ 10 ∷ [])
+
+unfoldable pub header : ℕ → Measure → List ℕ
+header n m = (opening ++ digits n) ++ measureText m
+
+-- A line for each hyperedge: head, own figure, listed parts, single spaces between -------------------------------------------------------
+
+-- `-` if struck
+unfoldable pub ownText : ℕ → List ℕ
+ownText o = pick (isStruck o) (45 ∷ []) (digits o)
+
+unfoldable pub tailText : List ℕ → List ℕ
+tailText [] = []
+tailText (v ∷ vs) = (32 ∷ digits v) ++ tailText vs
+
+-- a line up to its LF
+unfoldable pub edgeText : Edge → List ℕ
+edgeText e = digits (e .head) ++ (32 ∷ ownText (e .own)) ++ tailText (e .tail)
+
+unfoldable pub edgesText : List Edge → List ℕ
+edgesText [] = []
+edgesText (e ∷ es) = (edgeText e ++ 10 ∷ []) ++ edgesText es
+
+-- The text ---------------------------------------------------------------------------------------------------------------------------------
+
+unfoldable pub tableText : Table → List ℕ
+tableText t = header (t .vertices) (t .measure) ++ edgesText (t .edges)
+
+-- the bytes of a table in columns: gaps are not seen
+abbrev pub render : Measure → Columns → List ℕ
+render m c = tableText (tableOf m c)
+
+-- a text is permitted if it is the rendering of an accepted table
+pub record Permitted (s : List ℕ) : Type 0 where
+  pub measure : Measure
+  pub table : Columns
+  pub accepted : acceptance table ≡ Accepted
+  pub same : s ≡ render measure table

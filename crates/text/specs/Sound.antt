@@ -1,0 +1,263 @@
+-- What was read is what the state shows, so a text that is read to its end is the text of the table that it gives, and that table is within the limits.
+-- Assumes nothing.
+use Prim.Native.Nat.{ℕ, zero, suc, _+_, _*_, _≤_, _<_}
+use mathlib.Core.Path.{_≡_, refl, sym, _∙_, ap, ap₂, subst}
+use mathlib.Core.List.{List, [], _∷_, _++_, append-assoc, append-nil}
+use mathlib.Core.Bool.{Bool, true, false}
+use native.Mathlib.Omega.{arith}
+use lib.ListN.{length, length-append}
+use lib.Seq.{append-snoc}
+use lib.Dec.{ltb, eqb}
+use borrow.Author.Tests.{ltb-true, eqb-true, ne-eqb}
+use Rattle.weights.specs.declared.Measure.{Measure}
+use Rattle.weights.specs.Figures.{struck}
+use Rattle.weights.specs.Choice.{pick}
+use Rattle.columns.specs.Acceptance.{mostVertices, mostEdges, mostListed, allBelow}
+use Rattle.text.specs.Tables.{Edge, edge, Table, total}
+use Rattle.text.specs.Render.{digits, default, spoken, word, opening, measureText, header, ownText, tailText, edgeText, edgesText, tableText}
+use Rattle.text.specs.Machine.{Place, Vertices, Head, Own, Listed, State, Spelling, First, Within, Failed, begun, withEdge, nextLine, mayList, limit, lineAt, digitOf, grown, instead, after, spell, ended, step, run, Parse, Whole, Wrong, finish, begin, parse}
+use Rattle.text.specs.Digits.{pick-by, digits-one, digits-more, digit-byte}
+use Rattle.text.specs.Rows.{EdgeFits, All, none, one, Fits, all-snoc, below-snoc, total-snoc}
+
+-- Texts of one more ----------------------------------------------------------------------------------------------------------------------
+
+edges-text-append : (es fs : List Edge) → edgesText (es ++ fs) ≡ edgesText es ++ edgesText fs
+unfolding edgesText
+edges-text-append [] fs = refl
+edges-text-append (e ∷ es) fs = rw (edges-text-append es fs, append-assoc (edgeText e ++ 10 ∷ []) (edgesText es) (edgesText fs))
+
+pub tail-text-append : (vs us : List ℕ) → tailText (vs ++ us) ≡ tailText vs ++ tailText us
+unfolding tailText
+tail-text-append [] us = refl
+tail-text-append (v ∷ vs) us = ap (λ (l : List ℕ). 32 ∷ (digits v ++ l)) (tail-text-append vs us) ∙ ap (λ (l : List ℕ). 32 ∷ l) (sym (append-assoc (digits v) (tailText vs) (tailText us)))
+
+pub edges-text-snoc : (es : List Edge) (e : Edge) → edgesText (es ++ e ∷ []) ≡ edgesText es ++ (edgeText e ++ 10 ∷ [])
+unfolding edgesText
+edges-text-snoc es e = edges-text-append es (e ∷ []) ∙ ap (λ (l : List ℕ). edgesText es ++ l) (append-nil (edgeText e ++ 10 ∷ []))
+
+pub tail-text-snoc : (vs : List ℕ) (v : ℕ) → tailText (vs ++ v ∷ []) ≡ tailText vs ++ (32 ∷ digits v)
+unfolding tailText
+tail-text-snoc vs v = tail-text-append vs (v ∷ []) ∙ ap (λ (l : List ℕ). tailText vs ++ l) (append-nil (32 ∷ digits v))
+
+text-more : (t : Table) (e : Edge) → tableText (withEdge t e) ≡ (tableText t ++ edgeText e) ++ 10 ∷ []
+unfolding tableText
+text-more t e = rw (edges-text-snoc (t .edges) e) (simp append-assoc)
+
+pub text-begun : (n : ℕ) (m : Measure) → tableText (begun n m) ≡ (opening ++ digits n) ++ measureText m
+unfolding tableText header edgesText
+text-begun n m = append-nil _
+
+begun-fits : (n : ℕ) (m : Measure) → n ≤ mostVertices → Fits (begun n m)
+unfolding total
+begun-fits n m h = record { vertices = h; edges = omega arith; listed = omega arith; each = none }
+
+-- What a state shows ---------------------------------------------------------------------------------------------------------------------
+
+unfoldable pub before : Place → List ℕ
+before Vertices = opening
+before (Head t) = tableText t
+before (Own t h) = (tableText t ++ digits h) ++ 32 ∷ []
+before (Listed t h o xs) = (tableText t ++ edgeText (edge h o xs)) ++ 32 ∷ []
+
+unfoldable pub numberText : Place → ℕ → List ℕ
+numberText Vertices v = digits v
+numberText (Head t) v = digits v
+numberText (Own t h) v = ownText v
+numberText (Listed t h o xs) v = digits v
+
+-- a line that may end here
+pub record EdgeSits (t : Table) (h o : ℕ) (xs : List ℕ) : Type 0 where
+  pub fits : Fits t
+  pub room : length (t .edges) < mostEdges
+  pub one-more : EdgeFits (t .vertices) (edge h o xs)
+  pub listed : total (t .edges) + length xs ≤ mostListed
+
+abbrev pub Sits : Place → Type 0
+Sits Vertices = Unit {0}
+Sits (Head t) = Fits t
+Sits (Own t h) = EdgeSits t h 0 []
+Sits (Listed t h o xs) = EdgeSits t h o xs × (length xs < mayList t)
+
+abbrev pub InPlace : Place → ℕ → Type 0
+InPlace Vertices v = v ≤ mostVertices
+InPlace (Head t) v = (v < t .vertices) × (length (t .edges) < mostEdges)
+InPlace (Own t h) v = v ≤ struck
+InPlace (Listed t h o xs) v = v < t .vertices
+
+-- of a word's bytes the last is LF if the second line begins behind it, and no other is
+abbrev pub LastOf : Place → ℕ → Type 0
+LastOf Vertices w = w ≡ 10 → ⊥
+LastOf (Head t) w = (w ≡ 10) × (nextLine t ≡ 2)
+LastOf (Own t h) w = ⊥
+LastOf (Listed t h o xs) w = ⊥
+
+abbrev pub Spells : List ℕ → Place → Type 0
+Spells [] p = ⊥
+Spells (w ∷ []) p = LastOf p w
+Spells (w ∷ v ∷ ws) p = (w ≡ 10 → ⊥) × Spells (v ∷ ws) p
+
+-- the bytes s are read, and the state is sound
+abbrev pub Reached : State → List ℕ → Type 0
+Reached (Spelling ws p) s = (s ++ ws ≡ before p) × Sits p × Spells ws p
+Reached (First p) s = (before p ≡ s) × Sits p
+Reached (Within p v) s = (before p ++ numberText p v ≡ s) × Sits p × InPlace p v
+Reached (Failed l) s = Unit {0}
+
+pub begin-reached : Reached begin []
+unfolding opening before
+begin-reached = (refl, tt, ((λ e. omega arith), ((λ e. omega arith), ((λ e. omega arith), ((λ e. omega arith), ((λ e. omega arith), (λ e. omega arith)))))))
+
+-- A step ---------------------------------------------------------------------------------------------------------------------------------
+
+own-digits : (o : ℕ) → o < struck → ownText o ≡ digits o
+unfolding ownText
+own-digits o h = rw (ne-eqb o struck (λ e. omega arith))
+
+number-one : (p : Place) (d : ℕ) → d < 10 → numberText p d ≡ (48 + d) ∷ []
+unfolding numberText
+number-one Vertices d h = digits-one d h
+number-one (Head t) d h = digits-one d h
+number-one (Own t g) d h = own-digits d (omega arith) ∙ digits-one d h
+number-one (Listed t g o xs) d h = digits-one d h
+
+number-more : (p : Place) (v d : ℕ) → 0 < v → d < 10 → 10 * v + d < limit p → numberText p (10 * v + d) ≡ numberText p v ++ (48 + d) ∷ []
+unfolding numberText limit
+number-more Vertices v d pos h l = digits-more v d pos h
+number-more (Head t) v d pos h l = digits-more v d pos h
+number-more (Own t g) v d pos h l = own-digits (10 * v + d) l ∙ digits-more v d pos h ∙ ap (λ (ds : List ℕ). ds ++ (48 + d) ∷ []) (sym (own-digits v (omega arith)))
+number-more (Listed t g o xs) v d pos h l = digits-more v d pos h
+
+placed : (p : Place) (v : ℕ) → v < limit p → InPlace p v
+unfolding limit
+placed Vertices v l = omega arith
+placed (Head t) v l =
+    pick-by (λ (m : ℕ). v < m → (v < t .vertices) × (length (t .edges) < mostEdges)) (ltb (length (t .edges)) mostEdges)
+    (λ e l. (l, ltb-true _ _ e)) (λ e l. absurd (none-below l)) l
+  where
+    none-below : v < 0 → ⊥
+    none-below l = omega arith
+placed (Own t g) v l = omega arith
+placed (Listed t g o xs) v l = l
+
+grown-reached : (p : Place) (v : ℕ) (s : List ℕ) → Sits p → (v < limit p → before p ++ numberText p v ≡ s) → Reached (grown p v) s
+unfolding grown
+grown-reached p v s sits e = pick-by (λ (σ : State). Reached σ s) (ltb v (limit p)) (λ l. (e (ltb-true _ _ l), sits, placed p v (ltb-true _ _ l))) (λ f. tt)
+
+edge-done : (t : Table) (h o : ℕ) (xs : List ℕ) → EdgeSits t h o xs → Fits (withEdge t (edge h o xs))
+edge-done t h o xs g = record {
+  vertices = g .fits .vertices;
+  edges = simp length-append (let r = g .room in omega arith);
+  listed = simp total-snoc (let r = g .listed in omega arith);
+  each = all-snoc (g .fits .each) (g .one-more);
+}
+
+-- the byte read is the one that may stand there
+joined : {l s : List ℕ} (b c : ℕ) → l ≡ s → eqb b c ≡ true → l ++ c ∷ [] ≡ s ++ b ∷ []
+joined b c e f = ap₂ (λ (l : List ℕ) (x : ℕ). l ++ x ∷ []) e (sym (eqb-true b c f))
+
+after-reached : (t : Table) (h o : ℕ) (xs : List ℕ) (b : ℕ) (s : List ℕ) → EdgeSits t h o xs → tableText t ++ edgeText (edge h o xs) ≡ s → Reached (after t h o xs b) (s ++ b ∷ [])
+unfolding after before
+after-reached t h o xs b s g e =
+    let P : State → Type 0 = λ σ. Reached σ (s ++ b ∷ []) in
+    pick-by P (eqb b 32)
+    (λ f. pick-by P (ltb (length xs) (mayList t)) (λ l. (joined b 32 e f, (g, ltb-true _ _ l))) (λ l. tt))
+    (λ _. pick-by P (eqb b 10) (λ f. (text-more t (edge h o xs) ∙ joined b 10 e f, edge-done t h o xs g)) (λ f. tt))
+
+head-sits : (t : Table) (h o : ℕ) → Fits t → length (t .edges) < mostEdges → h < t .vertices → o ≤ struck → EdgeSits t h o []
+unfolding allBelow
+head-sits t h o f r v l = record { fits = f; room = r; one-more = record { head = v; own = l; short = omega arith; tail = refl }; listed = let q = f .listed in omega arith }
+
+listed-sits : (t : Table) (h o : ℕ) (xs : List ℕ) (v : ℕ) → EdgeSits t h o xs → length xs < mayList t → v < t .vertices → EdgeSits t h o (xs ++ v ∷ [])
+listed-sits t h o xs v g r l =
+    let n = length-append xs (v ∷ []) in
+    record {
+      fits = g .fits;
+      room = g .room;
+      one-more = record { head = g .one-more .head; own = g .one-more .own; short = omega arith; tail = below-snoc (t .vertices) xs v (g .one-more .tail) l };
+      listed = omega arith;
+    }
+
+own-text : (t : Table) (h o : ℕ) → tableText t ++ edgeText (edge h o []) ≡ ((tableText t ++ digits h) ++ 32 ∷ []) ++ ownText o
+unfolding edgeText tailText
+own-text t h o = simp (append-assoc, append-nil)
+
+listed-text : (t : Table) (h o : ℕ) (xs : List ℕ) (v : ℕ) → tableText t ++ edgeText (edge h o (xs ++ v ∷ [])) ≡ ((tableText t ++ edgeText (edge h o xs)) ++ 32 ∷ []) ++ digits v
+unfolding edgeText
+listed-text t h o xs v = rw (tail-text-snoc xs v) (simp append-assoc)
+
+spell-reached : (ws : List ℕ) (p : Place) (b : ℕ) (s : List ℕ) → s ++ ws ≡ before p → Sits p → Spells ws p → Reached (spell ws p b) (s ++ b ∷ [])
+unfolding spell
+spell-reached [] p b s e g w = absurd w
+spell-reached (w ∷ []) p b s e g r = pick-by (λ (σ : State). Reached σ (s ++ b ∷ [])) (eqb b w) (λ f. (sym e ∙ joined {l = s} b w refl f, g)) (λ f. tt)
+spell-reached (w ∷ v ∷ ws) p b s e g r =
+    pick-by (λ (σ : State). Reached σ (s ++ b ∷ [])) (eqb b w)
+    (λ f. (append-snoc s b (v ∷ ws) ∙ ap (λ (x : ℕ). s ++ x ∷ v ∷ ws) (eqb-true b w f) ∙ e, g, r .1)) (λ f. tt)
+
+pub word-spells : (n : ℕ) → Spells (word ++ 10 ∷ []) (Head (begun n spoken))
+unfolding word
+word-spells n = ((λ e. omega arith), ((λ e. omega arith), ((λ e. omega arith), ((λ e. omega arith), ((λ e. omega arith), (refl, refl))))))
+
+ended-reached : (p : Place) (v b : ℕ) → Sits p → InPlace p v → Reached (ended p v b) ((before p ++ numberText p v) ++ b ∷ [])
+unfolding ended before numberText measureText
+ended-reached Vertices v b s h =
+    pick-by (λ (σ : State). Reached σ ((opening ++ digits v) ++ b ∷ [])) (eqb b 10)
+    (λ e. (text-begun v default ∙ joined {l = opening ++ digits v} b 10 refl e, begun-fits v default h))
+    (λ f. spell-reached (word ++ 10 ∷ []) (Head (begun v spoken)) b (opening ++ digits v) (sym (text-begun v spoken)) (begun-fits v spoken h) (word-spells v))
+ended-reached (Head t) v b s h =
+    pick-by (λ (σ : State). Reached σ ((tableText t ++ digits v) ++ b ∷ [])) (eqb b 32)
+    (λ e. (joined {l = tableText t ++ digits v} b 32 refl e, head-sits t v 0 s (h .1) (h .0) (omega arith))) (λ f. tt)
+ended-reached (Own t g) v b s h = after-reached t g v [] b _ (head-sits t g v (s .fits) (s .room) (s .one-more .head) h) (own-text t g v)
+ended-reached (Listed t g o xs) v b s h = after-reached t g o (xs ++ v ∷ []) b _ (listed-sits t g o xs v (s .0) (s .1) h) (listed-text t g o xs v)
+
+instead-reached : (p : Place) (b : ℕ) (s : List ℕ) → before p ≡ s → Sits p → Reached (instead p b) (s ++ b ∷ [])
+unfolding instead ownText numberText
+instead-reached Vertices b s e h = tt
+instead-reached (Head t) b s e h = tt
+instead-reached (Own t g) b s e h = pick-by (λ (σ : State). Reached σ (s ++ b ∷ [])) (eqb b 45) (λ f. (joined b 45 e f, h, omega arith)) (λ f. tt)
+instead-reached (Listed t g o xs) b s e h = tt
+
+grew : (p : Place) (b : ℕ) (s : List ℕ) → before p ≡ s → digitOf b < 10 → before p ++ numberText p (digitOf b) ≡ s ++ b ∷ []
+grew p b s e l = ap₂ (λ (u w : List ℕ). u ++ w) e (number-one p (digitOf b) l ∙ ap (λ (x : ℕ). x ∷ []) (sym (digit-byte b l)))
+
+grew-more : (p : Place) (v b : ℕ) (s : List ℕ) → before p ++ numberText p v ≡ s → digitOf b < 10 → 0 < v → 10 * v + digitOf b < limit p → before p ++ numberText p (10 * v + digitOf b) ≡ s ++ b ∷ []
+grew-more p v b s e l pos h =
+    ap (λ (u : List ℕ). before p ++ u) (number-more p v (digitOf b) pos l h)
+    ∙ sym (append-assoc (before p) (numberText p v) ((48 + digitOf b) ∷ []))
+    ∙ ap₂ (λ (u : List ℕ) (x : ℕ). u ++ x ∷ []) e (sym (digit-byte b l))
+
+pub step-reached : (σ : State) (b : ℕ) (s : List ℕ) → Reached σ s → Reached (step σ b) (s ++ b ∷ [])
+unfolding step
+step-reached (Spelling ws p) b s r = spell-reached ws p b s (r .0) (r .1) (r .2)
+step-reached (First p) b s r =
+    pick-by (λ (σ : State). Reached σ (s ++ b ∷ [])) (ltb (digitOf b) 10)
+    (λ e. grown-reached p (digitOf b) _ (r .1) (λ l. grew p b s (r .0) (ltb-true _ _ e)))
+    (λ f. instead-reached p b s (r .0) (r .1))
+step-reached (Within p v) b s r =
+    pick-by (λ (σ : State). Reached σ (s ++ b ∷ [])) (ltb (digitOf b) 10)
+    (λ e. pick-by (λ (σ : State). Reached σ (s ++ b ∷ [])) (ltb 0 v) (λ f. grown-reached p (10 * v + digitOf b) _ (r .1) (λ l. grew-more p v b s (r .0) (ltb-true _ _ e) (ltb-true _ _ f) l)) (λ f. tt))
+    (λ f. subst (λ (u : List ℕ). Reached (ended p v b) (u ++ b ∷ [])) (r .0) (ended-reached p v b (r .1) (r .2)))
+step-reached (Failed l) b s r = tt
+
+-- A run ----------------------------------------------------------------------------------------------------------------------------------
+
+pub run-reached : (σ : State) (s bs : List ℕ) → Reached σ s → Reached (run σ bs) (s ++ bs)
+unfolding run
+run-reached σ s [] r = subst (λ (u : List ℕ). Reached σ u) (sym (append-nil s)) r
+run-reached σ s (b ∷ bs) r = subst (λ (u : List ℕ). Reached (run (step σ b) bs) u) (append-snoc s b bs) (run-reached (step σ b) (s ++ b ∷ []) bs (step-reached σ b s r))
+
+pub never : {l : ℕ} {t : Table} → Wrong l ≡ Whole t → ⊥
+never {l} {t} e = let z : _≡_ {A = ℕ} 0 1 = cc in omega arith
+
+finished : (σ : State) (s : List ℕ) (t : Table) → Reached σ s → finish σ ≡ Whole t → Fits t × (s ≡ tableText t)
+unfolding finish before
+finished (Spelling ws p) s t r e = absurd (never e)
+finished (First Vertices) s t r e = absurd (never e)
+finished (First (Head u)) s t r e = let q : u ≡ t = cc in subst (λ (w : Table). Fits w × (s ≡ tableText w)) q (r .1, sym (r .0))
+finished (First (Own u h)) s t r e = absurd (never e)
+finished (First (Listed u h o xs)) s t r e = absurd (never e)
+finished (Within p v) s t r e = absurd (never e)
+finished (Failed l) s t r e = absurd (never e)
+
+pub sound : (s : List ℕ) (t : Table) → parse s ≡ Whole t → Fits t × (s ≡ tableText t)
+unfolding parse
+sound s t e = finished (run begin s) s t (run-reached begin [] s begin-reached) e
