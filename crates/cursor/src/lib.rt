@@ -1,0 +1,117 @@
+// What stands at a place of a text: a byte, a number, an own weight, a separator. Each is read from
+// left to right, and nothing behind the byte that ends it is looked at.
+use weights::Weight;
+ghost use mathlib.Core.Path.{_≡_};
+ghost use lib.ListN.{getD};
+ghost use Rattle.text.specs.Machine.{digitOf};
+ghost use Rattle.cursor.specs.Cursor.{numberAt, weightAt, separatorAt};
+
+// A number, with the place behind it.
+pub enum Found {
+    Number(u64, usize),
+    NotANumber,
+}
+
+// An own weight, with the place behind it.
+pub enum FoundWeight {
+    Own(Weight, usize),
+    NotAWeight,
+}
+
+// A single space or the end of a line, with the place behind it.
+pub enum Separator {
+    Space(usize),
+    LineEnd(usize),
+    Neither,
+}
+
+// The byte at a place, and 0, which no text of a table has, behind the text's end.
+pub fn byte_at(text: &[u8], at: usize) -> u8
+    ensures { λ r. ⌜ r ≡ getD (now (text .entry)) at 0 ⌝ }
+{
+    if at >= text.len() {
+        return 0;
+    }
+    text[at]
+}
+
+// The digit that a byte is, else 10.
+pub fn digit(b: u8) -> u64
+    ensures { λ r. ⌜ r ≡ digitOf b ⌝ }
+{
+    if b < 48 {
+        return 10;
+    }
+    if b > 57 {
+        return 10;
+    }
+    (b - 48) as u64
+}
+
+// The number at a place: decimal, without leading zeros, below the limit. However many digits stand
+// there, the first that makes it too great ends the reading, before a sum is made that could wrap.
+pub fn number_at(text: &[u8], at: usize, limit: u64) -> Found
+    ensures { λ r. ⌜ r ≡ numberAt (now (text .entry)) at limit ⌝ }
+{
+    if at >= text.len() {
+        return Found::NotANumber;
+    }
+    let first = digit(text[at]);
+    if first >= 10 {
+        return Found::NotANumber;
+    }
+    if first >= limit {
+        return Found::NotANumber;
+    }
+    let mut v = first;
+    let mut i = at + 1;
+    while i < text.len() {
+        let d = digit(text[i]);
+        if d >= 10 {
+            return Found::Number(v, i);
+        }
+        if v == 0 {
+            return Found::NotANumber;
+        }
+        if d >= limit {
+            return Found::NotANumber;
+        }
+        if v > (limit - 1 - d) / 10 {
+            return Found::NotANumber;
+        }
+        v = 10 * v + d;
+        i += 1;
+    }
+    Found::Number(v, i)
+}
+
+// The own weight at a place: a number, or `-` for the struck mark, which as a number is none.
+pub fn weight_at(text: &[u8], at: usize) -> FoundWeight
+    ensures { λ r. ⌜ r ≡ weightAt (now (text .entry)) at ⌝ }
+{
+    let b = byte_at(text, at);
+    if b == b'-' {
+        let next = at + 1;
+        return FoundWeight::Own(Weight::STRUCK, next);
+    }
+    let found = number_at(text, at, Weight::STRUCK.0);
+    let Found::Number(v, next) = found else {
+        return FoundWeight::NotAWeight;
+    };
+    FoundWeight::Own(Weight(v), next)
+}
+
+pub fn separator_at(text: &[u8], at: usize) -> Separator
+    ensures { λ r. ⌜ r ≡ separatorAt (now (text .entry)) at ⌝ }
+{
+    let b = byte_at(text, at);
+    if b == b' ' {
+        let next = at + 1;
+        return Separator::Space(next);
+    }
+    if b == b'\n' {
+        let next = at + 1;
+        return Separator::LineEnd(next);
+    }
+    Separator::Neither
+}
