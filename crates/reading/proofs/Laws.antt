@@ -1,0 +1,206 @@
+-- The laws of the definitions of specs/ by which the loops go. Assumes nothing.
+use mathlib.Core.Path.{_≡_, refl, sym, _∙_, ap, ap₂, subst}
+use mathlib.Core.List.{List, [], _∷_, _++_}
+use mathlib.Core.Bool.{Bool, true, false}
+use Prim.Native.Nat.{ℕ, zero, suc, _+_, _-_, _≤_, _<_, min}
+use native.Mathlib.Numerals.{add-one}
+use native.Mathlib.Nat.{sub-zero, sub-eq-zero-of-le}
+use native.Mathlib.Omega.{arith}
+use lib.ListN.{length, getD, take, drop, set, drop-of-length-le, length-append, length-drop, length-set}
+use lib.Seq.{drop-cons}
+use borrow.Author.Tests.{lt-ltb, le-ltb, le-leb, lt-leb, eq-eqb, ne-eqb}
+use Rattle.weights.specs.declared.Measure.{Measure}
+use Rattle.weights.specs.declared.Vertex.{Vertex}
+use Rattle.weights.specs.declared.Weight.{Weight}
+use Rattle.refusal.specs.declared.Reading.the-variants as reading
+use Rattle.columns.specs.Acceptance.{mostVertices, mostEdges, mostListed, longestTail}
+use Rattle.text.specs.Machine.{Parse, Whole, Wrong, parse}
+use Rattle.text.specs.Render.{default, spoken, word, opening}
+use Rattle.text.specs.Filled.{filled, filled-none, filled-set}
+use Rattle.cursor.specs.declared.Found.{Found}
+use Rattle.cursor.specs.declared.Found.the-variants.{Number, NotANumber}
+use Rattle.cursor.specs.Cursor.{numberAt, weightAt}
+use Rattle.reading.specs.declared.FirstLine.the-variants as first
+use Rattle.reading.specs.declared.Stem.the-variants as stem
+use Rattle.reading.specs.declared.Line.{Line}
+use Rattle.reading.specs.declared.Line.the-variants as line
+use Rattle.reading.specs.declared.Tail.{Tail}
+use Rattle.reading.specs.declared.Tail.the-variants as tail
+use Rattle.reading.specs.Lines.{startsWith, onCount, firstLine, onOwn, onHead, stemAt, Listing, Ends, Breaks, listEnd, onVertex, listing, vertices, tailOf, ReadsTail, Row, Fails, onListing, onStem, rowAt, stored, lineOf, ReadsLine, scan, readingOf}
+use Rattle.reading.specs.Scanned.{scan-is-parse}
+use Rattle.reading.specs.Scanning.{row-counts, Tells, tells, fails, Scanning, scan-end, scan-fails, scan-next}
+
+-- of a word and a text from place i on: a byte that is the same, one that is not, the text's end, the word's end
+module _ (w s : List ℕ) (i : ℕ) where
+  pub starts-more : i < length w → i < length s → getD s i 0 ≡ getD w i 0 → startsWith (drop (i + 1) w) (drop (i + 1) s) ≡ startsWith (drop i w) (drop i s)
+  unfolding startsWith
+  starts-more h l e = rw (add-one i, drop-cons w i 0 h, drop-cons s i 0 l, eq-eqb _ _ e)
+
+  pub starts-stop : i < length w → i < length s → (getD s i 0 ≡ getD w i 0 → ⊥) → false ≡ startsWith (drop i w) (drop i s)
+  unfolding startsWith
+  starts-stop h l n = rw (drop-cons w i 0 h, drop-cons s i 0 l, ne-eqb _ _ n)
+
+  pub starts-short : i < length w → length s ≤ i → false ≡ startsWith (drop i w) (drop i s)
+  unfolding startsWith
+  starts-short h l = rw (drop-cons w i 0 h, drop-of-length-le s l)
+
+  pub starts-end : length w ≤ i → true ≡ startsWith (drop i w) (drop i s)
+  unfolding startsWith
+  starts-end h = rw (drop-of-length-le w h)
+
+-- behind a head: no space, and a space before an own figure
+module _ (s : List ℕ) (h at : ℕ) (F : Found) (e : F ≡ Number h at) where
+  pub stem-none : (getD s at 0 ≡ 32 → ⊥) → stem.Wrong ≡ onHead s F
+  stem-none n = rw (e, ne-eqb _ _ n)
+
+  pub stem-own : getD s at 0 ≡ 32 → onOwn h (weightAt s (at + 1)) ≡ onHead s F
+  stem-own q = rw (e, eq-eqb _ _ q)
+
+-- of a list, behind the parts xs: no room for one more, none that is a number, one more, and its end
+module _ (s : List ℕ) (n at : ℕ) (xs : List ℕ) where
+  listing-full : (left : ℕ) → left ≡ 0 → getD s at 0 ≡ 32 → listing left s n at xs ≡ Breaks xs
+  unfolding listing
+  listing-full left z e = rw (z, eq-eqb _ _ e)
+
+  listing-none : (left : ℕ) → 0 < left → getD s at 0 ≡ 32 → numberAt s (at + 1) n ≡ NotANumber → listing left s n at xs ≡ Breaks xs
+  unfolding listing
+  listing-none zero h e q = absurd (omega arith)
+  listing-none (suc left) h e q = rw (eq-eqb _ _ e, q)
+
+  listing-more : (left v next : ℕ) → 0 < left → getD s at 0 ≡ 32 → numberAt s (at + 1) n ≡ Number v next → listing left s n at xs ≡ listing (left - 1) s n next (xs ++ v ∷ [])
+  unfolding listing
+  listing-more zero v next h e q = absurd (omega arith)
+  listing-more (suc left) v next h e q =
+      let z : suc left - 1 ≡ left = omega arith in
+      rw (eq-eqb _ _ e, q) (ap (λ (k : ℕ). listing k s n next (xs ++ v ∷ [])) (sym z))
+
+  listing-end : (left : ℕ) → (getD s at 0 ≡ 32 → ⊥) → listing left s n at xs ≡ listEnd s at xs
+  unfolding listing
+  listing-end zero e = rw (ne-eqb _ _ e)
+  listing-end (suc left) e = rw (ne-eqb _ _ e)
+
+-- k parts are listed and stored, and what follows has the answer of the whole
+pub record Listed (s : List ℕ) (n most at : ℕ) (room₀ room : List ℕ) (k next : ℕ) : Type 0 where
+  pub so-far : List ℕ
+  pub count : length so-far ≡ k
+  pub few : k ≤ min most (length room₀)
+  pub same : listing (min most (length room₀) - k) s n next so-far ≡ listing (min most (length room₀)) s n at []
+  pub room-is : room ≡ filled so-far room₀
+  pub long : length room ≡ length room₀
+
+pub listed-none : (s : List ℕ) (n most at : ℕ) (room : List ℕ) → Listed s n most at room room 0 at
+listed-none s n most at room = record { so-far = []; count = refl; few = omega arith; same = rw sub-zero; room-is = filled-none room; long = refl }
+
+module _ (s : List ℕ) (n most at : ℕ) (room₀ room : List ℕ) (k next : ℕ) (l : Listed s n most at room₀ room k next) where
+  abbrev all : ℕ
+  all = min most (length room₀)
+
+  -- the list is at its end, or at a fault
+  closes : (L : Listing) → listing (all - k) s n next (l .so-far) ≡ L → vertices L ≡ l .so-far → ReadsTail (listing all s n at []) room₀ (tailOf L) room
+  closes L e v =
+      let q : L ≡ listing all s n at [] = sym e ∙ l .same in
+      record { answer = ap tailOf q; room = l .room-is ∙ ap (λ (z : List ℕ). filled z room₀) (sym v ∙ ap vertices q) }
+
+  pub list-full : getD s next 0 ≡ 32 → all ≤ k → ReadsTail (listing all s n at []) room₀ tail.Wrong room
+  list-full e h = closes (Breaks (l .so-far)) (listing-full s n next (l .so-far) (all - k) (omega arith) e) refl
+
+  pub list-none : getD s next 0 ≡ 32 → k < all → numberAt s (next + 1) n ≡ NotANumber → ReadsTail (listing all s n at []) room₀ tail.Wrong room
+  list-none e h q = closes (Breaks (l .so-far)) (listing-none s n next (l .so-far) (all - k) (omega arith) e q) refl
+
+  pub list-more : (v behind : ℕ) → getD s next 0 ≡ 32 → k < all → numberAt s (next + 1) n ≡ Number v behind → Listed s n most at room₀ (set room k v) (k + 1) behind
+  list-more v behind e h q =
+      let z : all - k - 1 ≡ all - (k + 1) = omega arith in
+      record {
+        so-far = l .so-far ++ v ∷ [];
+        count = length-append (l .so-far) (v ∷ []) ∙ ap (λ (j : ℕ). j + 1) (l .count);
+        few = omega arith;
+        same = ap (λ (j : ℕ). listing j s n behind (l .so-far ++ v ∷ [])) (sym z) ∙ sym (listing-more s n next (l .so-far) (all - k) v behind (omega arith) e q) ∙ l .same;
+        room-is = ap (λ (r : List ℕ). set r k v) (l .room-is) ∙ filled-set (l .so-far) room₀ k v (l .count) (omega arith);
+        long = length-set room k v ∙ l .long;
+      }
+
+  pub list-broken : (getD s next 0 ≡ 32 → ⊥) → (getD s next 0 ≡ 10 → ⊥) → ReadsTail (listing all s n at []) room₀ tail.Wrong room
+  list-broken e f = closes (Breaks (l .so-far)) (listing-end s n next (l .so-far) (all - k) e ∙ rw (ne-eqb _ _ f)) refl
+
+  pub list-ends : (getD s next 0 ≡ 32 → ⊥) → getD s next 0 ≡ 10 → ReadsTail (listing all s n at []) room₀ (tail.Ends k (next + 1)) room
+  list-ends e f =
+      let r = closes (Ends (l .so-far) (next + 1)) (listing-end s n next (l .so-far) (all - k) e ∙ rw (eq-eqb _ _ f)) refl in
+      record { answer = ap (λ (z : ℕ). tail.Ends z (next + 1)) (sym (l .count)) ∙ r .answer; room = r .room }
+
+-- The first line: its opening, the number of parts, and what stands behind it
+module _ (s : List ℕ) where
+  pub first-unopened : startsWith opening s ≡ false → first.Wrong ≡ firstLine s
+  unfolding firstLine
+  first-unopened e = rw e
+
+  pub first-opened : startsWith opening s ≡ true → onCount s (numberAt s 6 (mostVertices + 1)) ≡ firstLine s
+  unfolding firstLine opening
+  first-opened e = rw e
+
+  module _ (n next : ℕ) (F : Found) (e : F ≡ Number n next) where
+    pub count-silent : getD s next 0 ≡ 10 → first.Read n default (next + 1) ≡ onCount s F
+    count-silent q = rw (e, eq-eqb _ _ q)
+
+    pub count-named : (getD s next 0 ≡ 10 → ⊥) → startsWith (word ++ 10 ∷ []) (drop next s) ≡ true → first.Read n spoken (next + 6) ≡ onCount s F
+    unfolding word
+    count-named q w = rw (e, ne-eqb _ _ q, w)
+
+    pub count-unnamed : (getD s next 0 ≡ 10 → ⊥) → startsWith (word ++ 10 ∷ []) (drop next s) ≡ false → first.Wrong ≡ onCount s F
+    count-unnamed q w = rw (e, ne-eqb _ _ q, w)
+
+-- A line: no stem, and a stem before a list
+pub line-unstemmed : (s : List ℕ) (n most at : ℕ) (room : List ℕ) → stemAt s n at ≡ stem.Wrong → ReadsLine (rowAt s n most at) room line.Wrong room
+unfolding rowAt
+line-unstemmed s n most at room e =
+    let q : rowAt s n most at ≡ Fails [] = ap (onStem s n most) e in
+    record { answer = ap lineOf (sym q); room = filled-none room ∙ ap (λ (R : Row). filled (stored R) room) (sym q) }
+
+abbrev pub lineWith : Vertex → Weight → Tail → Line
+lineWith h o (tail.Ends k next) = line.Edge h o k next
+lineWith h o tail.Wrong = line.Wrong
+
+pub line-listed : (s : List ℕ) (n most at : ℕ) (h : Vertex) (o : Weight) (from : ℕ) (old new : List ℕ) (r : Tail) → stemAt s n at ≡ stem.Read h o from → ReadsTail (listing most s n from []) old r new
+    → ReadsLine (rowAt s n most at) old (lineWith h o r) new
+unfolding rowAt
+line-listed s n most at h o from old new r e g =
+    let q : rowAt s n most at ≡ onListing h o (listing most s n from []) = ap (onStem s n most) e in
+    let L = listing most s n from [] in
+    record {
+      answer = ap (lineWith h o) (g .answer) ∙ lined L ∙ ap lineOf (sym q);
+      room = g .room ∙ ap (λ (z : List ℕ). filled z old) (listed L) ∙ ap (λ (R : Row). filled (stored R) old) (sym q);
+    }
+  where
+    lined : (L : Listing) → lineWith h o (tailOf L) ≡ lineOf (onListing h o L)
+    lined (Ends xs next) = refl
+    lined (Breaks xs) = refl
+
+    listed : (L : Listing) → vertices L ≡ stored (onListing h o L)
+    listed (Ends xs next) = refl
+    listed (Breaks xs) = refl
+
+-- The whole text: what `scan` gives is told of it
+pub told : (s : List ℕ) (P : Parse) → scan s ≡ P → readingOf P ≡ readingOf (parse s)
+told s P e = ap readingOf (sym e ∙ scan-is-parse s)
+
+module _ (s : List ℕ) (n : ℕ) (m : Measure) (at edges listed : ℕ) (g : Scanning s n m at edges listed) where
+  pub all-told : length s ≤ at → reading.Table (record { vertices = n; measure = m; edges = edges; listed = listed }) ≡ readingOf (parse s)
+  all-told h =
+      ap₂ (λ (a : ℕ) (b : Measure). reading.Table (record { vertices = a; measure = b; edges = edges; listed = listed })) (sym (g .vertices)) (sym (g .measure))
+      ∙ ap₂ (λ (a b : ℕ). reading.Table (record { vertices = g .so-far .vertices; measure = g .so-far .measure; edges = a; listed = b })) (sym (g .counted)) (sym (g .summed))
+      ∙ told s (Whole (g .so-far)) (scan-end s n m at edges listed g h)
+
+  -- the answer of reading a line into a room of 16 places
+  module _ (h : at < length s) (l : edges < mostEdges) (size : ℕ) (z : size ≡ longestTail) (r : Line) (a : r ≡ lineOf (rowAt s n (min (mostListed - listed) size) at)) where
+    sized : rowAt s n (min (mostListed - listed) longestTail) at ≡ rowAt s n (min (mostListed - listed) size) at
+    sized = ap (λ (k : ℕ). rowAt s n (min (mostListed - listed) k) at) (sym z)
+
+    pub line-wrong : r ≡ line.Wrong → scan s ≡ Wrong (edges + 2)
+    line-wrong q = let f = fails (rowAt s n (min (mostListed - listed) size) at) (sym q ∙ a) in scan-fails s n m at edges listed g h l _ sized (f .0) (f .1)
+
+    pub line-next : (v : Vertex) (w : Weight) (c next : ℕ) → r ≡ line.Edge v w c next → (at < next) × (c ≤ mostListed - listed) × Scanning s n m next (edges + 1) (listed + c)
+    line-next v w c next q =
+        let f = tells (rowAt s n (min (mostListed - listed) size) at) v w c next (sym q ∙ a) in
+        let b = row-counts s n (min (mostListed - listed) size) at (f .edge-is) next (f .row) in
+        let d = b .0 in
+        let e = f .count in
+        (b .1, omega arith, subst (λ (k : ℕ). Scanning s n m next (edges + 1) (listed + k)) (sym e) (scan-next s n m at edges listed g h l _ sized (f .edge-is) next (f .row)))

@@ -1,0 +1,76 @@
+-- `reading::stem_at` meets its contract. Assumes nothing.
+use mathlib.Core.Path.{_≡_, sym, _∙_, ap}
+use native.Mathlib.Omega.{arith}
+use borrow.Author.Needs.{needs}
+use lib.ListN.{getD}
+use Rattle.cursor.specs.declared.Found.the-variants.{Number}
+use Rattle.cursor.specs.Cursor.{numberAt}
+use Rattle.cursor.specs.Laws.{byte-within}
+use Rattle.reading.specs.Lines.{onOwn, onHead, stemAt}
+use Rattle.reading.proofs.Laws.{stem-none, stem-own}
+use Rattle.reading.proofs.stem_at.Statement.{statement}
+use Rattle.reading.proofs.stem_at.Tie as tie
+
+number-at-requires : tie.Need-number-at-requires
+number-at-requires c κs = search needs
+
+enum-known-found : tie.Need-enum-known-found
+enum-known-found c = search needs
+
+enum-told : tie.Need-enum-told
+enum-told c = search needs
+
+returns : tie.Need-returns
+unfolding stemAt
+returns c = ap (onHead _) (sym (c .enum-told .given .1) ∙ c .before .before .number-at .ensures)
+
+byte-at-requires : tie.Need-byte-at-requires
+byte-at-requires c κs = search needs
+
+-- the head that was found, and the byte behind it
+headed : (c : tie.After-known-told) → let a = c .before .before .before .before .before .args in numberAt (a .text .now) (a .at) (a .n) ≡ Number (c .before .found .given .0 .0) (c .before .found .given .0 .1 .0)
+headed c = sym (c .before .before .before .number-at .ensures) ∙ c .before .found .given .1
+
+spaced : (c : tie.Else1) → let h = c .before .before in getD (h .before .before .before .before .before .args .text .now) (h .before .found .given .0 .1 .0) 0 ≡ 32
+spaced c = sym (c .before .byte-at .ensures) ∙ c .if1 .left
+
+returns-2 : tie.Need-returns-2
+unfolding stemAt
+returns-2 c = stem-none _ _ _ _ (headed (c .before .before)) (λ e. c .if1 .taken (c .before .byte-at .ensures ∙ e))
+
+add-from : tie.Need-add-from
+add-from c = let h = c .before .before in omega (arith, byte-within (h .before .before .before .before .before .args .text .now) (h .before .found .given .0 .1 .0) 32 (spaced c) (omega arith))
+
+weight-at-requires : tie.Need-weight-at-requires
+weight-at-requires c κs = search needs
+
+enum-known-weight : tie.Need-enum-known-weight
+enum-known-weight c = search needs
+
+enum-told-2 : tie.Need-enum-told-2
+enum-told-2 c = search needs
+
+returns-3 : tie.Need-returns-3
+unfolding stemAt
+returns-3 c = let e = c .before .before .before in ap (onOwn _) (sym (c .enum-told2 .given .1) ∙ c .before .before .weight-at .ensures) ∙ stem-own _ _ _ _ (headed (e .before .before)) (spaced e)
+
+returns-4 : tie.Need-returns-4
+unfolding stemAt
+returns-4 c = let e = c .before .before .before .before in ap (onOwn _) (sym (c .before .weight .given .1) ∙ c .before .before .before .weight-at .ensures) ∙ stem-own _ _ _ _ (headed (e .before .before)) (spaced e)
+
+pub stem-at-spec : {M : Type 1} → statement M
+stem-at-spec =
+    tie.close
+    (tie.spec
+    number-at-requires
+    enum-known-found
+    enum-told
+    returns
+    byte-at-requires
+    returns-2
+    add-from
+    weight-at-requires
+    enum-known-weight
+    enum-told-2
+    returns-3
+    returns-4)

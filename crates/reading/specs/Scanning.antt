@@ -1,0 +1,243 @@
+-- The state of a pass over the lines: the table of the lines passed, and that what is left has the answer of the whole; and what a line that was read
+-- tells. Assumes nothing.
+use mathlib.Core.Path.{_≡_, refl, sym, _∙_, ap, ap₂, subst}
+use mathlib.Core.List.{List, [], _∷_, _++_}
+use mathlib.Core.Bool.{Bool, true, false}
+use Prim.Native.Nat.{ℕ, zero, suc, _+_, _-_, _≤_, _<_, min}
+use native.Mathlib.Nat.{sub-zero, sub-eq-zero-of-le}
+use native.Mathlib.Omega.{arith}
+use lib.ListN.{length, getD, drop, length-append, length-drop}
+use lib.Dec.{ltb, eqb}
+use borrow.Author.Tests.{lt-ltb, le-ltb, eqb-true}
+use Rattle.weights.specs.declared.Measure.{Measure}
+use Rattle.weights.specs.declared.Vertex.{Vertex}
+use Rattle.weights.specs.declared.Weight.{Weight}
+use Rattle.weights.specs.Choice.{pick}
+use Rattle.columns.specs.Acceptance.{mostVertices, mostEdges, mostListed, longestTail}
+use Rattle.text.specs.Tables.{Edge, edge, Table, total}
+use Rattle.text.specs.Render.{default, spoken, word, opening}
+use Rattle.text.specs.Machine.{begun, withEdge, nextLine, mayList, Parse, Whole, Wrong}
+use Rattle.text.specs.Digits.{pick-by}
+use Rattle.text.specs.Rows.{total-snoc}
+use Rattle.cursor.specs.declared.Found.{Found}
+use Rattle.cursor.specs.declared.Found.the-variants.{Number, NotANumber}
+use Rattle.cursor.specs.declared.FoundWeight.{FoundWeight}
+use Rattle.cursor.specs.declared.FoundWeight.the-variants as weight
+use Rattle.cursor.specs.Cursor.{numberAt, weightAt}
+use Rattle.cursor.specs.Laws.{byte-within, number-counts, weight-counts}
+use Rattle.reading.specs.declared.FirstLine.{FirstLine}
+use Rattle.reading.specs.declared.FirstLine.the-variants as first
+use Rattle.reading.specs.declared.Stem.{Stem}
+use Rattle.reading.specs.declared.Stem.the-variants as stem
+use Rattle.reading.specs.declared.Line.{Line}
+use Rattle.reading.specs.declared.Line.the-variants as line
+use Rattle.reading.specs.Lines.{startsWith, onCount, firstLine, onOwn, onHead, stemAt, Listing, Ends, Breaks, listEnd, onVertex, listing, Row, Holds, Fails, onListing, onStem, rowAt, lineOf, onRow, scanFrom, onFirst, scan}
+
+-- Places: the next line begins later, and within the text ------------------------------------------------------------------------------------
+
+module _ (s : List ℕ) where
+  abbrev StemCounts : ℕ → Stem → Type 0
+  StemCounts at (stem.Read h o next) = (at < next) × (next ≤ length s)
+  StemCounts at stem.Wrong = Unit {0}
+
+  own-counts : (at h from : ℕ) (F : FoundWeight) → at < from → weightAt s from ≡ F → StemCounts at (onOwn h F)
+  own-counts at h from (weight.Own w next) l e = let r = weight-counts s from w next e in let a = r .1 in (omega arith, r .2)
+  own-counts at h from weight.NotAWeight l e = tt
+
+  head-counts : (n at : ℕ) (F : Found) → numberAt s at n ≡ F → StemCounts at (onHead s F)
+  head-counts n at (Number h a) e =
+      let l = number-counts s at n h a e .1 in
+      pick-by (StemCounts at) (eqb (getD s a 0) 32) (λ _. own-counts at h (a + 1) (weightAt s (a + 1)) (omega arith) refl) (λ _. tt)
+  head-counts n at NotANumber e = tt
+
+  abbrev ListCounts : (at most : ℕ) → Listing → Type 0
+  ListCounts at most (Ends xs next) = (length xs ≤ most) × (at < next) × (next ≤ length s)
+  ListCounts at most (Breaks xs) = Unit {0}
+
+  end-counts : (at most : ℕ) (xs : List ℕ) → length xs ≤ most → ListCounts at most (listEnd s at xs)
+  end-counts at most xs h =
+      pick-by (ListCounts at most) (eqb (getD s at 0) 10) (λ e. let l = byte-within s at 10 (eqb-true _ _ e) (omega arith) in (h, omega arith, omega arith)) (λ e. tt)
+
+  later : (at at′ most : ℕ) (L : Listing) → at < at′ → ListCounts at′ most L → ListCounts at most L
+  later at at′ most (Ends xs next) h c = let l = c .1 in (c .0, omega arith, c .2)
+  later at at′ most (Breaks xs) h c = tt
+
+  vertex-counts : (at n most : ℕ) (xs : List ℕ) (F : Found) (more : List ℕ → ℕ → Listing) → numberAt s (at + 1) n ≡ F
+      → ((v next : ℕ) → ListCounts next most (more (xs ++ v ∷ []) next)) → ListCounts at most (onVertex xs F more)
+  vertex-counts at n most xs (Number v next) more e k = let l = number-counts s (at + 1) n v next e .1 in later at next most (more (xs ++ v ∷ []) next) (omega arith) (k v next)
+  vertex-counts at n most xs NotANumber more e k = tt
+
+  list-counts : (left n at most : ℕ) (xs : List ℕ) → length xs + left ≡ most → ListCounts at most (listing left s n at xs)
+  unfolding listing
+  list-counts zero n at most xs h = pick-by (ListCounts at most) (eqb (getD s at 0) 32) (λ e. tt) (λ e. end-counts at most xs (omega arith))
+  list-counts (suc left) n at most xs h =
+      let more : List ℕ → ℕ → Listing = λ ys next. listing left s n next ys in
+      pick-by (ListCounts at most) (eqb (getD s at 0) 32)
+      (λ e. vertex-counts at n most xs (numberAt s (at + 1) n) more refl (λ v next. list-counts left n next most (xs ++ v ∷ []) (let l = length-append xs (v ∷ []) in omega arith)))
+      (λ e. end-counts at most xs (omega arith))
+
+  abbrev RowCounts : (at most : ℕ) → Row → Type 0
+  RowCounts at most (Holds e next) = (length (e .tail) ≤ most) × (at < next) × (next ≤ length s)
+  RowCounts at most (Fails xs) = Unit {0}
+
+  listing-counts : (at from most : ℕ) (h : Vertex) (o : Weight) (L : Listing) → at < from → ListCounts from most L → RowCounts at most (onListing h o L)
+  listing-counts at from most h o (Ends xs next) l c = let a = c .1 in (c .0, omega arith, c .2)
+  listing-counts at from most h o (Breaks xs) l c = tt
+
+  stem-row : (n at most : ℕ) (S : Stem) → StemCounts at S → RowCounts at most (onStem s n most S)
+  stem-row n at most (stem.Read h o from) c = listing-counts at from most h o (listing most s n from []) (c .0) (list-counts most n from most [] (omega arith))
+  stem-row n at most stem.Wrong c = tt
+
+  row-count : (n most at : ℕ) → RowCounts at most (rowAt s n most at)
+  unfolding rowAt stemAt
+  row-count n most at = stem-row n at most (stemAt s n at) (head-counts n at (numberAt s at n) refl)
+
+  pub row-counts : (n most at : ℕ) (e : Edge) (next : ℕ) → rowAt s n most at ≡ Holds e next → (length (e .tail) ≤ most) × (at < next) × (next ≤ length s)
+  row-counts n most at e next q = subst (RowCounts at most) q (row-count n most at)
+
+  abbrev FirstCounts : FirstLine → Type 0
+  FirstCounts (first.Read n m start) = start ≤ length s
+  FirstCounts first.Wrong = Unit {0}
+
+pub starts-length : (w s : List ℕ) → startsWith w s ≡ true → length w ≤ length s
+unfolding startsWith
+starts-length [] s e = omega arith
+starts-length (w ∷ ws) [] e = absurd (let z : _≡_ {A = ℕ} 0 1 = cc in omega arith)
+starts-length (w ∷ ws) (b ∷ s) e = go (eqb b w) e (starts-length ws s)
+  where
+    go : (c : Bool) → pick c (startsWith ws s) false ≡ true → (startsWith ws s ≡ true → length ws ≤ length s) → length (w ∷ ws) ≤ length (b ∷ s)
+    go true q k = let l = k q in omega arith
+    go false q k = absurd (let z : _≡_ {A = ℕ} 0 1 = cc in omega arith)
+
+module _ (s : List ℕ) where
+  word-counts : (n next : ℕ) (c : Bool) → startsWith (word ++ 10 ∷ []) (drop next s) ≡ c → FirstCounts s (pick c (first.Read n spoken (next + length (word ++ 10 ∷ []))) first.Wrong)
+  unfolding word
+  word-counts n next true e = let l = starts-length (word ++ 10 ∷ []) (drop next s) e in let m = length-drop next s in omega arith
+  word-counts n next false e = tt
+
+  count-counts : (F : Found) → FirstCounts s (onCount s F)
+  count-counts (Number n next) =
+      pick-by (FirstCounts s) (eqb (getD s next 0) 10) (λ e. let l = byte-within s next 10 (eqb-true _ _ e) (omega arith) in omega arith)
+      (λ e. word-counts n next (startsWith (word ++ 10 ∷ []) (drop next s)) refl)
+  count-counts NotANumber = tt
+
+  first-count : FirstCounts s (firstLine s)
+  unfolding firstLine
+  first-count = pick-by (FirstCounts s) (startsWith opening s) (λ e. count-counts (numberAt s (length opening) (mostVertices + 1))) (λ e. tt)
+
+  pub first-counts : (n : ℕ) (m : Measure) (start : ℕ) → firstLine s ≡ first.Read n m start → start ≤ length s
+  first-counts n m start e = subst (FirstCounts s) e first-count
+
+-- What a line tells ----------------------------------------------------------------------------------------------------------------------------
+
+pub record Tells (R : Row) (h : Vertex) (o : Weight) (k next : ℕ) : Type 0 where
+  pub edge-is : Edge
+  pub row : R ≡ Holds edge-is next
+  pub head : h .0 ≡ edge-is .head
+  pub own : o .0 ≡ edge-is .own
+  pub count : k ≡ length (edge-is .tail)
+
+pub tells : (R : Row) (h : Vertex) (o : Weight) (k next : ℕ) → line.Edge h o k next ≡ lineOf R → Tells R h o k next
+tells (Holds e j) h o k next q =
+    let a : next ≡ j = cc in
+    record { edge-is = e; row = ap (Holds e) (sym a); head = (let b : h ≡ record { 0 = e .head } = cc in ap (λ (v : Vertex). v .0) b); own = (let b : o ≡ record { 0 = e .own } = cc in ap (λ (w : Weight). w .0) b); count = cc }
+tells (Fails xs) h o k next q = absurd (let z : _≡_ {A = ℕ} 0 1 = cc in omega arith)
+
+pub fails : (R : Row) → line.Wrong ≡ lineOf R → (xs : List ℕ) × (R ≡ Fails xs)
+fails (Holds e j) q = absurd (let z : _≡_ {A = ℕ} 0 1 = cc in omega arith)
+fails (Fails xs) q = (xs, refl)
+
+-- A pass over the lines ------------------------------------------------------------------------------------------------------------------------
+
+pub record Scanning (s : List ℕ) (n : ℕ) (m : Measure) (at edges listed : ℕ) : Type 0 where
+  pub so-far : Table
+  pub vertices : so-far .vertices ≡ n
+  pub measure : so-far .measure ≡ m
+  pub counted : length (so-far .edges) ≡ edges
+  pub summed : total (so-far .edges) ≡ listed
+  pub few : edges ≤ mostEdges
+  pub few-listed : listed ≤ mostListed
+  pub within : at ≤ length s
+  pub same : scanFrom (mostEdges - edges) s at so-far ≡ scan s
+
+pub scan-unopened : (s : List ℕ) → firstLine s ≡ first.Wrong → scan s ≡ Wrong 1
+unfolding scan
+scan-unopened s e = ap (onFirst s) e
+
+pub scan-begun : (s : List ℕ) (n : ℕ) (m : Measure) (start : ℕ) → firstLine s ≡ first.Read n m start → Scanning s n m start 0 0
+unfolding scan total
+scan-begun s n m start e = record {
+  so-far = begun n m;
+  vertices = refl;
+  measure = refl;
+  counted = refl;
+  summed = refl;
+  few = omega arith;
+  few-listed = omega arith;
+  within = first-counts s n m start e;
+  same = sym (ap (onFirst s) e);
+}
+
+pub scan-begun-edges : (s : List ℕ) (n : ℕ) (m : Measure) (start : ℕ) (e : firstLine s ≡ first.Read n m start) → scan-begun s n m start e .so-far .edges ≡ []
+unfolding scan-begun
+scan-begun-edges s n m start e = refl
+
+module _ (s : List ℕ) (at : ℕ) (t : Table) where
+  from-full : (left : ℕ) → left ≡ 0 → at < length s → scanFrom left s at t ≡ Wrong (nextLine t)
+  unfolding scanFrom
+  from-full left z h = rw (z, lt-ltb at (length s) h)
+
+  from-row : (left : ℕ) → 0 < left → at < length s → scanFrom left s at t ≡ onRow t (rowAt s (t .vertices) (mayList t) at) (λ u next. scanFrom (left - 1) s next u)
+  unfolding scanFrom
+  from-row zero l h = absurd (omega arith)
+  from-row (suc left) l h =
+      let z : suc left - 1 ≡ left = omega arith in
+      rw (lt-ltb at (length s) h) (ap (λ (k : ℕ). onRow t (rowAt s (t .vertices) (mayList t) at) (λ u next. scanFrom k s next u)) (sym z))
+
+  from-end : (left : ℕ) → length s ≤ at → scanFrom left s at t ≡ Whole t
+  unfolding scanFrom
+  from-end zero h = rw (le-ltb at (length s) h)
+  from-end (suc left) h = rw (le-ltb at (length s) h)
+
+module _ (s : List ℕ) (n : ℕ) (m : Measure) (at edges listed : ℕ) (g : Scanning s n m at edges listed) where
+  line-is : nextLine (g .so-far) ≡ edges + 2
+  line-is = ap (λ (k : ℕ). k + 2) (g .counted)
+
+  pub scan-full : at < length s → mostEdges ≤ edges → scan s ≡ Wrong (edges + 2)
+  scan-full h l = sym (g .same) ∙ from-full s at (g .so-far) (mostEdges - edges) (omega arith) h ∙ ap Wrong line-is
+
+  pub scan-end : length s ≤ at → scan s ≡ Whole (g .so-far)
+  scan-end h = sym (g .same) ∙ from-end s at (g .so-far) (mostEdges - edges) h
+
+  -- the line at the place, of as many parts as it may list
+  this-row : rowAt s (g .so-far .vertices) (mayList (g .so-far)) at ≡ rowAt s n (min (mostListed - listed) longestTail) at
+  this-row = ap₂ (λ (a b : ℕ). rowAt s a (min (mostListed - b) longestTail) at) (g .vertices) (g .summed)
+
+  module _ (h : at < length s) (l : edges < mostEdges) (R : Row) (e : rowAt s n (min (mostListed - listed) longestTail) at ≡ R) where
+    by-row : scan s ≡ onRow (g .so-far) R (λ u next. scanFrom (mostEdges - edges - 1) s next u)
+    by-row = sym (g .same) ∙ from-row s at (g .so-far) (mostEdges - edges) (omega arith) h ∙ ap (λ (Q : Row). onRow (g .so-far) Q (λ u next. scanFrom (mostEdges - edges - 1) s next u)) (this-row ∙ e)
+
+    pub scan-fails : (xs : List ℕ) → R ≡ Fails xs → scan s ≡ Wrong (edges + 2)
+    scan-fails xs q = by-row ∙ ap (λ (Q : Row). onRow (g .so-far) Q (λ u next. scanFrom (mostEdges - edges - 1) s next u)) q ∙ ap Wrong line-is
+
+    pub scan-next : (x : Edge) (next : ℕ) → R ≡ Holds x next → Scanning s n m next (edges + 1) (listed + length (x .tail))
+    scan-next x next q =
+        let c = row-counts s n (min (mostListed - listed) longestTail) at x next (e ∙ q) in
+        let b = c .0 in
+        let f = g .few-listed in
+        let z : mostEdges - edges - 1 ≡ mostEdges - (edges + 1) = omega arith in
+        record {
+          so-far = withEdge (g .so-far) x;
+          vertices = g .vertices;
+          measure = g .measure;
+          counted = length-append (g .so-far .edges) (x ∷ []) ∙ ap (λ (k : ℕ). k + 1) (g .counted);
+          summed = total-snoc (g .so-far .edges) x ∙ ap (λ (k : ℕ). k + length (x .tail)) (g .summed);
+          few = omega arith;
+          few-listed = omega arith;
+          within = c .2;
+          same = ap (λ (k : ℕ). scanFrom k s next (withEdge (g .so-far) x)) (sym z) ∙ sym (by-row ∙ ap (λ (Q : Row). onRow (g .so-far) Q (λ u next. scanFrom (mostEdges - edges - 1) s next u)) q);
+        }
+
+    pub scan-next-edges : (x : Edge) (next : ℕ) (q : R ≡ Holds x next) → scan-next x next q .so-far .edges ≡ g .so-far .edges ++ x ∷ []
+    unfolding scan-next
+    scan-next-edges x next q = refl
