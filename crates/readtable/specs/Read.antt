@@ -1,0 +1,71 @@
+-- What reading a text into lent columns returns, and what it leaves in them. The paper's "The text" ("Reading returns n, the measure and the counts, and writes
+-- that many places of each column; the rest keep theirs. Spans are written from offset 0 without gaps") and, of "What is turned away", 14, then 15.
+-- Assumes nothing: these are definitions.
+use Prim.Native.Nat.{ℕ, _+_, _*_, _≤_}
+use mathlib.Core.Path.{_≡_}
+use mathlib.Core.Bool.{Bool, true, false}
+use mathlib.Core.List.{List, []}
+use lib.ListN.{length}
+use lib.Dec.{leb}
+use Rattle.weights.specs.Choice.{pick}
+use Rattle.refusal.specs.declared.Refusal.the-variants.{TextRoom}
+use Rattle.refusal.specs.declared.Header.{Header}
+use Rattle.refusal.specs.declared.Reading.{Reading}
+use Rattle.refusal.specs.declared.Reading.the-variants as reading
+use Rattle.text.specs.Tables.{Edge, Table, total, headsOf, ownsOf, spansFrom, tailsOf}
+use Rattle.text.specs.Machine.{Parse, Whole, Wrong, parse}
+use Rattle.text.specs.Filled.{filled}
+use Rattle.reading.specs.Lines.{headerOf, readingOf}
+
+-- the answer, and the four columns at exit
+pub record ReadOutcome : Type 0 where
+  pub answer : Reading
+  pub heads : List ℕ
+  pub own : List ℕ
+  pub spans : List ℕ
+  pub tails : List ℕ
+
+abbrev pub readOutcome : Reading → (heads own spans tails : List ℕ) → ReadOutcome
+readOutcome r h o s t = record { answer = r; heads = h; own = o; spans = s; tails = t }
+
+-- columns of these lengths have room for the table
+unfoldable pub roomFor : Header → (heads own spans tails : ℕ) → Bool
+roomFor header heads own spans tails =
+    pick (leb (header .edges) heads)
+    (pick (leb (header .edges) own)
+    (pick (leb (2 * header .edges) spans)
+    (leb (header .listed) tails)
+    false) false) false
+
+-- by what the text holds: 14 with the text line; 15; or the table, its columns filled from their start
+unfoldable pub readInto : Parse → (heads own spans tails : List ℕ) → ReadOutcome
+readInto (Wrong l) h o s t = readOutcome (readingOf (Wrong l)) h o s t
+readInto (Whole u) h o s t =
+    pick (roomFor (headerOf u) (length h) (length o) (length s) (length t))
+    (readOutcome (readingOf (Whole u)) (filled (headsOf (u .edges)) h) (filled (ownsOf (u .edges)) o) (filled (spansFrom 0 (u .edges)) s) (filled (tailsOf (u .edges)) t))
+    (readOutcome (reading.Refused TextRoom) h o s t)
+
+abbrev pub readTable : (text heads own spans tails : List ℕ) → ReadOutcome
+readTable text h o s t = readInto (parse text) h o s t
+
+-- Filling --------------------------------------------------------------------------------------------------------------------------------------
+
+abbrev pub edgesIn : Parse → List Edge
+edgesIn (Whole u) = u .edges
+edgesIn (Wrong l) = []
+
+-- the text is that of a table for which columns of these lengths have room
+pub record Ready (text : List ℕ) (h o s t : ℕ) : Type 0 where
+  pub table : Table
+  pub whole : parse text ≡ Whole table
+  pub heads : length (table .edges) ≤ h
+  pub own : length (table .edges) ≤ o
+  pub spans : 2 * length (table .edges) ≤ s
+  pub tails : total (table .edges) ≤ t
+
+-- the columns, from what stood in them, are filled with those of the hyperedges
+pub record Fills (es : List Edge) (h₀ o₀ s₀ t₀ h o s t : List ℕ) : Type 0 where
+  pub heads : h ≡ filled (headsOf es) h₀
+  pub own : o ≡ filled (ownsOf es) o₀
+  pub spans : s ≡ filled (spansFrom 0 es) s₀
+  pub tails : t ≡ filled (tailsOf es) t₀
