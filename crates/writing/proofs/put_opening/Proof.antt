@@ -1,0 +1,68 @@
+-- `writing::put_opening` meets its contract: one piece, and another in the room behind it. Assumes nothing.
+use mathlib.Core.List.{_++_}
+use Prim.Native.Nat.{_≤_}
+use native.Mathlib.Omega.{arith}
+use borrow.Author.Needs.{needs}
+use lib.ListN.{length}
+use Rattle.text.specs.Render.{digits, opening}
+use Rattle.writing.specs.Written.{Written, lent-room, within, written-part}
+use Rattle.writing.proofs.Laws.{first-fits}
+use Rattle.writing.proofs.put_opening.Statement.{statement}
+use Rattle.writing.proofs.put_opening.Tie as tie
+
+-- the two pieces have room
+whole : (c : tie.Start) → length (opening ++ digits (c .args .n)) ≤ length (c .args .room .now)
+whole c = c .pre
+
+slice-aggregate-put-bytes : tie.Need-slice-aggregate-put-bytes
+slice-aggregate-put-bytes c = search needs
+
+put-bytes-requires : tie.Need-put-bytes-requires
+unfolding opening
+put-bytes-requires c κs = let s = c .before .before .before in first-fits (opening) (digits (s .args .n)) (s .args .room .now) (whole s)
+
+sub-put-number : tie.Need-sub-put-number
+unfolding opening
+sub-put-number c = let s = c .before .before .before .before .before .before in within (opening) _ _ _ (c .before .before .put-bytes .ensures) (digits (s .args .n)) (whole s)
+
+part-put-number-start : tie.Need-part-put-number-start
+part-put-number-start c = let r = sub-put-number c in search (needs, r)
+
+part-put-number-end : tie.Need-part-put-number-end
+part-put-number-end c = search needs
+
+put-number-requires : tie.Need-put-number-requires
+unfolding opening
+put-number-requires c κs = let k = c .before in let s = k .before .before .before .before .before .before in lent-room (opening) _ _ _ (k .before .before .put-bytes .ensures) (digits (s .args .n)) (whole s)
+
+returns : tie.Need-returns
+unfolding opening
+returns c =
+    let p = c .before .before in
+    let k = p .before .before in
+    let s = k .before .before .before .before .before .before in
+    written-part (opening) _ _ _ (k .before .before .put-bytes .ensures) (digits (s .args .n)) _ _ (whole s) (p .put-number .ensures)
+
+add-result : tie.Need-add-result
+add-result c =
+    let s = c .before .before .before .before .before .before .before .before .before .before in
+    let n = returns c .count in
+    let w = s .pre in
+    omega (arith, s .good)
+
+same-length : tie.Need-same-length
+same-length c = returns c .long
+
+pub put-opening-spec : {M : Type 1} → statement M
+put-opening-spec =
+    tie.close
+    (tie.spec
+    slice-aggregate-put-bytes
+    put-bytes-requires
+    sub-put-number
+    part-put-number-start
+    part-put-number-end
+    put-number-requires
+    add-result
+    same-length
+    returns)

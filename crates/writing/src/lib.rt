@@ -1,0 +1,189 @@
+// Measuring and writing the pieces of a text: a number, an own weight, a line, the first line. Each
+// piece is written from the start of the room that it is lent, and its width is returned.
+use weights::Measure;
+use weights::Vertex;
+use weights::Weight;
+ghost use mathlib.Core.Path.{_≡_};
+ghost use mathlib.Core.List.{[], _∷_, _++_};
+ghost use Prim.Native.Nat.{_≤_};
+ghost use lib.ListN.{length};
+ghost use Rattle.columns.specs.Acceptance.{mostVertices};
+ghost use Rattle.text.specs.Tables.{edge};
+ghost use Rattle.text.specs.Render.{digits, opening, measureText, header, ownText, tailText, edgeText};
+ghost use Rattle.text.specs.Rows.{EdgeFits};
+ghost use Rattle.writing.specs.Written.{Written, TailFits, OwnFits};
+
+// How many digits a number has.
+pub fn number_width(v: u64) -> usize
+    ensures { λ r. ⌜ r ≡ length (digits v) ⌝ }
+{
+    let mut n: usize = 1;
+    let mut rest = v;
+    while rest >= 10 {
+        rest = rest / 10;
+        n += 1;
+    }
+    n
+}
+
+pub fn put_number(room: &mut [u8], v: u64) -> usize
+    requires { ⌜ length (digits v) ≤ length (now room) ⌝ }
+    ensures { λ r. ⌜ Written (digits v) (now (room .entry)) r (now (room .exit)) ⌝ }
+{
+    let width = number_width(v);
+    let mut i = width;
+    let mut x = v;
+    while x >= 10 {
+        i -= 1;
+        room[i] = b'0' + (x % 10) as u8;
+        x = x / 10;
+    }
+    room[0] = b'0' + x as u8;
+    width
+}
+
+// A number behind a space.
+pub fn put_spaced(room: &mut [u8], v: u64) -> usize
+    requires { ⌜ length (32 ∷ digits v) ≤ length (now room) ⌝ }
+    ensures { λ r. ⌜ Written (32 ∷ digits v) (now (room .entry)) r (now (room .exit)) ⌝ }
+{
+    room[0] = b' ';
+    let at: usize = 1;
+    let width = put_number(&mut room[at..], v);
+    at + width
+}
+
+// An own weight behind a space.
+pub fn own_width(weight: Weight) -> usize
+    requires { ⌜ OwnFits (weight .0) ⌝ }
+    ensures { λ r. ⌜ r ≡ length (32 ∷ ownText (weight .0)) ⌝ }
+{
+    if weight.0 == Weight::STRUCK.0 {
+        return 2;
+    }
+    1 + number_width(weight.0)
+}
+
+pub fn put_own(room: &mut [u8], own: Weight) -> usize
+    requires { ⌜ length (32 ∷ ownText (own .0)) ≤ length (now room) ⌝ }
+    ensures { λ r. ⌜ Written (32 ∷ ownText (own .0)) (now (room .entry)) r (now (room .exit)) ⌝ }
+{
+    if own.0 == Weight::STRUCK.0 {
+        room[0] = b' ';
+        room[1] = b'-';
+        return 2;
+    }
+    put_spaced(room, own.0)
+}
+
+// The listed vertices, each behind a space, and the end of the line.
+pub fn tail_width(tail: &[u64]) -> usize
+    requires { ⌜ TailFits (now tail) ⌝ }
+    ensures { λ r. ⌜ r ≡ length (tailText (now (tail .entry)) ++ 10 ∷ []) ⌝ }
+{
+    let mut width: usize = 1;
+    let mut j = 0;
+    while j < tail.len() {
+        width += 1 + number_width(tail[j]);
+        j += 1;
+    }
+    width
+}
+
+pub fn put_tail(room: &mut [u8], tail: &[u64]) -> usize
+    requires { ⌜ length (tailText (now tail) ++ 10 ∷ []) ≤ length (now room) ⌝ }
+    ensures { λ r. ⌜ Written (tailText (now (tail .entry)) ++ 10 ∷ []) (now (room .entry)) r (now (room .exit)) ⌝ }
+{
+    let mut at: usize = 0;
+    let mut j = 0;
+    while j < tail.len() {
+        at += put_spaced(&mut room[at..], tail[j]);
+        j += 1;
+    }
+    room[at] = b'\n';
+    at + 1
+}
+
+// A whole line.
+pub fn edge_width(head: Vertex, own: Weight, tail: &[u64]) -> usize
+    requires { ⌜ EdgeFits mostVertices (edge (head .0) (own .0) (now tail)) ⌝ }
+    ensures { λ r. ⌜ r ≡ length (edgeText (edge (head .0) (own .0) (now (tail .entry))) ++ 10 ∷ []) ⌝ }
+{
+    number_width(head.0) + own_width(own) + tail_width(tail)
+}
+
+// The head and the own weight.
+fn put_stem(room: &mut [u8], head: Vertex, own: Weight) -> usize
+    requires { ⌜ length (digits (head .0) ++ (32 ∷ ownText (own .0))) ≤ length (now room) ⌝ }
+    ensures { λ r. ⌜ Written (digits (head .0) ++ (32 ∷ ownText (own .0))) (now (room .entry)) r (now (room .exit)) ⌝ }
+{
+    let at = put_number(room, head.0);
+    let width = put_own(&mut room[at..], own);
+    at + width
+}
+
+pub fn put_edge(room: &mut [u8], head: Vertex, own: Weight, tail: &[u64]) -> usize
+    requires { ⌜ length (edgeText (edge (head .0) (own .0) (now tail)) ++ 10 ∷ []) ≤ length (now room) ⌝ }
+    ensures { λ r. ⌜ Written (edgeText (edge (head .0) (own .0) (now (tail .entry))) ++ 10 ∷ []) (now (room .entry)) r (now (room .exit)) ⌝ }
+{
+    let at = put_stem(room, head, own);
+    let width = put_tail(&mut room[at..], tail);
+    at + width
+}
+
+fn put_bytes(room: &mut [u8], bytes: &[u8]) -> usize
+    requires { ⌜ length (now bytes) ≤ length (now room) ⌝ }
+    ensures { λ r. ⌜ Written (now (bytes .entry)) (now (room .entry)) r (now (room .exit)) ⌝ }
+{
+    let mut i = 0;
+    while i < bytes.len() {
+        room[i] = bytes[i];
+        i += 1;
+    }
+    i
+}
+
+// The end of the first line: nothing for cost, and the word for days.
+fn measure_width(measure: Measure) -> usize
+    ensures { λ r. ⌜ r ≡ length (measureText measure) ⌝ }
+{
+    match measure {
+        Measure::Cost => 1,
+        Measure::Days => 6,
+    }
+}
+
+fn put_measure(room: &mut [u8], measure: Measure) -> usize
+    requires { ⌜ length (measureText measure) ≤ length (now room) ⌝ }
+    ensures { λ r. ⌜ Written (measureText measure) (now (room .entry)) r (now (room .exit)) ⌝ }
+{
+    match measure {
+        Measure::Cost => put_bytes(room, b"\n"),
+        Measure::Days => put_bytes(room, b" days\n"),
+    }
+}
+
+pub fn header_width(n: u64, measure: Measure) -> usize
+    requires { ⌜ n ≤ mostVertices ⌝ }
+    ensures { λ r. ⌜ r ≡ length (header n measure) ⌝ }
+{
+    6 + number_width(n) + measure_width(measure)
+}
+
+fn put_opening(room: &mut [u8], n: u64) -> usize
+    requires { ⌜ length (opening ++ digits n) ≤ length (now room) ⌝ }
+    ensures { λ r. ⌜ Written (opening ++ digits n) (now (room .entry)) r (now (room .exit)) ⌝ }
+{
+    let at = put_bytes(room, b"parts ");
+    let width = put_number(&mut room[at..], n);
+    at + width
+}
+
+pub fn put_header(room: &mut [u8], n: u64, measure: Measure) -> usize
+    requires { ⌜ length (header n measure) ≤ length (now room) ⌝ }
+    ensures { λ r. ⌜ Written (header n measure) (now (room .entry)) r (now (room .exit)) ⌝ }
+{
+    let at = put_opening(room, n);
+    let width = put_measure(&mut room[at..], measure);
+    at + width
+}
