@@ -8,6 +8,9 @@ use borrow.Author.Tests.{eq-eqb, ne-eqb}
 use Rattle.weights.specs.declared.Measure.{Measure}
 use Rattle.weights.specs.declared.Entry.{Entry}
 use Rattle.refusal.specs.declared.Refusal.{Refusal}
+use Rattle.refusal.specs.declared.Header.{Header}
+use Rattle.refusal.specs.declared.Reading.{Reading}
+use Rattle.refusal.specs.declared.Reading.the-variants as reading
 use Rattle.refusal.specs.declared.Answer.{Answer}
 use Rattle.refusal.specs.declared.Verdict.{Verdict}
 use Rattle.refusal.specs.declared.MeasureChoice.{MeasureChoice}
@@ -18,7 +21,8 @@ use Rattle.columns.specs.Columns.{Columns}
 use Rattle.settle.specs.Settling.{Outcome, settled}
 use Rattle.settle.specs.Checking.{checked}
 use Rattle.reprice.specs.Repricing.{Change, repriced, stricken}
-use Rattle.harness.specs.Results.{outcomeResult, settledResult, checkedResult, changeResult, repricedResult, strickenResult, entryWritten}
+use Rattle.readtable.specs.Read.{ReadOutcome}
+use Rattle.harness.specs.Results.{outcomeResult, settledResult, checkedResult, changeResult, repricedResult, strickenResult, entryWritten, measureNumber, headerWritten, readResult}
 
 module _ {o : MeasureChoice} (c : Columns) (a : Answers) {n : ℕ} where
   pub settled-refused : {r : Refusal} → o ≡ choice.Refused r → n ≡ resultOf (codeOf r) → record { result = n; left = a } ≡ settledResult o c a
@@ -60,3 +64,26 @@ module _ (e : Entry) (room : List ℕ) where
 
   pub unwritten : ¬ (length room ≡ 3) → room ≡ entryWritten e room
   unwritten n = rw (ne-eqb (length room) 3 n)
+
+four : (xs : List ℕ) (n m e l : ℕ) → length xs ≡ 4 → set (set (set (set xs 0 n) 1 m) 2 e) 3 l ≡ n ∷ m ∷ e ∷ l ∷ []
+four [] n m e l h = absurd (omega arith)
+four (x ∷ []) n m e l h = absurd (omega arith)
+four (x ∷ (y ∷ [])) n m e l h = absurd (omega arith)
+four (x ∷ (y ∷ (z ∷ []))) n m e l h = absurd (omega arith)
+four (x ∷ (y ∷ (z ∷ (t ∷ [])))) n m e l h = refl
+four (x ∷ (y ∷ (z ∷ (t ∷ (u ∷ us))))) n m e l h = absurd (omega arith)
+
+module _ (h : Header) (room : List ℕ) where
+  pub header-written : {m : ℕ} → m ≡ measureNumber (h .measure) → length room ≡ 4 → set (set (set (set room 0 (h .vertices)) 1 m) 2 (h .edges)) 3 (h .listed) ≡ headerWritten h room
+  header-written {m} p k = rw (eq-eqb (length room) 4 k) (four room (h .vertices) m (h .edges) (h .listed) k ∙ ap (λ (x : ℕ). h .vertices ∷ x ∷ h .edges ∷ h .listed ∷ []) p)
+
+  pub header-unwritten : ¬ (length room ≡ 4) → room ≡ headerWritten h room
+  header-unwritten n = rw (ne-eqb (length room) 4 n)
+
+-- reading, by its answer
+module _ {x : ReadOutcome} (room : List ℕ) {h o s t : List ℕ} {a : Reading} (e : record { answer = a; heads = h; own = o; spans = s; tails = t } ≡ x) where
+  pub read-refused : {r : Refusal} {n : ℕ} → a ≡ reading.Refused r → n ≡ resultOf (codeOf r) → record { result = n; heads = h; own = o; spans = s; tails = t; header = room } ≡ readResult x room
+  read-refused p q = rw (← e, p, q)
+
+  pub read-table : {u : Header} {room′ : List ℕ} → a ≡ reading.Table u → room′ ≡ headerWritten u room → record { result = 0; heads = h; own = o; spans = s; tails = t; header = room′ } ≡ readResult x room
+  read-table p q = rw (← e, p, q)

@@ -3,10 +3,15 @@ use Prim.Native.Nat.{ℕ}
 use mathlib.Core.List.{List, [], _∷_}
 use lib.ListN.{length}
 use lib.Dec.{eqb}
+use Rattle.weights.specs.declared.Measure as measures
+use Rattle.weights.specs.declared.Measure.the-variants.{Cost, Days}
 use Rattle.weights.specs.declared.State.{State}
 use Rattle.weights.specs.declared.State.the-variants.{Made, Over, Unmade}
 use Rattle.weights.specs.declared.Entry.{Entry}
 use Rattle.weights.specs.Choice.{pick}
+use Rattle.refusal.specs.declared.Header.{Header}
+use Rattle.refusal.specs.declared.Reading.{Reading}
+use Rattle.refusal.specs.declared.Reading.the-variants as reading
 use Rattle.refusal.specs.declared.MeasureChoice.{MeasureChoice}
 use Rattle.refusal.specs.declared.MeasureChoice.the-variants.{Measure, Refused}
 use Rattle.refusal.specs.Refusals.{codeOf, resultOf, answerResult, verdictResult}
@@ -15,6 +20,7 @@ use Rattle.columns.specs.Columns.{Columns}
 use Rattle.settle.specs.Settling.{Outcome, settled}
 use Rattle.settle.specs.Checking.{checked}
 use Rattle.reprice.specs.Repricing.{Change, repriced, stricken}
+use Rattle.readtable.specs.Read.{ReadOutcome}
 
 -- a number, and the answer columns
 pub record Left : Type 0 where
@@ -58,3 +64,31 @@ stateNumber Unmade = 2
 -- figure, depth and line, where three places are lent
 abbrev pub entryWritten : Entry → List ℕ → List ℕ
 entryWritten e room = pick (eqb (length room) 3) (e .weight .0 ∷ e .depth ∷ e .edge .0 ∷ []) room
+
+-- what a text said of its table, where four places are lent: n, the measure's number, the lines and the listed parts
+abbrev pub measureNumber : measures.Measure → ℕ
+measureNumber Cost = 0
+measureNumber Days = 1
+
+abbrev pub headerWritten : Header → List ℕ → List ℕ
+headerWritten h room = pick (eqb (length room) 4) (h .vertices ∷ measureNumber (h .measure) ∷ h .edges ∷ h .listed ∷ []) room
+
+-- a number, and all that reading was lent
+pub record ReadLeft : Type 0 where
+  pub result : ℕ
+  pub heads : List ℕ
+  pub own : List ℕ
+  pub spans : List ℕ
+  pub tails : List ℕ
+  pub header : List ℕ
+
+abbrev pub readingNumber : Reading → ℕ
+readingNumber (reading.Table h) = 0
+readingNumber (reading.Refused r) = resultOf (codeOf r)
+
+abbrev pub readingHeader : Reading → List ℕ → List ℕ
+readingHeader (reading.Table h) room = headerWritten h room
+readingHeader (reading.Refused r) room = room
+
+abbrev pub readResult : ReadOutcome → List ℕ → ReadLeft
+readResult x room = record { result = readingNumber (x .answer); heads = x .heads; own = x .own; spans = x .spans; tails = x .tails; header = readingHeader (x .answer) room }

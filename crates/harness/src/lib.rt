@@ -1,6 +1,9 @@
 // The calls, exported for the tests alone. Each gives one number, as a caller in C gets it.
+use refusal::Header;
 use refusal::MeasureChoice;
+use refusal::Reading;
 use weights::Hyperedge;
+use weights::Measure;
 use weights::State;
 use weights::Vertex;
 use weights::Weight;
@@ -10,7 +13,8 @@ ghost use Rattle.refusal.specs.Refusals.{answerResult, measureOf};
 ghost use Rattle.provenance.specs.BestFirst.{labels};
 ghost use Rattle.columns.specs.Columns.{columns, answers};
 ghost use Rattle.columns.specs.Acceptance.{acceptance};
-ghost use Rattle.harness.specs.Results.{settledResult, checkedResult, repricedResult, strickenResult, stateNumber, entryWritten};
+ghost use Rattle.readtable.specs.Read.{readTable};
+ghost use Rattle.harness.specs.Results.{settledResult, checkedResult, repricedResult, strickenResult, stateNumber, entryWritten, measureNumber, headerWritten, readResult};
 
 #[no_mangle]
 pub extern "C" fn harness_check_table(
@@ -183,4 +187,50 @@ pub extern "C" fn harness_entry(
     room[1] = e.depth;
     room[2] = root.0;
     state_number(state)
+}
+
+// The number of a measure.
+fn measure_number(measure: Measure) -> u64
+    ensures { λ r. ⌜ r ≡ measureNumber measure ⌝ }
+{
+    match measure {
+        Measure::Cost => 0,
+        Measure::Days => 1,
+    }
+}
+
+// What a text said of its table, in the room if four places are lent.
+fn write_header(header: Header, room: &mut [u64])
+    ensures { λ r. ⌜ now (room .exit) ≡ headerWritten header (now (room .entry)) ⌝ }
+{
+    if room.len() != 4 {
+        return;
+    }
+    let measure = header.measure;
+    let number = measure_number(measure);
+    room[0] = header.vertices;
+    room[1] = number;
+    room[2] = header.edges;
+    room[3] = header.listed;
+}
+
+#[no_mangle]
+pub extern "C" fn harness_read_table(
+    text: &[u8],
+    heads: &mut [u64],
+    own: &mut [u64],
+    spans: &mut [u64],
+    tails: &mut [u64],
+    header: &mut [u64],
+) -> u64
+    ensures { λ r. ⌜ record { result = r; heads = now (heads .exit); own = now (own .exit); spans = now (spans .exit); tails = now (tails .exit); header = now (header .exit) } ≡ readResult (readTable (now (text .entry)) (now (heads .entry)) (now (own .entry)) (now (spans .entry)) (now (tails .entry))) (now (header .entry)) ⌝ }
+{
+    let reading = readtable::read_table(text, heads, own, spans, tails);
+    match reading {
+        Reading::Refused(r) => return r.result(),
+        Reading::Table(h) => {
+            write_header(h, header);
+            return 0;
+        }
+    }
 }
