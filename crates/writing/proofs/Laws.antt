@@ -18,28 +18,10 @@ use Rattle.text.specs.Digits.{pick-by, digits-one, digits-more, by-digits}
 use Rattle.text.specs.Rows.{EdgeFits}
 use Rattle.text.specs.Sound.{tail-text-append, tail-text-snoc}
 use Rattle.text.specs.Filled.{filled}
+use Rattle.writing.specs.Widths.{last-digit, width-more, width-one, one-listed}
 use Rattle.writing.specs.Written.{Written, written-byte, lent, lent-room, within, written-part, written-as, TailFits}
 
 -- Numbers ------------------------------------------------------------------------------------------------------------------------------------
-
--- the last digit of a number of several
-last-digit : (x : ℕ) → 10 ≤ x → digits x ≡ digits (x / 10) ++ (48 + x % 10) ∷ []
-last-digit x h =
-    let q : x ≡ 10 * (x / 10) + x % 10 = omega arith in
-    ap digits q ∙ digits-more (x / 10) (x % 10) (omega arith) (omega arith)
-
-pub width-more : (x : ℕ) → 10 ≤ x → length (digits x) ≡ length (digits (x / 10)) + 1
-width-more x h = ap length (last-digit x h) ∙ length-append (digits (x / 10)) ((48 + x % 10) ∷ [])
-
-pub width-one : (x : ℕ) → x < 10 → length (digits x) ≡ 1
-width-one x h = ap length (digits-one x h)
-
--- a number has no more digits than its value and one
-pub width-most : (v : ℕ) → length (digits v) ≤ v + 1
-width-most =
-    by-digits (λ (v : ℕ). length (digits v) ≤ v + 1)
-    (λ d h. let e = width-one d h in omega arith)
-    (λ v d pos h r. let e = ap length (digits-more v d pos h) in let l = length-append (digits v) ((48 + d) ∷ []) in omega arith)
 
 -- the digits behind those of x are written, from place i on
 pub record Digits (old room : List ℕ) (i x v : ℕ) : Type 0 where
@@ -113,57 +95,6 @@ module _ (bytes old room : List ℕ) (i : ℕ) where
   pub bytes-all : length bytes ≤ i → Written (take i bytes) old i room → Written bytes old i room
   bytes-all h w = written-as old i room (take-all i bytes h) w
 
--- Own figures --------------------------------------------------------------------------------------------------------------------------------
-
-pub own-struck : (o : ℕ) → isStruck o ≡ true → ownText o ≡ 45 ∷ []
-unfolding ownText
-own-struck o e = rw e
-
-pub own-plain : (o : ℕ) → isStruck o ≡ false → ownText o ≡ digits o
-unfolding ownText
-own-plain o e = rw e
-
--- it has at most so many bytes as keep a sum of them from wrapping
-pub own-most : (o : ℕ) → o ≤ struck → length (ownText o) ≤ struck + 1
-unfolding ownText
-own-most o h = pick-by (λ (z : List ℕ). length z ≤ struck + 1) (isStruck o) (λ e. omega arith) (λ e. let w = width-most o in omega arith)
-
--- Lists ----------------------------------------------------------------------------------------------------------------------------------------
-
-module _ (vs : List ℕ) (j : ℕ) (h : j < length vs) where
-  pub one-listed : tailText (take (j + 1) vs) ≡ tailText (take j vs) ++ (32 ∷ digits (getD vs j 0))
-  one-listed = ap tailText (ap (λ (z : ℕ). take z vs) (add-one j) ∙ take-suc vs j 0 h) ∙ tail-text-snoc (take j vs) (getD vs j 0)
-
-  pub width-listed : length (tailText (take (j + 1) vs)) ≡ length (tailText (take j vs)) + (1 + length (digits (getD vs j 0)))
-  width-listed = ap length one-listed ∙ length-append (tailText (take j vs)) (32 ∷ digits (getD vs j 0)) ∙ omega arith
-
-  pub listed-most : TailFits vs → length (digits (getD vs j 0)) ≤ mostVertices
-  listed-most f = let b = below-at mostVertices vs (f .below) j h in let w = width-most (getD vs j 0) in omega arith
-
-pub width-tail : (vs : List ℕ) (j : ℕ) → length vs ≤ j → length (tailText vs ++ 10 ∷ []) ≡ length (tailText (take j vs)) + 1
-width-tail vs j h = length-append (tailText vs) (10 ∷ []) ∙ ap (λ (z : List ℕ). length (tailText z) + 1) (sym (take-all j vs h))
-
-pub tail-most : (vs : List ℕ) → TailFits vs → length (tailText vs ++ 10 ∷ []) ≤ 65536
-tail-most vs f =
-    let b = go (length vs) (omega arith) in
-    let e = width-tail vs (length vs) (omega arith) in
-    let s = f .short in
-    omega arith
-  where
-    go : (j : ℕ) → j ≤ length vs → length (tailText (take j vs)) ≤ 1025 * j
-    go zero h = unfold tailText in omega arith
-    go (suc j) h =
-        let r = go j (omega arith) in
-        let w = width-listed vs j h in
-        let m = listed-most vs j h f in
-        let q : length (tailText (take (suc j) vs)) ≡ length (tailText (take (j + 1) vs)) = ap (λ (z : ℕ). length (tailText (take z vs))) (sym (add-one j)) in
-        omega arith
-
-pub measure-most : (m : Measure) → length (measureText m) ≤ 6
-unfolding measureText word
-measure-most Cost = omega arith
-measure-most Days = omega arith
-
 -- Pieces of a line, and of the first line --------------------------------------------------------------------------------------------------------
 
 -- what is listed so far is shorter than the whole list with its LF
@@ -196,30 +127,6 @@ tail-ends vs old room j n h w l =
     let a = listed-within vs j in
     let c = w .count in
     written-as old (n + 1) (set room n 10) (ap (λ (z : List ℕ). tailText z ++ 10 ∷ []) (take-all j vs h)) (written-byte (tailText (take j vs)) old n room w 10 (omega arith))
-
--- a line in three pieces
-pub line-split : (e : Edge) → edgeText e ++ 10 ∷ [] ≡ (digits (e .head) ++ (32 ∷ ownText (e .own))) ++ (tailText (e .tail) ++ 10 ∷ [])
-unfolding edgeText
-line-split e = append-assoc (digits (e .head) ++ (32 ∷ ownText (e .own))) (tailText (e .tail)) (10 ∷ [])
-
-pub line-width : (e : Edge) → length (edgeText e ++ 10 ∷ []) ≡ length (digits (e .head)) + length (32 ∷ ownText (e .own)) + length (tailText (e .tail) ++ 10 ∷ [])
-line-width e =
-    ap length (line-split e)
-    ∙ length-append (digits (e .head) ++ (32 ∷ ownText (e .own))) (tailText (e .tail) ++ 10 ∷ [])
-    ∙ ap (λ (z : ℕ). z + length (tailText (e .tail) ++ 10 ∷ [])) (length-append (digits (e .head)) (32 ∷ ownText (e .own)))
-
-pub edge-tail : {e : Edge} → EdgeFits mostVertices e → TailFits (e .tail)
-edge-tail f = record { short = f .short; below = f .tail }
-
--- no line of an accepted table is so long that a sum of lines could wrap
-pub line-most : (e : Edge) → EdgeFits mostVertices e → length (edgeText e ++ 10 ∷ []) ≤ 2000000000
-line-most e f =
-    let a = line-width e in
-    let b = width-most (e .head) in
-    let h = f .head in
-    let c = own-most (e .own) (f .own) in
-    let d = tail-most (e .tail) (edge-tail f) in
-    omega arith
 
 -- the first of two pieces that fit
 pub first-fits : (a b old : List ℕ) → length (a ++ b) ≤ length old → length a ≤ length old

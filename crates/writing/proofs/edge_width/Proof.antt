@@ -3,7 +3,7 @@ use native.Mathlib.Omega.{arith}
 use borrow.Author.Needs.{needs}
 use lib.ListN.{length}
 use Rattle.text.specs.Tables.{edge}
-use Rattle.writing.proofs.Laws.{line-width, line-most, edge-tail}
+use Rattle.writing.specs.Widths.{line-width, line-most, edge-tail}
 use Rattle.writing.proofs.edge_width.Statement.{statement}
 use Rattle.writing.proofs.edge_width.Tie as tie
 

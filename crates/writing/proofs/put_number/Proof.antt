@@ -5,7 +5,8 @@ use native.Mathlib.Omega.{arith}
 use borrow.Author.Needs.{needs}
 use lib.ListN.{length, length-set}
 use Rattle.text.specs.Render.{digits}
-use Rattle.writing.proofs.Laws.{width-more, width-one, Digits, digits-none, digits-next, digits-written}
+use Rattle.writing.specs.Widths.{width-more, width-one}
+use Rattle.writing.proofs.Laws.{Digits, digits-none, digits-next, digits-written}
 use Rattle.writing.proofs.put_number.Statement.{statement}
 use Rattle.writing.proofs.put_number.Tie as tie
 

@@ -8,7 +8,7 @@ use borrow.Author.Tests.{eq-eqb, ne-eqb}
 use lib.ListN.{length, set}
 use Rattle.text.specs.Render.{digits, ownText}
 use Rattle.writing.specs.Written.{Written, written-none, written-byte, written-as}
-use Rattle.writing.proofs.Laws.{own-struck, own-plain}
+use Rattle.writing.specs.Widths.{own-struck, own-plain}
 use Rattle.writing.proofs.put_own.Statement.{statement}
 use Rattle.writing.proofs.put_own.Tie as tie
 

@@ -1,0 +1,1 @@
+// That reading and writing undo each other: the theorems are in specs/.

@@ -1,0 +1,134 @@
+-- `writetable::text_width` meets its contract. The invariant: the first line and i lines more are measured. Assumes nothing.
+use mathlib.Core.Path.{_≡_, _∙_, ap}
+use Prim.Native.Nat.{ℕ, _-_}
+use native.Mathlib.Omega.{arith}
+use borrow.Author.Needs.{needs}
+use lib.ListN.{length}
+use Rattle.columns.specs.Columns.{Columns, columns}
+use Rattle.columns.specs.Accepted.{table-accepted}
+use Rattle.writing.specs.Widths.{header-most}
+use Rattle.writetable.proofs.Laws.{EdgeHere, edge-here, sliced-fits, sliced-line, Measured, measured-none, measured-next, measured-all}
+use Rattle.writetable.proofs.text_width.Statement.{statement}
+use Rattle.writetable.proofs.text_width.Tie as tie
+
+abbrev Inv-loop : tie.InvT-loop
+Inv-loop n heads own spans tails width₀ i₀ width i = Measured (columns n heads own spans tails) width₀ width i
+
+abbrev μ-loop : tie.MeasureT-loop
+μ-loop n heads own spans tails width₀ i₀ width i = length heads - i
+
+abbrev table : tie.Start Inv-loop μ-loop → Columns
+table s = columns (s .args .n) (s .args .heads .now) (s .args .own .now) (s .args .spans .now) (s .args .tails .now)
+
+header-width-requires : tie.Need-header-width-requires Inv-loop μ-loop
+header-width-requires c κs = let s = c .before .before .before .before in table-accepted (table s) (s .pre) .few
+
+loop-holds : tie.Need-loop-holds Inv-loop μ-loop
+loop-holds c =
+    let s = c .before .before .before .before .before in
+    let m = header-most (s .args .n) (s .args .measure) (table-accepted (table s) (s .pre) .few) in
+    let w = c .header-width .ensures in
+    measured-none _ _ (omega arith)
+
+abbrev start : tie.In-loop Inv-loop μ-loop → tie.Start Inv-loop μ-loop
+start l = l .before .before .before .before .before .before .before
+
+here : (l : tie.In-loop Inv-loop μ-loop) → EdgeHere (table (start l)) (l .before .loop .i)
+here l = edge-here _ _ (start l .pre) (l .loop-test .taken)
+
+mul-from : tie.Need-mul-from Inv-loop μ-loop
+mul-from c = search needs
+
+shared-slice-read-from : tie.Need-shared-slice-read-from Inv-loop μ-loop
+shared-slice-read-from c = search needs
+
+mul-from-2 : tie.Need-mul-from-2 Inv-loop μ-loop
+mul-from-2 c = let e = here (c .before) in omega arith
+
+shared-slice-read-from-2 : tie.Need-shared-slice-read-from-2 Inv-loop μ-loop
+shared-slice-read-from-2 c = let e = here (c .before .before) in omega arith
+
+mul-from-3 : tie.Need-mul-from-3 Inv-loop μ-loop
+mul-from-3 c = let e = here (c .before .before) in omega arith
+
+mul-from-4 : tie.Need-mul-from-4 Inv-loop μ-loop
+mul-from-4 c = let e = here (c .before .before) in omega arith
+
+shared-slice-read-from-3 : tie.Need-shared-slice-read-from-3 Inv-loop μ-loop
+shared-slice-read-from-3 c = let e = here (c .before .before .before) in omega arith
+
+mul-to : tie.Need-mul-to Inv-loop μ-loop
+mul-to c = let e = here (c .before .before .before) in omega arith
+
+add-to : tie.Need-add-to Inv-loop μ-loop
+add-to c = let e = here (c .before .before .before) in omega arith
+
+mul-to-2 : tie.Need-mul-to-2 Inv-loop μ-loop
+mul-to-2 c = let e = here (c .before .before .before) in omega arith
+
+shared-slice-read-to : tie.Need-shared-slice-read-to Inv-loop μ-loop
+shared-slice-read-to c = let e = here (c .before .before .before .before) in omega arith
+
+add-to-2 : tie.Need-add-to-2 Inv-loop μ-loop
+add-to-2 c = let e = here (c .before .before .before .before) in omega arith
+
+mul-edge-width : tie.Need-mul-edge-width Inv-loop μ-loop
+mul-edge-width c = let e = here (c .before .before .before .before) in omega arith
+
+sub-edge-width : tie.Need-sub-edge-width Inv-loop μ-loop
+sub-edge-width c = search needs
+
+part-edge-width-start : tie.Need-part-edge-width-start Inv-loop μ-loop
+part-edge-width-start c = search needs
+
+part-edge-width-end : tie.Need-part-edge-width-end Inv-loop μ-loop
+part-edge-width-end c = let e = here (c .before .before .before .before) .span in search (needs, e)
+
+edge-width-requires : tie.Need-edge-width-requires Inv-loop μ-loop
+edge-width-requires c κs = sliced-fits _ _ (here (c .before .before .before .before .before))
+
+loop-again : tie.Need-loop-again Inv-loop μ-loop
+loop-again c = let l = c .before .before .before .before .before .before in measured-next _ _ _ _ _ (start l .pre) (l .loop-test .taken) (c .edge-width .ensures ∙ ap length (sliced-line (table (start l)) (l .before .loop .i))) (l .before .loop .inv)
+
+add-width : tie.Need-add-width Inv-loop μ-loop
+add-width c = let m = loop-again c in let e = here (c .before .before .before .before .before .before) in omega arith
+
+add-i : tie.Need-add-i Inv-loop μ-loop
+add-i c = search needs
+
+loop-less : tie.Need-loop-less Inv-loop μ-loop
+loop-less c = search needs
+
+returns : tie.Need-returns Inv-loop μ-loop
+returns c = measured-all _ _ _ _ _ (c .before .before .header-width .ensures) (c .loop-test .left) (c .before .loop .inv)
+
+pub text-width-spec : {M : Type 1} → statement M
+text-width-spec =
+    tie.close
+    (tie.spec
+    Inv-loop
+    μ-loop
+    header-width-requires
+    loop-holds
+    mul-from
+    shared-slice-read-from
+    mul-from-2
+    shared-slice-read-from-2
+    mul-from-3
+    mul-from-4
+    shared-slice-read-from-3
+    mul-to
+    add-to
+    mul-to-2
+    shared-slice-read-to
+    add-to-2
+    mul-edge-width
+    sub-edge-width
+    part-edge-width-start
+    part-edge-width-end
+    edge-width-requires
+    add-width
+    add-i
+    loop-less
+    loop-again
+    returns)

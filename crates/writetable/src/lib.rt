@@ -1,0 +1,96 @@
+// Writing a table that is lent as columns into lent room.
+use columns::check_table;
+use refusal::Answer;
+use refusal::Extent;
+use refusal::Refusal;
+use weights::Measure;
+use weights::Vertex;
+use weights::Weight;
+use writing::edge_width;
+use writing::header_width;
+use writing::put_edge;
+use writing::put_header;
+ghost use mathlib.Core.Path.{_≡_};
+ghost use Prim.Native.Nat.{_≤_};
+ghost use lib.ListN.{length};
+ghost use Rattle.refusal.specs.declared.Answer.the-variants.{Accepted};
+ghost use Rattle.columns.specs.Columns.{columns};
+ghost use Rattle.columns.specs.Acceptance.{acceptance};
+ghost use Rattle.text.specs.Render.{render};
+ghost use Rattle.writing.specs.Written.{Written};
+ghost use Rattle.writetable.specs.Write.{writeOutcome, writeTable, Writable};
+
+// How many bytes the text of an accepted table has.
+fn text_width(
+    measure: Measure,
+    n: u64,
+    heads: &[u64],
+    own: &[u64],
+    spans: &[u64],
+    tails: &[u64],
+) -> usize
+    requires { ⌜ acceptance (columns n (now heads) (now own) (now spans) (now tails)) ≡ Accepted ⌝ }
+    ensures { λ r. ⌜ r ≡ length (render measure (columns n (now (heads .entry)) (now (own .entry)) (now (spans .entry)) (now (tails .entry)))) ⌝ }
+{
+    let mut width = header_width(n, measure);
+    let mut i = 0;
+    while i < heads.len() {
+        let head = Vertex(heads[i]);
+        let weight = Weight(own[i]);
+        let from = spans[2 * i] as usize;
+        let to = from + spans[2 * i + 1] as usize;
+        width += edge_width(head, weight, &tails[from..to]);
+        i += 1;
+    }
+    width
+}
+
+// The text of an accepted table is written from the room's start.
+fn put_text(
+    measure: Measure,
+    n: u64,
+    heads: &[u64],
+    own: &[u64],
+    spans: &[u64],
+    tails: &[u64],
+    room: &mut [u8],
+)
+    requires { ⌜ Writable measure (columns n (now heads) (now own) (now spans) (now tails)) (length (now room)) ⌝ }
+    ensures { λ r. ⌜ Written (render measure (columns n (now (heads .entry)) (now (own .entry)) (now (spans .entry)) (now (tails .entry)))) (now (room .entry)) (length (render measure (columns n (now (heads .entry)) (now (own .entry)) (now (spans .entry)) (now (tails .entry))))) (now (room .exit)) ⌝ }
+{
+    let mut at = put_header(room, n, measure);
+    let mut i = 0;
+    while i < heads.len() {
+        let head = Vertex(heads[i]);
+        let weight = Weight(own[i]);
+        let from = spans[2 * i] as usize;
+        let to = from + spans[2 * i + 1] as usize;
+        at += put_edge(&mut room[at..], head, weight, &tails[from..to]);
+        i += 1;
+    }
+}
+
+// A table is written, or refused: by 1 to 6 where its columns are not accepted, or where the room is
+// too short. The text is measured before a byte is written.
+pub fn write_table(
+    measure: Measure,
+    n: u64,
+    heads: &[u64],
+    own: &[u64],
+    spans: &[u64],
+    tails: &[u64],
+    room: &mut [u8],
+) -> Extent
+    ensures { λ r. ⌜ writeOutcome r (now (room .exit)) ≡ writeTable measure (columns n (now (heads .entry)) (now (own .entry)) (now (spans .entry)) (now (tails .entry))) (now (room .entry)) ⌝ }
+{
+    let checked = check_table(n, heads, own, spans, tails);
+    if let Answer::Refused(r) = checked {
+        return Extent::Refused(r);
+    }
+    let width = text_width(measure, n, heads, own, spans, tails);
+    if width > room.len() {
+        return Extent::Refused(Refusal::TextRoom);
+    }
+    put_text(measure, n, heads, own, spans, tails, room);
+    Extent::Length(width as u64)
+}
