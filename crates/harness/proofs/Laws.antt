@@ -13,16 +13,18 @@ use Rattle.refusal.specs.declared.Reading.{Reading}
 use Rattle.refusal.specs.declared.Reading.the-variants as reading
 use Rattle.refusal.specs.declared.Answer.{Answer}
 use Rattle.refusal.specs.declared.Verdict.{Verdict}
+use Rattle.refusal.specs.declared.Extent.{Extent}
 use Rattle.refusal.specs.declared.MeasureChoice.{MeasureChoice}
 use Rattle.refusal.specs.declared.MeasureChoice.the-variants as choice
-use Rattle.refusal.specs.Refusals.{codeOf, resultOf, answerResult, verdictResult}
+use Rattle.refusal.specs.Refusals.{codeOf, resultOf, answerResult, verdictResult, extentResult}
 use Rattle.provenance.specs.BestFirst.{Answers}
 use Rattle.columns.specs.Columns.{Columns}
 use Rattle.settle.specs.Settling.{Outcome, settled}
 use Rattle.settle.specs.Checking.{checked}
 use Rattle.reprice.specs.Repricing.{Change, repriced, stricken}
 use Rattle.readtable.specs.Read.{ReadOutcome}
-use Rattle.harness.specs.Results.{outcomeResult, settledResult, checkedResult, changeResult, repricedResult, strickenResult, entryWritten, measureNumber, headerWritten, readResult}
+use Rattle.writetable.specs.Write.{writeTable}
+use Rattle.harness.specs.Results.{outcomeResult, settledResult, checkedResult, changeResult, repricedResult, strickenResult, entryWritten, measureNumber, headerWritten, readResult, writeResult, writtenResult}
 
 module _ {o : MeasureChoice} (c : Columns) (a : Answers) {n : ℕ} where
   pub settled-refused : {r : Refusal} → o ≡ choice.Refused r → n ≡ resultOf (codeOf r) → record { result = n; left = a } ≡ settledResult o c a
@@ -87,3 +89,10 @@ module _ {x : ReadOutcome} (room : List ℕ) {h o s t : List ℕ} {a : Reading} 
 
   pub read-table : {u : Header} {room′ : List ℕ} → a ≡ reading.Table u → room′ ≡ headerWritten u room → record { result = 0; heads = h; own = o; spans = s; tails = t; header = room′ } ≡ readResult x room
   read-table p q = rw (← e, p, q)
+
+module _ {o : MeasureChoice} (c : Columns) (room : List ℕ) {n : ℕ} where
+  pub write-refused : {r : Refusal} → o ≡ choice.Refused r → n ≡ resultOf (codeOf r) → record { result = n; room = room } ≡ writtenResult o c room
+  write-refused p q = rw (p, q)
+
+  pub write-measure : {m : Measure} {x : Extent} {room′ : List ℕ} → o ≡ choice.Measure m → n ≡ extentResult x → record { answer = x; room = room′ } ≡ writeTable m c room → record { result = n; room = room′ } ≡ writtenResult o c room
+  write-measure p q e = rw (p, q) (ap writeResult e)

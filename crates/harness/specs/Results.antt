@@ -14,13 +14,14 @@ use Rattle.refusal.specs.declared.Reading.{Reading}
 use Rattle.refusal.specs.declared.Reading.the-variants as reading
 use Rattle.refusal.specs.declared.MeasureChoice.{MeasureChoice}
 use Rattle.refusal.specs.declared.MeasureChoice.the-variants.{Measure, Refused}
-use Rattle.refusal.specs.Refusals.{codeOf, resultOf, answerResult, verdictResult}
+use Rattle.refusal.specs.Refusals.{codeOf, resultOf, answerResult, verdictResult, extentResult}
 use Rattle.provenance.specs.BestFirst.{Answers}
 use Rattle.columns.specs.Columns.{Columns}
 use Rattle.settle.specs.Settling.{Outcome, settled}
 use Rattle.settle.specs.Checking.{checked}
 use Rattle.reprice.specs.Repricing.{Change, repriced, stricken}
 use Rattle.readtable.specs.Read.{ReadOutcome}
+use Rattle.writetable.specs.Write.{WriteOutcome, writeTable}
 
 -- a number, and the answer columns
 pub record Left : Type 0 where
@@ -92,3 +93,15 @@ readingHeader (reading.Refused r) room = room
 
 abbrev pub readResult : ReadOutcome → List ℕ → ReadLeft
 readResult x room = record { result = readingNumber (x .answer); heads = x .heads; own = x .own; spans = x .spans; tails = x .tails; header = readingHeader (x .answer) room }
+
+-- a number, and a room
+pub record RoomLeft : Type 0 where
+  pub result : ℕ
+  pub room : List ℕ
+
+abbrev pub writeResult : WriteOutcome → RoomLeft
+writeResult x = record { result = extentResult (x .answer); room = x .room }
+
+abbrev pub writtenResult : MeasureChoice → Columns → List ℕ → RoomLeft
+writtenResult (Refused r) c room = record { result = resultOf (codeOf r); room = room }
+writtenResult (Measure m) c room = writeResult (writeTable m c room)

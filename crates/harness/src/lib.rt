@@ -14,7 +14,7 @@ ghost use Rattle.provenance.specs.BestFirst.{labels};
 ghost use Rattle.columns.specs.Columns.{columns, answers};
 ghost use Rattle.columns.specs.Acceptance.{acceptance};
 ghost use Rattle.readtable.specs.Read.{readTable};
-ghost use Rattle.harness.specs.Results.{settledResult, checkedResult, repricedResult, strickenResult, stateNumber, entryWritten, measureNumber, headerWritten, readResult};
+ghost use Rattle.harness.specs.Results.{settledResult, checkedResult, repricedResult, strickenResult, stateNumber, entryWritten, measureNumber, headerWritten, readResult, writtenResult};
 
 #[no_mangle]
 pub extern "C" fn harness_check_table(
@@ -231,6 +231,28 @@ pub extern "C" fn harness_read_table(
         Reading::Table(h) => {
             write_header(h, header);
             return 0;
+        }
+    }
+}
+
+#[no_mangle]
+pub extern "C" fn harness_write_table(
+    measure: u64,
+    n: u64,
+    heads: &[u64],
+    own: &[u64],
+    spans: &[u64],
+    tails: &[u64],
+    room: &mut [u8],
+) -> u64
+    ensures { λ r. ⌜ record { result = r; room = now (room .exit) } ≡ writtenResult (measureOf measure) (columns n (now (heads .entry)) (now (own .entry)) (now (spans .entry)) (now (tails .entry))) (now (room .entry)) ⌝ }
+{
+    let choice = refusal::measure_numbered(measure);
+    match choice {
+        MeasureChoice::Refused(r) => return r.result(),
+        MeasureChoice::Measure(m) => {
+            let x = writetable::write_table(m, n, heads, own, spans, tails, room);
+            return x.result();
         }
     }
 }
