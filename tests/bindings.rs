@@ -55,6 +55,28 @@ extern "C" {
         edges_len: usize,
     ) -> u64;
 
+    fn harness_bill(
+        measure: u64,
+        n: u64,
+        heads: *const u64,
+        heads_len: usize,
+        own: *const u64,
+        own_len: usize,
+        spans: *const u64,
+        spans_len: usize,
+        tails: *const u64,
+        tails_len: usize,
+        weights: *const u64,
+        weights_len: usize,
+        depths: *const u64,
+        depths_len: usize,
+        edges: *const u64,
+        edges_len: usize,
+        part: u64,
+        room: *mut u64,
+        room_len: usize,
+    ) -> u64;
+
     fn harness_entry(
         weights: *const u64,
         weights_len: usize,
@@ -145,6 +167,45 @@ pub fn check_answers(measure: u64, table: &Table, answers: &Labelling) -> Result
     };
     lent.kept().and(labels.kept()).map_err(|wrong| format!("check_answers, {wrong}"))?;
     Ok(result)
+}
+
+/// The result, and the room as the call leaves it. A refusal must keep the whole room.
+pub fn bill(
+    measure: u64,
+    table: &Table,
+    answers: &Labelling,
+    part: u64,
+    room: &[u64],
+) -> Result<(u64, Vec<u64>), String> {
+    let mut lent = LentTable::lend(table);
+    let mut labels = LentLabelling::lend(answers);
+    let mut places = Column::lend("room", room);
+    let result = unsafe {
+        harness_bill(
+            measure,
+            table.n,
+            lent.heads.pointer(),
+            lent.heads.len(),
+            lent.own.pointer(),
+            lent.own.len(),
+            lent.spans.pointer(),
+            lent.spans.len(),
+            lent.tails.pointer(),
+            lent.tails.len(),
+            labels.weights.pointer(),
+            labels.weights.len(),
+            labels.depths.pointer(),
+            labels.depths.len(),
+            labels.edges.pointer(),
+            labels.edges.len(),
+            part,
+            places.pointer(),
+            places.len(),
+        )
+    };
+    let written = if result >> 32 == 0 { places.guarded() } else { places.kept() };
+    lent.kept().and(labels.kept()).and(written).map_err(|wrong| format!("bill, {wrong}"))?;
+    Ok((result, places.values().to_vec()))
 }
 
 /// The state's number, and the room as the call leaves it. Only a room of 3 places is written.

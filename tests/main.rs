@@ -2,6 +2,7 @@
 //! The last line is 'N passed, M failed'; the exit status is 1 if a test failed.
 
 mod answers;
+mod bills;
 mod bindings;
 mod damage;
 mod entries;
@@ -29,6 +30,7 @@ const TESTS: &[&[Test]] = &[
     answers::TESTS,
     near_answers::TESTS,
     entries::TESTS,
+    bills::TESTS,
     refusals::TESTS,
 ];
 

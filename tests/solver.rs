@@ -1,6 +1,7 @@
 //! The answers worked out a second way, to compare with: weights by rounds over all hyperedges
 //! until nothing changes, then depths over the tight ones, then the lowest hyperedge. No queue, no
-//! order of settling. And the refusals 1 to 7 and 16, in the order of the specification.
+//! order of settling. The bills, by recursion over the chosen hyperedges. And the refusals of the
+//! calls, in the order of the specification.
 
 use crate::model::*;
 
@@ -148,4 +149,59 @@ pub fn call_result(measure: u64, table: &Table, answers: &Labelling) -> u64 {
     } else {
         refusal(7, 0)
     }
+}
+
+/// How many hyperedges the bill of each vertex has; 0 for an unmade one. Counted from the shallow
+/// vertices up and not along the bill, which may be longer than any number of 128 bits.
+pub fn bill_lengths(table: &Table, right: &Labelling) -> Vec<u128> {
+    let mut order: Vec<u64> = (0..table.n).filter(|&v| right.label(v).depth > 0).collect();
+    order.sort_by_key(|&vertex| right.label(vertex).depth);
+    let mut lengths = vec![0u128; table.n as usize];
+    for vertex in order {
+        let below = table.tail(right.label(vertex).edge as usize).iter();
+        let parts = below.map(|&part| lengths[part as usize]);
+        lengths[vertex as usize] = parts.fold(1, u128::saturating_add);
+    }
+    lengths
+}
+
+/// The bill of a made vertex: its hyperedge, then the bill of each vertex of the tail, in order.
+pub fn bill_of(table: &Table, right: &Labelling, vertex: u64) -> Vec<u64> {
+    let edge = right.label(vertex).edge;
+    let mut bill = vec![edge];
+    for &part in table.tail(edge as usize) {
+        bill.extend(bill_of(table, right, part));
+    }
+    bill
+}
+
+/// What printing a bill must return, and the room as it must leave it.
+pub fn bill_outcome(
+    measure: u64,
+    table: &Table,
+    answers: &Labelling,
+    part: u64,
+    room: &[u64],
+) -> (u64, Vec<u64>) {
+    let refused = |number: u64| (refusal(number, 0), room.to_vec());
+    let result = call_result(measure, table, answers);
+    if result != 0 {
+        return (result, room.to_vec());
+    }
+    if part >= table.n {
+        return refused(11);
+    }
+    if *answers != solve(measure, table) {
+        return refused(8);
+    }
+    if answers.label(part).depth == 0 {
+        return refused(12);
+    }
+    if bill_lengths(table, answers)[part as usize] > room.len() as u128 {
+        return refused(13);
+    }
+    let mut left = room.to_vec();
+    let bill = bill_of(table, answers, part);
+    left[..bill.len()].copy_from_slice(&bill);
+    (bill.len() as u64, left)
 }

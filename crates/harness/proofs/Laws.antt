@@ -22,9 +22,10 @@ use Rattle.columns.specs.Columns.{Columns}
 use Rattle.settle.specs.Settling.{Outcome, settled}
 use Rattle.settle.specs.Checking.{checked}
 use Rattle.reprice.specs.Repricing.{Change, repriced, stricken}
+use Rattle.bill.specs.Billing.{billed}
 use Rattle.readtable.specs.Read.{ReadOutcome}
 use Rattle.writetable.specs.Write.{writeTable}
-use Rattle.harness.specs.Results.{outcomeResult, settledResult, checkedResult, changeResult, repricedResult, strickenResult, entryWritten, measureNumber, headerWritten, readResult, writeResult, writtenResult}
+use Rattle.harness.specs.Results.{outcomeResult, settledResult, checkedResult, changeResult, repricedResult, strickenResult, entryWritten, measureNumber, headerWritten, readResult, billResult, billedResult, writeResult, writtenResult}
 
 module _ {o : MeasureChoice} (c : Columns) (a : Answers) {n : ℕ} where
   pub settled-refused : {r : Refusal} → o ≡ choice.Refused r → n ≡ resultOf (codeOf r) → record { result = n; left = a } ≡ settledResult o c a
@@ -91,8 +92,15 @@ module _ {x : ReadOutcome} (room : List ℕ) {h o s t : List ℕ} {a : Reading} 
   read-table p q = rw (← e, p, q)
 
 module _ {o : MeasureChoice} (c : Columns) (room : List ℕ) {n : ℕ} where
-  pub write-refused : {r : Refusal} → o ≡ choice.Refused r → n ≡ resultOf (codeOf r) → record { result = n; room = room } ≡ writtenResult o c room
+  pub write-refused : {r : Refusal} → o ≡ choice.Refused r → n ≡ resultOf (codeOf r) → record { result = n; left = room } ≡ writtenResult o c room
   write-refused p q = rw (p, q)
 
-  pub write-measure : {m : Measure} {x : Extent} {room′ : List ℕ} → o ≡ choice.Measure m → n ≡ extentResult x → record { answer = x; room = room′ } ≡ writeTable m c room → record { result = n; room = room′ } ≡ writtenResult o c room
+  pub write-measure : {m : Measure} {x : Extent} {room′ : List ℕ} → o ≡ choice.Measure m → n ≡ extentResult x → record { answer = x; room = room′ } ≡ writeTable m c room → record { result = n; left = room′ } ≡ writtenResult o c room
   write-measure p q e = rw (p, q) (ap writeResult e)
+
+module _ {o : MeasureChoice} (c : Columns) (a : Answers) (v : ℕ) (room : List ℕ) {n : ℕ} where
+  pub billed-refused : {r : Refusal} → o ≡ choice.Refused r → n ≡ resultOf (codeOf r) → record { result = n; left = room } ≡ billedResult o c a v room
+  billed-refused p q = rw (p, q)
+
+  pub billed-measure : {m : Measure} {x : Extent} {left : List ℕ} → o ≡ choice.Measure m → n ≡ extentResult x → record { result = x; left = left } ≡ billed m c a v room → record { result = n; left = left } ≡ billedResult o c a v room
+  billed-measure p q e = rw (p, q) (ap billResult e)

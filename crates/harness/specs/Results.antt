@@ -20,6 +20,7 @@ use Rattle.columns.specs.Columns.{Columns}
 use Rattle.settle.specs.Settling.{Outcome, settled}
 use Rattle.settle.specs.Checking.{checked}
 use Rattle.reprice.specs.Repricing.{Change, repriced, stricken}
+use Rattle.bill.specs.Billing.{Outcome as BillOutcome, billed}
 use Rattle.readtable.specs.Read.{ReadOutcome}
 use Rattle.writetable.specs.Write.{WriteOutcome, writeTable}
 
@@ -95,13 +96,20 @@ abbrev pub readResult : ReadOutcome → List ℕ → ReadLeft
 readResult x room = record { result = readingNumber (x .answer); heads = x .heads; own = x .own; spans = x .spans; tails = x .tails; header = readingHeader (x .answer) room }
 
 -- a number, and a room
-pub record RoomLeft : Type 0 where
+pub record LeftRoom : Type 0 where
   pub result : ℕ
-  pub room : List ℕ
+  pub left : List ℕ
 
-abbrev pub writeResult : WriteOutcome → RoomLeft
-writeResult x = record { result = extentResult (x .answer); room = x .room }
+abbrev pub billResult : BillOutcome → LeftRoom
+billResult o = record { result = extentResult (o .result); left = o .left }
 
-abbrev pub writtenResult : MeasureChoice → Columns → List ℕ → RoomLeft
-writtenResult (Refused r) c room = record { result = resultOf (codeOf r); room = room }
+abbrev pub billedResult : MeasureChoice → Columns → Answers → (v : ℕ) → List ℕ → LeftRoom
+billedResult (Refused r) c a v room = record { result = resultOf (codeOf r); left = room }
+billedResult (Measure m) c a v room = billResult (billed m c a v room)
+
+abbrev pub writeResult : WriteOutcome → LeftRoom
+writeResult x = record { result = extentResult (x .answer); left = x .room }
+
+abbrev pub writtenResult : MeasureChoice → Columns → List ℕ → LeftRoom
+writtenResult (Refused r) c room = record { result = resultOf (codeOf r); left = room }
 writtenResult (Measure m) c room = writeResult (writeTable m c room)

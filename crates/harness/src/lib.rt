@@ -14,7 +14,7 @@ ghost use Rattle.provenance.specs.BestFirst.{labels};
 ghost use Rattle.columns.specs.Columns.{columns, answers};
 ghost use Rattle.columns.specs.Acceptance.{acceptance};
 ghost use Rattle.readtable.specs.Read.{readTable};
-ghost use Rattle.harness.specs.Results.{settledResult, checkedResult, repricedResult, strickenResult, stateNumber, entryWritten, measureNumber, headerWritten, readResult, writtenResult};
+ghost use Rattle.harness.specs.Results.{settledResult, checkedResult, repricedResult, strickenResult, billedResult, stateNumber, entryWritten, measureNumber, headerWritten, readResult, writtenResult};
 
 #[no_mangle]
 pub extern "C" fn harness_check_table(
@@ -245,13 +245,52 @@ pub extern "C" fn harness_write_table(
     tails: &[u64],
     room: &mut [u8],
 ) -> u64
-    ensures { λ r. ⌜ record { result = r; room = now (room .exit) } ≡ writtenResult (measureOf measure) (columns n (now (heads .entry)) (now (own .entry)) (now (spans .entry)) (now (tails .entry))) (now (room .entry)) ⌝ }
+    ensures { λ r. ⌜ record { result = r; left = now (room .exit) } ≡ writtenResult (measureOf measure) (columns n (now (heads .entry)) (now (own .entry)) (now (spans .entry)) (now (tails .entry))) (now (room .entry)) ⌝ }
 {
     let choice = refusal::measure_numbered(measure);
     match choice {
         MeasureChoice::Refused(r) => return r.result(),
         MeasureChoice::Measure(m) => {
             let x = writetable::write_table(m, n, heads, own, spans, tails, room);
+            return x.result();
+        }
+    }
+}
+
+#[no_mangle]
+pub extern "C" fn harness_bill(
+    measure: u64,
+    n: u64,
+    heads: &[u64],
+    own: &[u64],
+    spans: &[u64],
+    tails: &[u64],
+    weights: &[u64],
+    depths: &[u64],
+    edges: &[u64],
+    part: u64,
+    room: &mut [u64],
+) -> u64
+    ensures { λ r. ⌜ record { result = r; left = now (room .exit) } ≡ billedResult (measureOf measure) (columns n (now (heads .entry)) (now (own .entry)) (now (spans .entry)) (now (tails .entry))) (answers (now (weights .entry)) (now (depths .entry)) (now (edges .entry))) part (now (room .entry)) ⌝ }
+{
+    let choice = refusal::measure_numbered(measure);
+    match choice {
+        MeasureChoice::Refused(r) => return r.result(),
+        MeasureChoice::Measure(m) => {
+            let p = Vertex(part);
+            let x = bill::bill(
+                m,
+                n,
+                heads,
+                own,
+                spans,
+                tails,
+                weights,
+                depths,
+                edges,
+                p,
+                room,
+            );
             return x.result();
         }
     }

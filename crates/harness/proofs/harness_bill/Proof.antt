@@ -1,0 +1,46 @@
+use mathlib.Core.Path.{sym, _∙_}
+use Rattle.harness.proofs.Laws.{billed-refused, billed-measure}
+use borrow.Author.Needs.{needs}
+use Rattle.harness.proofs.harness_bill.Statement.{statement}
+use Rattle.harness.proofs.harness_bill.Tie as tie
+
+measure-numbered-requires : tie.Need-measure-numbered-requires
+measure-numbered-requires c κs = search needs
+
+enum-known-choice : tie.Need-enum-known-choice
+enum-known-choice c = search needs
+
+result-requires : tie.Need-result-requires
+result-requires c κs = search needs
+
+returns : tie.Need-returns
+returns c = billed-refused _ _ _ _ (sym (c .before .before .before .before .measure-numbered .ensures) ∙ c .before .before .choice .given .1) (c .result .ensures)
+
+enum-known-choice-2 : tie.Need-enum-known-choice-2
+enum-known-choice-2 c = search needs
+
+bill-requires : tie.Need-bill-requires
+bill-requires c κs = search needs
+
+result-requires-2 : tie.Need-result-requires-2
+result-requires-2 c κs = search needs
+
+same-length : tie.Need-same-length
+same-length c = search needs
+
+returns-2 : tie.Need-returns-2
+returns-2 c = billed-measure _ _ _ _ (sym (c .before .before .before .before .before .before .before .before .measure-numbered .ensures) ∙ c .before .before .before .before .before .before .choice2 .given .1) (c .result2 .ensures) (c .before .before .before .bill .ensures)
+
+pub harness-bill-spec : {M : Type 1} → statement M
+harness-bill-spec =
+    tie.close
+    (tie.spec
+    measure-numbered-requires
+    enum-known-choice
+    result-requires
+    returns
+    enum-known-choice-2
+    bill-requires
+    result-requires-2
+    same-length
+    returns-2)
