@@ -88,6 +88,47 @@ extern "C" {
         entry: *mut u64,
         entry_len: usize,
     ) -> u64;
+
+    fn harness_reprice(
+        measure: u64,
+        n: u64,
+        heads: *const u64,
+        heads_len: usize,
+        own: *mut u64,
+        own_len: usize,
+        spans: *const u64,
+        spans_len: usize,
+        tails: *const u64,
+        tails_len: usize,
+        weights: *mut u64,
+        weights_len: usize,
+        depths: *mut u64,
+        depths_len: usize,
+        edges: *mut u64,
+        edges_len: usize,
+        line: u64,
+        figure: u64,
+    ) -> u64;
+
+    fn harness_strike(
+        measure: u64,
+        n: u64,
+        heads: *const u64,
+        heads_len: usize,
+        own: *mut u64,
+        own_len: usize,
+        spans: *const u64,
+        spans_len: usize,
+        tails: *const u64,
+        tails_len: usize,
+        weights: *mut u64,
+        weights_len: usize,
+        depths: *mut u64,
+        depths_len: usize,
+        edges: *mut u64,
+        edges_len: usize,
+        line: u64,
+    ) -> u64;
 }
 
 pub fn check_table(table: &Table) -> Result<u64, String> {
@@ -228,4 +269,92 @@ pub fn entry(answers: &Labelling, vertex: u64, room: &[u64]) -> Result<(u64, Vec
     let written = if room.len() == 3 { entry.guarded() } else { entry.kept() };
     labels.kept().and(written).map_err(|wrong| format!("entry, {wrong}"))?;
     Ok((state, entry.values().to_vec()))
+}
+
+/// What a change leaves: its result, the own weights and the answer columns.
+pub struct Changed {
+    pub result: u64,
+    pub own: Vec<u64>,
+    pub answers: Labelling,
+}
+
+pub fn reprice(
+    measure: u64,
+    table: &Table,
+    answers: &Labelling,
+    edge: u64,
+    own: u64,
+) -> Result<Changed, String> {
+    let mut lent = LentTable::lend(table);
+    let mut room = LentLabelling::lend(answers);
+    let result = unsafe {
+        harness_reprice(
+            measure,
+            table.n,
+            lent.heads.pointer(),
+            lent.heads.len(),
+            lent.own.pointer(),
+            lent.own.len(),
+            lent.spans.pointer(),
+            lent.spans.len(),
+            lent.tails.pointer(),
+            lent.tails.len(),
+            room.weights.pointer(),
+            room.weights.len(),
+            room.depths.pointer(),
+            room.depths.len(),
+            room.edges.pointer(),
+            room.edges.len(),
+            edge,
+            own,
+        )
+    };
+    changed(result, edge, &lent, &room).map_err(|wrong| format!("reprice, {wrong}"))
+}
+
+pub fn strike(
+    measure: u64,
+    table: &Table,
+    answers: &Labelling,
+    edge: u64,
+) -> Result<Changed, String> {
+    let mut lent = LentTable::lend(table);
+    let mut room = LentLabelling::lend(answers);
+    let result = unsafe {
+        harness_strike(
+            measure,
+            table.n,
+            lent.heads.pointer(),
+            lent.heads.len(),
+            lent.own.pointer(),
+            lent.own.len(),
+            lent.spans.pointer(),
+            lent.spans.len(),
+            lent.tails.pointer(),
+            lent.tails.len(),
+            room.weights.pointer(),
+            room.weights.len(),
+            room.depths.pointer(),
+            room.depths.len(),
+            room.edges.pointer(),
+            room.edges.len(),
+            edge,
+        )
+    };
+    changed(result, edge, &lent, &room).map_err(|wrong| format!("strike, {wrong}"))
+}
+
+/// Accepted, it writes the answers and one own weight; refused, it writes nothing.
+fn changed(
+    result: u64,
+    edge: u64,
+    lent: &LentTable,
+    room: &LentLabelling,
+) -> Result<Changed, String> {
+    if result == 0 {
+        lent.kept_but(Some(edge)).and(room.guarded())?;
+    } else {
+        lent.kept().and(room.kept())?;
+    }
+    Ok(Changed { result, own: lent.own.values().to_vec(), answers: room.labelling() })
 }

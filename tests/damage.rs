@@ -13,6 +13,14 @@ pub struct Call {
     pub answers: Labelling,
 }
 
+impl Call {
+    /// An accepted table with its answers.
+    pub fn solved(measure: u64, table: Table) -> Call {
+        let answers = solve(measure, &table);
+        Call { measure, table, answers }
+    }
+}
+
 #[derive(Clone, Copy, Debug)]
 pub enum Fault {
     Measure(u64),
@@ -52,9 +60,7 @@ pub fn sound(rng: &mut Rng) -> Call {
     table.push_after(&[1, 2], 0, 7, &[]);
     table.push(1, GREATEST, &[]);
     table.tails.extend((0..20).map(|_| rng.below(N)));
-    let measure = rng.pick(&MEASURES);
-    let answers = solve(measure, &table);
-    Call { measure, table, answers }
+    Call::solved(rng.pick(&MEASURES), table)
 }
 
 /// Every fault that is tried.

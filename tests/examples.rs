@@ -43,29 +43,47 @@ fn example(name: &'static str, measure: u64, table: Table, labels: &[(u64, u64, 
     Example { name, measure, table, labels: labels.collect() }
 }
 
+/// Weight, depth and hyperedge: of no derivation, and of the worked table's first two vertices.
+const NONE: (u64, u64, u64) = (0, 0, 0);
+const ZERO: (u64, u64, u64) = (1_200, 1, 0);
+const ONE: (u64, u64, u64) = (300, 1, 1);
+
+pub fn p1() -> Example {
+    example("P1", COST, worked(), &[ZERO, ONE, (2_000, 2, 2), (2_600, 3, 4), NONE])
+}
+
+fn p3() -> Example {
+    let labels = [ZERO, (500, 1, 1), (2_100, 1, 3), (3_100, 2, 4), NONE];
+    example("P3, settled anew", COST, worked_with(1, 500), &labels)
+}
+
+fn p10() -> Example {
+    let labels = [NONE, ONE, (2_100, 1, 3), (2_700, 2, 4), NONE];
+    example("P10, settled anew", COST, worked_with(0, STRUCK), &labels)
+}
+
+/// What is asked of the worked table, and what it is then.
+pub fn changes() -> [(Change, Example); 2] {
+    [(Change::Reprice(1, 500), p3()), (Change::Strike(0), p10())]
+}
+
 pub fn examples() -> Vec<Example> {
-    let none = (0, 0, 0);
-    let sources = [(1_200, 1, 0), (300, 1, 1)];
-    let [zero, one] = sources;
     let tens = [(GREATEST, 1, 0), (10 * GREATEST, 2, 1), (100 * GREATEST, 3, 2)];
     let [first, second, third] = tens;
     let shorter = Table::of(2, &[(0, 5, vec![]), (1, 0, vec![0]), (1, 5, vec![])]);
-    let p1 = [zero, one, (2_000, 2, 2), (2_600, 3, 4), none];
-    let p3 = [zero, (500, 1, 1), (2_100, 1, 3), (3_100, 2, 4), none];
-    let p4 = [zero, one, (1_200, 2, 2), (1_200, 3, 4), none];
-    let p10 = [none, one, (2_100, 1, 3), (2_700, 2, 4), none];
+    let p4 = [ZERO, ONE, (1_200, 2, 2), (1_200, 3, 4), NONE];
     vec![
-        example("P1", COST, worked(), &p1),
-        example("P3, settled anew", COST, worked_with(1, 500), &p3),
+        p1(),
+        p3(),
         example("P4", DAYS, worked(), &p4),
         example("P5", COST, Table::new(0), &[]),
         example("P5 in days", DAYS, Table::new(0), &[]),
-        example("P6", COST, circle(), &[none, none]),
-        example("P6 in days", DAYS, circle(), &[none, none]),
+        example("P6", COST, circle(), &[NONE, NONE]),
+        example("P6 in days", DAYS, circle(), &[NONE, NONE]),
         example("P7", COST, thousands(0), &[first, second, third, (CEILING, 4, 3)]),
         example("P8", COST, thousands(1), &[first, second, third, (OVER, 4, 3)]),
         example("P9", COST, shorter.clone(), &[(5, 1, 0), (5, 1, 2)]),
         example("P9 in days", DAYS, shorter, &[(5, 1, 0), (5, 1, 2)]),
-        example("P10, settled anew", COST, worked_with(0, STRUCK), &p10),
+        p10(),
     ]
 }

@@ -55,8 +55,15 @@ impl<'a> Column<'a> {
     }
 
     pub fn kept(&self) -> Verdict {
+        self.kept_but(None)
+    }
+
+    /// Guards and places are as lent, but the place `free` may hold anything.
+    pub fn kept_but(&self, free: Option<u64>) -> Verdict {
         self.guarded()?;
-        match (0..self.given.len()).find(|&place| self.values()[place] != self.given[place]) {
+        let values = self.values();
+        let mut places = (0..values.len()).filter(|&place| Some(place as u64) != free);
+        match places.find(|&place| values[place] != self.given[place]) {
             None => Ok(()),
             Some(place) => Err(format!("{}: place {place} must keep its bytes", self.name)),
         }
@@ -81,8 +88,13 @@ impl<'a> LentTable<'a> {
     }
 
     pub fn kept(&self) -> Verdict {
+        self.kept_but(None)
+    }
+
+    /// All is as lent, but the own weight of the hyperedge `free` may be any.
+    pub fn kept_but(&self, free: Option<u64>) -> Verdict {
         self.heads.kept()?;
-        self.own.kept()?;
+        self.own.kept_but(free)?;
         self.spans.kept()?;
         self.tails.kept()
     }
@@ -135,8 +147,13 @@ fn guards(_: &Trial) -> Outcome {
         let mut column = Column::lend("column", &given);
         column.words[place] ^= 1 << 63;
         let inside = (GUARD..GUARD + given.len()).contains(&place);
+        let free = Some(1);
+        let is_free = place == GUARD + 1;
         if column.kept().is_ok() || column.guarded().is_ok() != inside {
             return Err(format!("a write at word {place} of a lent column is not found"));
+        }
+        if column.kept_but(free).is_ok() != is_free {
+            return Err(format!("a write at word {place}, where only {} is free", GUARD + 1));
         }
         cases += 1;
     }

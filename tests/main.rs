@@ -4,17 +4,24 @@
 mod answers;
 mod bills;
 mod bindings;
+mod changes;
+mod counting;
 mod damage;
 mod entries;
 mod examples;
+mod flaws;
 mod lending;
 mod limits;
 mod model;
 mod near_answers;
+mod raising;
 mod random;
 mod refusals;
+mod repricing;
+mod repricing_refusals;
 mod settling;
 mod solver;
+mod stale_answers;
 mod tables;
 mod trees;
 mod trial;
@@ -32,6 +39,11 @@ const TESTS: &[&[Test]] = &[
     entries::TESTS,
     bills::TESTS,
     refusals::TESTS,
+    repricing::TESTS,
+    repricing_refusals::TESTS,
+    stale_answers::TESTS,
+    counting::TESTS,
+    raising::TESTS,
 ];
 
 const SEED: u64 = 1;

@@ -80,6 +80,30 @@ impl Table {
     }
 }
 
+/// What is asked of one hyperedge, which need not exist.
+#[derive(Clone, Copy, Debug)]
+pub enum Change {
+    /// The hyperedge and its new own weight.
+    Reprice(u64, u64),
+    Strike(u64),
+}
+
+impl Change {
+    pub fn edge(&self) -> u64 {
+        match *self {
+            Change::Reprice(edge, _) | Change::Strike(edge) => edge,
+        }
+    }
+
+    /// What then stands in the column of own weights.
+    pub fn own(&self) -> u64 {
+        match *self {
+            Change::Reprice(_, own) => own,
+            Change::Strike(_) => STRUCK,
+        }
+    }
+}
+
 #[derive(Clone, Copy, PartialEq, Debug)]
 pub struct Label {
     pub weight: u64,

@@ -62,18 +62,17 @@ fn refused(sound: &Call, faults: &[Fault], rng: &mut Rng) -> Verdict {
         .map_err(|wrong| format!("{faults:?}: {wrong}"))
 }
 
-type Change<'a> = &'a dyn Fn(&mut Call);
+type Edit<'a> = &'a dyn Fn(&mut Call);
 
-/// The small examples of the specification's list.
-fn stated(trial: &Trial) -> Outcome {
-    let mut rng = trial.rng();
-    let with = |change: Change| {
-        let answers = solve(COST, &worked());
-        let mut call = Call { measure: COST, table: worked(), answers };
-        change(&mut call);
+/// The small examples of the specification's list that every such call meets, with number and
+/// place.
+pub fn small_examples() -> Vec<(Call, u64, u64)> {
+    let with = |edit: Edit| {
+        let mut call = Call::solved(COST, worked());
+        edit(&mut call);
         call
     };
-    let cases: [(Change, u64, u64); 8] = [
+    let cases: [(Edit, u64, u64); 8] = [
         (&|call| call.table.n = 1_025, 1, 0),
         (&|call| call.table = Table { heads: vec![0, 1], own: vec![1], ..Table::new(5) }, 2, 0),
         (&|call| call.table.heads[3] = 5, 3, 3),
@@ -83,10 +82,16 @@ fn stated(trial: &Trial) -> Outcome {
         (&|call| call.answers.depths.truncate(4), 7, 0),
         (&|call| call.measure = 2, 16, 0),
     ];
-    for (change, number, place) in cases {
-        let of_call = refusal(number, place);
-        let of_table = if number < 7 { of_call } else { 0 };
-        returns(&with(change), of_table, of_call, &mut rng)?;
+    cases.map(|(edit, number, place)| (with(edit), number, place)).to_vec()
+}
+
+fn stated(trial: &Trial) -> Outcome {
+    let mut rng = trial.rng();
+    let cases = small_examples();
+    for (call, number, place) in &cases {
+        let of_call = refusal(*number, *place);
+        let of_table = if *number < 7 { of_call } else { 0 };
+        returns(call, of_table, of_call, &mut rng)?;
     }
     Ok(cases.len() as u64)
 }
@@ -179,48 +184,56 @@ fn answer_lengths(trial: &Trial) -> Outcome {
 }
 
 /// One word or one length of a sound call changed to anything; it may still be accepted.
+pub fn with_one_word(rng: &mut Rng) -> Call {
+    let table = tables::any(rng);
+    let mut call = Call::solved(rng.pick(&MEASURES), table);
+    let Table { n, heads, own, spans, tails } = &mut call.table;
+    let [weights, depths, edges] = call.answers.columns_mut();
+    let columns = [heads, own, spans, tails, weights, depths, edges];
+    let column = rng.index(9);
+    match columns.into_iter().nth(column) {
+        Some(words) if !words.is_empty() && rng.chance(80) => {
+            let place = rng.index(words.len());
+            words[place] = rng.any();
+        }
+        Some(words) if rng.chance(50) => words.truncate(words.len().saturating_sub(1)),
+        Some(words) => words.push(rng.any()),
+        None if column == 7 => *n = rng.any(),
+        None => call.measure = rng.any(),
+    }
+    call
+}
+
 fn one_word(trial: &Trial) -> Outcome {
     trial.cases(4 * trial.count, |rng| {
-        let table = tables::any(rng);
-        let measure = rng.pick(&MEASURES);
-        let answers = solve(measure, &table);
-        let mut call = Call { measure, table, answers };
-        let Table { n, heads, own, spans, tails } = &mut call.table;
-        let [weights, depths, edges] = call.answers.columns_mut();
-        let columns = [heads, own, spans, tails, weights, depths, edges];
-        let column = rng.index(9);
-        match columns.into_iter().nth(column) {
-            Some(words) if !words.is_empty() && rng.chance(80) => {
-                let place = rng.index(words.len());
-                words[place] = rng.any();
-            }
-            Some(words) if rng.chance(50) => words.truncate(words.len().saturating_sub(1)),
-            Some(words) => words.push(rng.any()),
-            None if column == 7 => *n = rng.any(),
-            None => call.measure = rng.any(),
-        }
+        let call = with_one_word(rng);
         as_solver_says(&call, rng)
     })
 }
 
 /// Short columns of arbitrary numbers.
+pub fn of_noise(rng: &mut Rng) -> Call {
+    let edges = rng.index(4);
+    let mut table = Table {
+        n: rng.below(6),
+        heads: (0..edges).map(|_| rng.below(6)).collect(),
+        own: rng.noise(edges),
+        spans: (0..2 * edges).map(|_| rng.below(5)).collect(),
+        tails: (0..rng.below(8)).map(|_| rng.below(6)).collect(),
+    };
+    if rng.chance(30) {
+        let length = rng.index(8);
+        table.spans = rng.noise(length);
+    }
+    let length = if rng.chance(80) { table.n as usize } else { rng.index(8) };
+    let measure = if rng.chance(80) { rng.pick(&MEASURES) } else { rng.any() };
+    let answers = rng.labelling([length; 3]);
+    Call { measure, table, answers }
+}
+
 fn noise(trial: &Trial) -> Outcome {
     trial.cases(4 * trial.count, |rng| {
-        let edges = rng.index(4);
-        let mut table = Table {
-            n: rng.below(6),
-            heads: (0..edges).map(|_| rng.below(6)).collect(),
-            own: rng.noise(edges),
-            spans: (0..2 * edges).map(|_| rng.below(5)).collect(),
-            tails: (0..rng.below(8)).map(|_| rng.below(6)).collect(),
-        };
-        if rng.chance(30) {
-            let length = rng.index(8);
-            table.spans = rng.noise(length);
-        }
-        let length = if rng.chance(80) { table.n as usize } else { rng.index(8) };
-        let measure = if rng.chance(80) { rng.pick(&MEASURES) } else { rng.any() };
-        let answers = rng.labelling([length; 3]);
-        as_solver_says(&Call { measure, table, answers }, rng)
+        let call = of_noise(rng);
+        as_solver_says(&call, rng)
     })
 }

@@ -82,7 +82,7 @@ fn made(trial: &Trial, cases: u64, make: impl Fn(&mut Rng) -> Table) -> Outcome 
     })
 }
 
-fn short_or_long_chain(rng: &mut Rng) -> Table {
+pub fn short_or_long_chain(rng: &mut Rng) -> Table {
     let longest = rng.pick(&[3, 40, 300, MOST_VERTICES]);
     let length = rng.between(longest / 2 + 1, longest);
     let extra = rng.pick(&[0, 5, length]);
@@ -95,7 +95,7 @@ fn short_or_long_chain(rng: &mut Rng) -> Table {
     tables::chain(rng, length, extra, own)
 }
 
-fn large(rng: &mut Rng) -> Table {
+pub fn large(rng: &mut Rng) -> Table {
     let shape = rng.pick(&tables::SHAPES);
     let shape = Shape { vertices: (100, MOST_VERTICES), edges: (200, 3_000), longest: 6, ..shape };
     let mut table = tables::random(rng, &Shape { gaps: 5, ..shape });

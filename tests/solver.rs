@@ -1,7 +1,8 @@
 //! The answers worked out a second way, to compare with: weights by rounds over all hyperedges
 //! until nothing changes, then depths over the tight ones, then the lowest hyperedge. No queue, no
-//! order of settling. The bills, by recursion over the chosen hyperedges. And the refusals of the
-//! calls, in the order of the specification.
+//! order of settling. What a change leaves, how often a hyperedge stands in a derivation, and the
+//! bills, by recursion over the chosen hyperedges. And the refusals of the calls, in the order of the
+//! specification.
 
 use crate::model::*;
 
@@ -204,4 +205,47 @@ pub fn bill_outcome(
     let bill = bill_of(table, answers, part);
     left[..bill.len()].copy_from_slice(&bill);
     (bill.len() as u64, left)
+}
+
+/// What repricing or striking must return: what any call does, then 9, 10 and 8.
+pub fn change_result(measure: u64, table: &Table, answers: &Labelling, change: Change) -> u64 {
+    let result = call_result(measure, table, answers);
+    if result != 0 {
+        return result;
+    }
+    let edge = usize::try_from(change.edge()).ok();
+    if !edge.is_some_and(|edge| edge < table.edges() && table.is_live(edge)) {
+        return refusal(9, 0);
+    }
+    if matches!(change, Change::Reprice(_, own) if own > GREATEST) {
+        return refusal(10, 0);
+    }
+    if *answers == solve(measure, table) {
+        0
+    } else {
+        refusal(8, 0)
+    }
+}
+
+/// The table as an accepted change leaves it.
+pub fn changed(table: &Table, change: Change) -> Table {
+    let mut table = table.clone();
+    table.own[change.edge() as usize] = change.own();
+    table
+}
+
+/// How often a hyperedge stands in each vertex's chosen derivation, 0 where there is none. A count
+/// above the type's greatest number stays there; all others are exact, since a sum only grows.
+pub fn counts(table: &Table, labels: &Labelling, edge: usize) -> Vec<u128> {
+    let mut counts = vec![0; table.n as usize];
+    let mut made: Vec<usize> = (0..counts.len()).collect();
+    made.retain(|&vertex| labels.depths[vertex] > 0);
+    // What a chosen hyperedge needs is less deep, so it is counted before.
+    made.sort_by_key(|&vertex| labels.depths[vertex]);
+    for vertex in made {
+        let chosen = labels.edges[vertex] as usize;
+        let below = table.tail(chosen).iter().map(|&needed| counts[needed as usize]);
+        counts[vertex] = below.fold(u128::from(chosen == edge), u128::saturating_add);
+    }
+    counts
 }
