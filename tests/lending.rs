@@ -7,29 +7,42 @@ use crate::trial::{Outcome, Test, Trial, Verdict};
 /// Guard words on each side of a column.
 const GUARD: usize = 8;
 
-/// No head, weight, offset or vertex of an accepted table, so that reading one shows as well.
-fn guard_word(place: usize) -> u64 {
-    0xA5A5_5A5A_C3C3_0000 + place as u64
+/// What columns are made of: numbers, or the bytes of a text.
+pub trait Word: Copy + PartialEq {
+    /// Nothing that an accepted table or text holds, so that reading one shows as well.
+    fn guard(place: usize) -> Self;
 }
 
-pub struct Column<'a> {
+impl Word for u64 {
+    fn guard(place: usize) -> u64 {
+        0xA5A5_5A5A_C3C3_0000 + place as u64
+    }
+}
+
+impl Word for u8 {
+    fn guard(place: usize) -> u8 {
+        0xC0 + place as u8
+    }
+}
+
+pub struct Column<'a, W = u64> {
     name: &'static str,
-    given: &'a [u64],
-    words: Vec<u64>,
+    given: &'a [W],
+    words: Vec<W>,
 }
 
-impl<'a> Column<'a> {
-    pub fn lend(name: &'static str, given: &'a [u64]) -> Column<'a> {
+impl<'a, W: Word> Column<'a, W> {
+    pub fn lend(name: &'static str, given: &'a [W]) -> Column<'a, W> {
         let mut words = Vec::with_capacity(given.len() + 2 * GUARD);
-        words.extend((0..GUARD).map(guard_word));
+        words.extend((0..GUARD).map(W::guard));
         words.extend_from_slice(given);
-        words.extend((GUARD..2 * GUARD).map(guard_word));
+        words.extend((GUARD..2 * GUARD).map(W::guard));
         Column { name, given, words }
     }
 
     /// Mutable for read-only columns too: a write that the call must not make is then still defined
     /// on this side, and seen.
-    pub fn pointer(&mut self) -> *mut u64 {
+    pub fn pointer(&mut self) -> *mut W {
         self.words.as_mut_ptr().wrapping_add(GUARD)
     }
 
@@ -37,17 +50,17 @@ impl<'a> Column<'a> {
         self.given.len()
     }
 
-    pub fn values(&self) -> &[u64] {
+    pub fn values(&self) -> &[W] {
         &self.words[GUARD..GUARD + self.given.len()]
     }
 
     pub fn guarded(&self) -> Verdict {
         let behind = GUARD + self.given.len();
         for place in 0..GUARD {
-            if self.words[place] != guard_word(place) {
+            if self.words[place] != W::guard(place) {
                 return Err(format!("{}: written {} before the column", self.name, GUARD - place));
             }
-            if self.words[behind + place] != guard_word(GUARD + place) {
+            if self.words[behind + place] != W::guard(GUARD + place) {
                 return Err(format!("{}: written {place} behind the column's end", self.name));
             }
         }
@@ -87,6 +100,13 @@ impl<'a> LentTable<'a> {
         }
     }
 
+    pub fn guarded(&self) -> Verdict {
+        self.heads.guarded()?;
+        self.own.guarded()?;
+        self.spans.guarded()?;
+        self.tails.guarded()
+    }
+
     pub fn kept(&self) -> Verdict {
         self.kept_but(None)
     }
@@ -97,6 +117,17 @@ impl<'a> LentTable<'a> {
         self.own.kept_but(free)?;
         self.spans.kept()?;
         self.tails.kept()
+    }
+
+    /// The columns as they now stand.
+    pub fn table(&self, n: u64) -> Table {
+        Table {
+            n,
+            heads: self.heads.values().to_vec(),
+            own: self.own.values().to_vec(),
+            spans: self.spans.values().to_vec(),
+            tails: self.tails.values().to_vec(),
+        }
     }
 }
 
@@ -140,12 +171,18 @@ impl<'a> LentLabelling<'a> {
 pub const TESTS: &[Test] = &[Test { name: "lending/guards", run: guards }];
 
 fn guards(_: &Trial) -> Outcome {
-    let given = [1, 2, 3];
-    Column::lend("column", &given).kept()?;
+    let words = writes_found(&[1, 2, 3], |word: u64| word ^ 1 << 63)?;
+    let bytes = writes_found(b"0 1\n", |byte: u8| byte ^ 1)?;
+    Ok(words + bytes)
+}
+
+/// One write at each word of a lent column and of its guards.
+fn writes_found<W: Word>(given: &[W], other: fn(W) -> W) -> Outcome {
+    Column::lend("column", given).kept()?;
     let mut cases = 0;
     for place in 0..given.len() + 2 * GUARD {
-        let mut column = Column::lend("column", &given);
-        column.words[place] ^= 1 << 63;
+        let mut column = Column::lend("column", given);
+        column.words[place] = other(column.words[place]);
         let inside = (GUARD..GUARD + given.len()).contains(&place);
         let free = Some(1);
         let is_free = place == GUARD + 1;

@@ -6,6 +6,8 @@ mod bills;
 mod bindings;
 mod changes;
 mod counting;
+mod broken_lines;
+mod broken_texts;
 mod damage;
 mod entries;
 mod examples;
@@ -13,6 +15,7 @@ mod flaws;
 mod lending;
 mod limits;
 mod model;
+mod mutated_texts;
 mod near_answers;
 mod raising;
 mod random;
@@ -23,8 +26,14 @@ mod settling;
 mod solver;
 mod stale_answers;
 mod tables;
+mod text_bindings;
+mod text_checks;
+mod text_model;
+mod text_rooms;
+mod texts;
 mod trees;
 mod trial;
+mod write_refusals;
 
 use std::process::{Command, ExitCode};
 use trial::{Test, Trial};
@@ -44,6 +53,11 @@ const TESTS: &[&[Test]] = &[
     stale_answers::TESTS,
     counting::TESTS,
     raising::TESTS,
+    texts::TESTS,
+    text_rooms::TESTS,
+    broken_texts::TESTS,
+    mutated_texts::TESTS,
+    write_refusals::TESTS,
 ];
 
 const SEED: u64 = 1;
