@@ -12,6 +12,9 @@ use refusal::Header;
 use refusal::Reading;
 use refusal::Refusal;
 use refusal::TextLine;
+use text::WORD;
+use text::default_measure;
+use text::named_measure;
 use weights::Measure;
 use weights::Vertex;
 use weights::Weight;
@@ -63,7 +66,7 @@ fn starts_with(text: &[u8], word: &[u8]) -> bool
     true
 }
 
-// `parts N` means cost, and `parts N days` names the measure.
+// `parts N` means the default measure, and the word behind it names the other.
 pub fn first_line(text: &[u8]) -> FirstLine
     ensures { λ r. ⌜ r ≡ firstLine (now (text .entry)) ⌝ }
 {
@@ -76,11 +79,11 @@ pub fn first_line(text: &[u8]) -> FirstLine
     };
     if byte_at(text, next) == b'\n' {
         let start = next + 1;
-        return FirstLine::Read(n, Measure::Cost, start);
+        return FirstLine::Read(n, default_measure(), start);
     }
-    if starts_with(&text[next..], b" days\n") {
-        let start = next + 6;
-        return FirstLine::Read(n, Measure::Days, start);
+    if starts_with(&text[next..], &WORD) {
+        let start = next + WORD.len();
+        return FirstLine::Read(n, named_measure(), start);
     }
     FirstLine::Wrong
 }

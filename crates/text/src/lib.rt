@@ -1,1 +1,31 @@
-// What the text of a table means: its definitions and their theorems are in specs/.
+// What the text of a table means: its definitions and their theorems are in specs/. Here are the two
+// names, the default measure and the other's word, by which the code keeps to it.
+use weights::Measure;
+ghost use mathlib.Core.Path.{_≡_};
+ghost use Rattle.text.specs.Render.{default, spoken, same};
+
+// The word of the measure that is not the default, as it ends the first line.
+pub const WORD: [u8; 6] = [b' ', b'd', b'a', b'y', b's', b'\n'];
+
+// The measure of a first line without a word.
+pub fn default_measure() -> Measure
+    ensures { λ r. ⌜ r ≡ default ⌝ }
+{
+    Measure::Cost
+}
+
+// The measure that the word names.
+pub fn named_measure() -> Measure
+    ensures { λ r. ⌜ r ≡ spoken ⌝ }
+{
+    Measure::Days
+}
+
+pub fn is_default(measure: Measure) -> bool
+    ensures { λ r. ⌜ r ≡ same measure default ⌝ }
+{
+    match measure {
+        Measure::Cost => true,
+        Measure::Days => false,
+    }
+}

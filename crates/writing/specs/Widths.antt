@@ -13,7 +13,7 @@ use Rattle.weights.specs.Figures.{struck, isStruck}
 use Rattle.columns.specs.Acceptance.{mostVertices}
 use Rattle.columns.specs.Accepted.{below-at}
 use Rattle.text.specs.Tables.{Edge}
-use Rattle.text.specs.Render.{digits, opening, word, measureText, header, ownText, tailText, edgeText}
+use Rattle.text.specs.Render.{digits, default, same, opening, word, measureText, header, ownText, tailText, edgeText}
 use Rattle.text.specs.Digits.{pick-by, digits-one, digits-more, by-digits}
 use Rattle.text.specs.Rows.{EdgeFits}
 use Rattle.text.specs.Sound.{tail-text-snoc}
@@ -85,6 +85,15 @@ tail-most vs f =
         let m = listed-most vs j h f in
         let q : length (tailText (take (suc j) vs)) ≡ length (tailText (take (j + 1) vs)) = ap (λ (z : ℕ). length (tailText (take z vs))) (sym (add-one j)) in
         omega arith
+
+-- the end of the first line, by whether the measure is the default
+pub default-end : (m : Measure) → same m default ≡ true → measureText m ≡ 10 ∷ []
+unfolding measureText
+default-end m e = rw e
+
+pub named-end : (m : Measure) → same m default ≡ false → measureText m ≡ word ++ 10 ∷ []
+unfolding measureText
+named-end m e = rw e
 
 pub measure-most : (m : Measure) → length (measureText m) ≤ 6
 unfolding measureText word

@@ -1,5 +1,7 @@
 // Measuring and writing the pieces of a text: a number, an own weight, a line, the first line. Each
 // piece is written from the start of the room that it is lent, and its width is returned.
+use text::WORD;
+use text::is_default;
 use weights::Measure;
 use weights::Vertex;
 use weights::Weight;
@@ -143,24 +145,24 @@ fn put_bytes(room: &mut [u8], bytes: &[u8]) -> usize
     i
 }
 
-// The end of the first line: nothing for cost, and the word for days.
+// The end of the first line: nothing for the default measure, and the word for the other.
 fn measure_width(measure: Measure) -> usize
     ensures { λ r. ⌜ r ≡ length (measureText measure) ⌝ }
 {
-    match measure {
-        Measure::Cost => 1,
-        Measure::Days => 6,
+    if is_default(measure) {
+        return 1;
     }
+    WORD.len()
 }
 
 fn put_measure(room: &mut [u8], measure: Measure) -> usize
     requires { ⌜ length (measureText measure) ≤ length (now room) ⌝ }
     ensures { λ r. ⌜ Written (measureText measure) (now (room .entry)) r (now (room .exit)) ⌝ }
 {
-    match measure {
-        Measure::Cost => put_bytes(room, b"\n"),
-        Measure::Days => put_bytes(room, b" days\n"),
+    if is_default(measure) {
+        return put_bytes(room, b"\n");
     }
+    put_bytes(room, &WORD)
 }
 
 pub fn header_width(n: u64, measure: Measure) -> usize

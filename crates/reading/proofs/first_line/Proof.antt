@@ -7,12 +7,14 @@ use native.Mathlib.Omega.{arith}
 use borrow.Author.Needs.{needs}
 use borrow.Author.Tests.{not-true, not-false}
 use lib.ListN.{length, getD, drop, length-drop}
+use Rattle.weights.specs.declared.Measure.{Measure}
 use Rattle.columns.specs.Acceptance.{mostVertices}
 use Rattle.text.specs.Render.{word, opening}
 use Rattle.text.specs.Filled.{part-whole}
 use Rattle.cursor.specs.declared.Found.the-variants.{Number}
 use Rattle.cursor.specs.Cursor.{numberAt}
 use Rattle.cursor.specs.Laws.{byte-within, number-counts}
+use Rattle.reading.specs.declared.FirstLine.the-variants as first
 use Rattle.reading.specs.Lines.{startsWith, onCount, firstLine}
 use Rattle.reading.specs.Scanning.{starts-length}
 use Rattle.reading.proofs.Laws.{first-unopened, first-opened, count-silent, count-named, count-unnamed}
@@ -70,8 +72,14 @@ unended c e = c .if2 .left (c .before .byte-at .ensures ∙ e)
 add-start : tie.Need-add-start
 add-start c = let k = c .before .before in omega (arith, byte-within (text k) (behind k) 10 (ended c) (omega arith))
 
+default-measure-requires : tie.Need-default-measure-requires
+default-measure-requires c κs = search needs
+
 returns-3 : tie.Need-returns-3
-returns-3 c = let k = c .before .before in count-silent _ _ _ _ (counted k) (ended c) ∙ opened (k .before .before .before .before)
+returns-3 c =
+    let t = c .before in
+    let k = t .before .before in
+    ap (λ (m : Measure). first.Read (k .before .found .given .0 .0) m (behind k + 1)) (c .default-measure .ensures) ∙ count-silent _ _ _ _ (counted k) (ended t) ∙ opened (k .before .before .before .before)
 
 sub-starts-with : tie.Need-sub-starts-with
 sub-starts-with c = number-counts _ _ _ _ _ (counted (c .before .before)) .2
@@ -100,8 +108,15 @@ add-start-2 c =
     let l = starts-length (word ++ 10 ∷ []) (drop (behind k) (text k)) (sym (named (c .before)) ∙ c .if3 .taken) in
     omega (arith, length-drop (behind k) (text k), l)
 
+named-measure-requires : tie.Need-named-measure-requires
+named-measure-requires c κs = search needs
+
 returns-4 : tie.Need-returns-4
-returns-4 c = let e = c .before .before .before .before in let k = e .before .before in count-named _ _ _ _ (counted k) (unended e) (sym (named (c .before)) ∙ c .if3 .taken) ∙ opened (k .before .before .before .before)
+returns-4 c =
+    let t = c .before in
+    let e = t .before .before .before .before in
+    let k = e .before .before in
+    ap (λ (m : Measure). first.Read (k .before .found .given .0 .0) m (behind k + 6)) (c .named-measure .ensures) ∙ count-named _ _ _ _ (counted k) (unended e) (sym (named (t .before)) ∙ t .if3 .taken) ∙ opened (k .before .before .before .before)
 
 returns-5 : tie.Need-returns-5
 returns-5 c = let e = c .before .before .before .before in let k = e .before .before in count-unnamed _ _ _ _ (counted k) (unended e) (sym (named (c .before)) ∙ c .if3 .left) ∙ opened (k .before .before .before .before)
@@ -120,6 +135,7 @@ first-line-spec =
     returns-2
     byte-at-requires
     add-start
+    default-measure-requires
     returns-3
     sub-starts-with
     part-starts-with-start
@@ -127,5 +143,6 @@ first-line-spec =
     slice-aggregate-starts-with-2
     starts-with-requires-2
     add-start-2
+    named-measure-requires
     returns-4
     returns-5)

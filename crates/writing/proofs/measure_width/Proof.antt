@@ -1,25 +1,21 @@
 -- `writing::measure_width` meets its contract. Assumes nothing.
-use mathlib.Core.Path.{sym, ap}
+use mathlib.Core.Path.{sym, _∙_, ap}
 use borrow.Author.Needs.{needs}
 use lib.ListN.{length}
-use Rattle.weights.specs.declared.Measure.{Measure}
-use Rattle.text.specs.Render.{word, measureText}
+use Rattle.text.specs.Render.{word}
+use Rattle.writing.specs.Widths.{default-end, named-end}
 use Rattle.writing.proofs.measure_width.Statement.{statement}
 use Rattle.writing.proofs.measure_width.Tie as tie
 
-enum-told : tie.Need-enum-told
-enum-told c = search needs
-
-enum-told-2 : tie.Need-enum-told-2
-enum-told-2 c = search needs
+is-default-requires : tie.Need-is-default-requires
+is-default-requires c κs = search needs
 
 returns : tie.Need-returns
-unfolding measureText word
-returns c = ap (λ (m : Measure). length (measureText m)) (sym (c .enum-told .given .1))
+returns c = ap length (sym (default-end _ (sym (c .before .is-default .ensures) ∙ c .if1 .taken)))
 
 returns-2 : tie.Need-returns-2
-unfolding measureText word
-returns-2 c = ap (λ (m : Measure). length (measureText m)) (sym (c .enum-told2 .given .1))
+unfolding word
+returns-2 c = ap length (sym (named-end _ (sym (c .before .is-default .ensures) ∙ c .if1 .left)))
 
 pub measure-width-spec : {M : Type 1} → statement M
-measure-width-spec = tie.close (tie.spec enum-told enum-told-2 returns returns-2)
+measure-width-spec = tie.close (tie.spec is-default-requires returns returns-2)
