@@ -4,6 +4,73 @@
 use crate::lending::{Column, LentLabelling, LentTable};
 use crate::model::{Labelling, Table};
 
+/// The calls of a program in C, in their own archive.
+mod counter {
+    extern "C" {
+        pub fn settle(
+            measure: u64,
+            n: u64,
+            heads: *const u64,
+            heads_len: usize,
+            own: *const u64,
+            own_len: usize,
+            spans: *const u64,
+            spans_len: usize,
+            tails: *const u64,
+            tails_len: usize,
+            weights: *mut u64,
+            weights_len: usize,
+            depths: *mut u64,
+            depths_len: usize,
+            edges: *mut u64,
+            edges_len: usize,
+        ) -> u64;
+
+        pub fn reprice(
+            measure: u64,
+            n: u64,
+            heads: *const u64,
+            heads_len: usize,
+            own: *mut u64,
+            own_len: usize,
+            spans: *const u64,
+            spans_len: usize,
+            tails: *const u64,
+            tails_len: usize,
+            weights: *mut u64,
+            weights_len: usize,
+            depths: *mut u64,
+            depths_len: usize,
+            edges: *mut u64,
+            edges_len: usize,
+            line: u64,
+            figure: u64,
+        ) -> u64;
+
+        pub fn bill(
+            measure: u64,
+            n: u64,
+            heads: *const u64,
+            heads_len: usize,
+            own: *const u64,
+            own_len: usize,
+            spans: *const u64,
+            spans_len: usize,
+            tails: *const u64,
+            tails_len: usize,
+            weights: *const u64,
+            weights_len: usize,
+            depths: *const u64,
+            depths_len: usize,
+            edges: *const u64,
+            edges_len: usize,
+            part: u64,
+            room: *mut u64,
+            room_len: usize,
+        ) -> u64;
+    }
+}
+
 extern "C" {
     fn harness_check_table(
         n: u64,
@@ -15,25 +82,6 @@ extern "C" {
         spans_len: usize,
         tails: *const u64,
         tails_len: usize,
-    ) -> u64;
-
-    fn harness_settle(
-        measure: u64,
-        n: u64,
-        heads: *const u64,
-        heads_len: usize,
-        own: *const u64,
-        own_len: usize,
-        spans: *const u64,
-        spans_len: usize,
-        tails: *const u64,
-        tails_len: usize,
-        weights: *mut u64,
-        weights_len: usize,
-        depths: *mut u64,
-        depths_len: usize,
-        edges: *mut u64,
-        edges_len: usize,
     ) -> u64;
 
     fn harness_check_answers(
@@ -55,28 +103,6 @@ extern "C" {
         edges_len: usize,
     ) -> u64;
 
-    fn harness_bill(
-        measure: u64,
-        n: u64,
-        heads: *const u64,
-        heads_len: usize,
-        own: *const u64,
-        own_len: usize,
-        spans: *const u64,
-        spans_len: usize,
-        tails: *const u64,
-        tails_len: usize,
-        weights: *const u64,
-        weights_len: usize,
-        depths: *const u64,
-        depths_len: usize,
-        edges: *const u64,
-        edges_len: usize,
-        part: u64,
-        room: *mut u64,
-        room_len: usize,
-    ) -> u64;
-
     fn harness_entry(
         weights: *const u64,
         weights_len: usize,
@@ -87,27 +113,6 @@ extern "C" {
         vertex: u64,
         entry: *mut u64,
         entry_len: usize,
-    ) -> u64;
-
-    fn harness_reprice(
-        measure: u64,
-        n: u64,
-        heads: *const u64,
-        heads_len: usize,
-        own: *mut u64,
-        own_len: usize,
-        spans: *const u64,
-        spans_len: usize,
-        tails: *const u64,
-        tails_len: usize,
-        weights: *mut u64,
-        weights_len: usize,
-        depths: *mut u64,
-        depths_len: usize,
-        edges: *mut u64,
-        edges_len: usize,
-        line: u64,
-        figure: u64,
     ) -> u64;
 
     fn harness_strike(
@@ -159,7 +164,7 @@ pub fn settle(
     let mut lent = LentTable::lend(table);
     let mut room = LentLabelling::lend(answers);
     let result = unsafe {
-        harness_settle(
+        counter::settle(
             measure,
             table.n,
             lent.heads.pointer(),
@@ -222,7 +227,7 @@ pub fn bill(
     let mut labels = LentLabelling::lend(answers);
     let mut places = Column::lend("room", room);
     let result = unsafe {
-        harness_bill(
+        counter::bill(
             measure,
             table.n,
             lent.heads.pointer(),
@@ -288,7 +293,7 @@ pub fn reprice(
     let mut lent = LentTable::lend(table);
     let mut room = LentLabelling::lend(answers);
     let result = unsafe {
-        harness_reprice(
+        counter::reprice(
             measure,
             table.n,
             lent.heads.pointer(),

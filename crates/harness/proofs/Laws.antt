@@ -19,21 +19,14 @@ use Rattle.refusal.specs.declared.MeasureChoice.the-variants as choice
 use Rattle.refusal.specs.Refusals.{codeOf, resultOf, answerResult, verdictResult, extentResult}
 use Rattle.provenance.specs.BestFirst.{Answers}
 use Rattle.columns.specs.Columns.{Columns}
-use Rattle.settle.specs.Settling.{Outcome, settled}
 use Rattle.settle.specs.Checking.{checked}
-use Rattle.reprice.specs.Repricing.{Change, repriced, stricken}
-use Rattle.bill.specs.Billing.{billed}
+use Rattle.reprice.specs.Repricing.{stricken}
 use Rattle.readtable.specs.Read.{ReadOutcome}
 use Rattle.writetable.specs.Write.{writeTable}
-use Rattle.harness.specs.Results.{outcomeResult, settledResult, checkedResult, changeResult, repricedResult, strickenResult, entryWritten, measureNumber, headerWritten, readResult, billResult, billedResult, writeResult, writtenResult}
+use Rattle.counter.specs.Results.{changeResult}
+use Rattle.harness.specs.Results.{checkedResult, strickenResult, entryWritten, measureNumber, headerWritten, readResult, writeResult, writtenResult}
 
 module _ {o : MeasureChoice} (c : Columns) (a : Answers) {n : ℕ} where
-  pub settled-refused : {r : Refusal} → o ≡ choice.Refused r → n ≡ resultOf (codeOf r) → record { result = n; left = a } ≡ settledResult o c a
-  settled-refused p q = rw (p, q)
-
-  pub settled-measure : {m : Measure} {x : Answer} {b : Answers} → o ≡ choice.Measure m → n ≡ answerResult x → record { result = x; left = b } ≡ settled m c a → record { result = n; left = b } ≡ settledResult o c a
-  settled-measure {m} {x} {b} p q e = rw (p, q) (ap outcomeResult e)
-
   pub checked-refused : {r : Refusal} → o ≡ choice.Refused r → n ≡ resultOf (codeOf r) → n ≡ checkedResult o c a
   checked-refused p q = rw (p, q)
 
@@ -42,12 +35,6 @@ module _ {o : MeasureChoice} (c : Columns) (a : Answers) {n : ℕ} where
 
   -- the same of a change of line e
   module _ (e : ℕ) where
-    pub repriced-refused : (w : ℕ) {r : Refusal} → o ≡ choice.Refused r → n ≡ resultOf (codeOf r) → record { result = n; own = c .own; left = a } ≡ repricedResult o c a e w
-    repriced-refused w p q = rw (p, q)
-
-    pub repriced-measure : (w : ℕ) {m : Measure} {x : Answer} {os : List ℕ} {b : Answers} → o ≡ choice.Measure m → n ≡ answerResult x → record { result = x; own = os; left = b } ≡ repriced m c a e w → record { result = n; own = os; left = b } ≡ repricedResult o c a e w
-    repriced-measure w p q k = rw (p, q) (ap changeResult k)
-
     pub stricken-refused : {r : Refusal} → o ≡ choice.Refused r → n ≡ resultOf (codeOf r) → record { result = n; own = c .own; left = a } ≡ strickenResult o c a e
     stricken-refused p q = rw (p, q)
 
@@ -97,10 +84,3 @@ module _ {o : MeasureChoice} (c : Columns) (room : List ℕ) {n : ℕ} where
 
   pub write-measure : {m : Measure} {x : Extent} {room′ : List ℕ} → o ≡ choice.Measure m → n ≡ extentResult x → record { answer = x; room = room′ } ≡ writeTable m c room → record { result = n; left = room′ } ≡ writtenResult o c room
   write-measure p q e = rw (p, q) (ap writeResult e)
-
-module _ {o : MeasureChoice} (c : Columns) (a : Answers) (v : ℕ) (room : List ℕ) {n : ℕ} where
-  pub billed-refused : {r : Refusal} → o ≡ choice.Refused r → n ≡ resultOf (codeOf r) → record { result = n; left = room } ≡ billedResult o c a v room
-  billed-refused p q = rw (p, q)
-
-  pub billed-measure : {m : Measure} {x : Extent} {left : List ℕ} → o ≡ choice.Measure m → n ≡ extentResult x → record { result = x; left = left } ≡ billed m c a v room → record { result = n; left = left } ≡ billedResult o c a v room
-  billed-measure p q e = rw (p, q) (ap billResult e)

@@ -1,4 +1,4 @@
--- The calls' outcomes as a caller in C gets them: one number, and the columns as they are left. The paper's "The calls". Assumes nothing: these are definitions.
+-- The outcomes of the calls that the tests have beside those of `counter`: one number, and the columns as they are left. Assumes nothing: these are definitions.
 use Prim.Native.Nat.{ℕ}
 use mathlib.Core.List.{List, [], _∷_}
 use lib.ListN.{length}
@@ -17,42 +17,16 @@ use Rattle.refusal.specs.declared.MeasureChoice.the-variants.{Measure, Refused}
 use Rattle.refusal.specs.Refusals.{codeOf, resultOf, answerResult, verdictResult, extentResult}
 use Rattle.provenance.specs.BestFirst.{Answers}
 use Rattle.columns.specs.Columns.{Columns}
-use Rattle.settle.specs.Settling.{Outcome, settled}
 use Rattle.settle.specs.Checking.{checked}
-use Rattle.reprice.specs.Repricing.{Change, repriced, stricken}
-use Rattle.bill.specs.Billing.{Outcome as BillOutcome, billed}
+use Rattle.reprice.specs.Repricing.{stricken}
+use Rattle.counter.specs.Results.{LeftOwn, changeResult, LeftRoom}
 use Rattle.readtable.specs.Read.{ReadOutcome}
 use Rattle.writetable.specs.Write.{WriteOutcome, writeTable}
 
--- a number, and the answer columns
-pub record Left : Type 0 where
-  pub result : ℕ
-  pub left : Answers
-
-abbrev pub outcomeResult : Outcome → Left
-outcomeResult o = record { result = answerResult (o .result); left = o .left }
-
 -- a measure's number is tested before everything
-abbrev pub settledResult : MeasureChoice → Columns → Answers → Left
-settledResult (Refused r) c a = record { result = resultOf (codeOf r); left = a }
-settledResult (Measure m) c a = outcomeResult (settled m c a)
-
 abbrev pub checkedResult : MeasureChoice → Columns → Answers → ℕ
 checkedResult (Refused r) c a = resultOf (codeOf r)
 checkedResult (Measure m) c a = verdictResult (checked m c a)
-
--- a number, the own figures, and the answer columns
-pub record LeftOwn : Type 0 where
-  pub result : ℕ
-  pub own : List ℕ
-  pub left : Answers
-
-abbrev pub changeResult : Change → LeftOwn
-changeResult x = record { result = answerResult (x .result); own = x .own; left = x .left }
-
-abbrev pub repricedResult : MeasureChoice → Columns → Answers → (e w : ℕ) → LeftOwn
-repricedResult (Refused r) c a e w = record { result = resultOf (codeOf r); own = c .own; left = a }
-repricedResult (Measure m) c a e w = changeResult (repriced m c a e w)
 
 abbrev pub strickenResult : MeasureChoice → Columns → Answers → ℕ → LeftOwn
 strickenResult (Refused r) c a e = record { result = resultOf (codeOf r); own = c .own; left = a }
@@ -94,18 +68,6 @@ readingHeader (reading.Refused r) room = room
 
 abbrev pub readResult : ReadOutcome → List ℕ → ReadLeft
 readResult x room = record { result = readingNumber (x .answer); heads = x .heads; own = x .own; spans = x .spans; tails = x .tails; header = readingHeader (x .answer) room }
-
--- a number, and a room
-pub record LeftRoom : Type 0 where
-  pub result : ℕ
-  pub left : List ℕ
-
-abbrev pub billResult : BillOutcome → LeftRoom
-billResult o = record { result = extentResult (o .result); left = o .left }
-
-abbrev pub billedResult : MeasureChoice → Columns → Answers → (v : ℕ) → List ℕ → LeftRoom
-billedResult (Refused r) c a v room = record { result = resultOf (codeOf r); left = room }
-billedResult (Measure m) c a v room = billResult (billed m c a v room)
 
 abbrev pub writeResult : WriteOutcome → LeftRoom
 writeResult x = record { result = extentResult (x .answer); left = x .room }

@@ -1,4 +1,5 @@
-// The calls, exported for the tests alone. Each gives one number, as a caller in C gets it.
+// The calls that `counter` does not export, for the tests alone. Each gives one number, as a caller
+// in C gets it.
 use refusal::Header;
 use refusal::MeasureChoice;
 use refusal::Reading;
@@ -6,7 +7,6 @@ use weights::Hyperedge;
 use weights::Measure;
 use weights::State;
 use weights::Vertex;
-use weights::Weight;
 ghost use mathlib.Core.Path.{_≡_};
 ghost use Rattle.weights.specs.Labels.{entryOf};
 ghost use Rattle.refusal.specs.Refusals.{answerResult, measureOf};
@@ -14,7 +14,7 @@ ghost use Rattle.provenance.specs.BestFirst.{labels};
 ghost use Rattle.columns.specs.Columns.{columns, answers};
 ghost use Rattle.columns.specs.Acceptance.{acceptance};
 ghost use Rattle.readtable.specs.Read.{readTable};
-ghost use Rattle.harness.specs.Results.{settledResult, checkedResult, repricedResult, strickenResult, billedResult, stateNumber, entryWritten, measureNumber, headerWritten, readResult, writtenResult};
+ghost use Rattle.harness.specs.Results.{checkedResult, strickenResult, stateNumber, entryWritten, measureNumber, headerWritten, readResult, writtenResult};
 
 #[no_mangle]
 pub extern "C" fn harness_check_table(
@@ -28,30 +28,6 @@ pub extern "C" fn harness_check_table(
 {
     let a = columns::check_table(n, heads, own, spans, tails);
     a.result()
-}
-
-#[no_mangle]
-pub extern "C" fn harness_settle(
-    measure: u64,
-    n: u64,
-    heads: &[u64],
-    own: &[u64],
-    spans: &[u64],
-    tails: &[u64],
-    weights: &mut [u64],
-    depths: &mut [u64],
-    edges: &mut [u64],
-) -> u64
-    ensures { λ r. ⌜ record { result = r; left = answers (now (weights .exit)) (now (depths .exit)) (now (edges .exit)) } ≡ settledResult (measureOf measure) (columns n (now (heads .entry)) (now (own .entry)) (now (spans .entry)) (now (tails .entry))) (answers (now (weights .entry)) (now (depths .entry)) (now (edges .entry))) ⌝ }
-{
-    let choice = refusal::measure_numbered(measure);
-    match choice {
-        MeasureChoice::Refused(r) => return r.result(),
-        MeasureChoice::Measure(m) => {
-            let a = settle::settle(m, n, heads, own, spans, tails, weights, depths, edges);
-            return a.result();
-        }
-    }
 }
 
 #[no_mangle]
@@ -74,44 +50,6 @@ pub extern "C" fn harness_check_answers(
         MeasureChoice::Measure(m) => {
             let v = settle::check_answers(m, n, heads, own, spans, tails, weights, depths, edges);
             return v.result();
-        }
-    }
-}
-
-#[no_mangle]
-pub extern "C" fn harness_reprice(
-    measure: u64,
-    n: u64,
-    heads: &[u64],
-    own: &mut [u64],
-    spans: &[u64],
-    tails: &[u64],
-    weights: &mut [u64],
-    depths: &mut [u64],
-    edges: &mut [u64],
-    line: u64,
-    figure: u64,
-) -> u64
-    ensures { λ r. ⌜ record { result = r; own = now (own .exit); left = answers (now (weights .exit)) (now (depths .exit)) (now (edges .exit)) } ≡ repricedResult (measureOf measure) (columns n (now (heads .entry)) (now (own .entry)) (now (spans .entry)) (now (tails .entry))) (answers (now (weights .entry)) (now (depths .entry)) (now (edges .entry))) line figure ⌝ }
-{
-    let choice = refusal::measure_numbered(measure);
-    match choice {
-        MeasureChoice::Refused(r) => return r.result(),
-        MeasureChoice::Measure(m) => {
-            let a = reprice::reprice(
-                m,
-                n,
-                heads,
-                own,
-                spans,
-                tails,
-                weights,
-                depths,
-                edges,
-                Hyperedge(line),
-                Weight(figure),
-            );
-            return a.result();
         }
     }
 }
@@ -252,45 +190,6 @@ pub extern "C" fn harness_write_table(
         MeasureChoice::Refused(r) => return r.result(),
         MeasureChoice::Measure(m) => {
             let x = writetable::write_table(m, n, heads, own, spans, tails, room);
-            return x.result();
-        }
-    }
-}
-
-#[no_mangle]
-pub extern "C" fn harness_bill(
-    measure: u64,
-    n: u64,
-    heads: &[u64],
-    own: &[u64],
-    spans: &[u64],
-    tails: &[u64],
-    weights: &[u64],
-    depths: &[u64],
-    edges: &[u64],
-    part: u64,
-    room: &mut [u64],
-) -> u64
-    ensures { λ r. ⌜ record { result = r; left = now (room .exit) } ≡ billedResult (measureOf measure) (columns n (now (heads .entry)) (now (own .entry)) (now (spans .entry)) (now (tails .entry))) (answers (now (weights .entry)) (now (depths .entry)) (now (edges .entry))) part (now (room .entry)) ⌝ }
-{
-    let choice = refusal::measure_numbered(measure);
-    match choice {
-        MeasureChoice::Refused(r) => return r.result(),
-        MeasureChoice::Measure(m) => {
-            let p = Vertex(part);
-            let x = bill::bill(
-                m,
-                n,
-                heads,
-                own,
-                spans,
-                tails,
-                weights,
-                depths,
-                edges,
-                p,
-                room,
-            );
             return x.result();
         }
     }

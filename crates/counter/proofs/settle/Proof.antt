@@ -1,8 +1,9 @@
-use mathlib.Core.Path.{sym, _∙_, ap}
-use Rattle.harness.proofs.Laws.{settled-refused, settled-measure}
+-- `counter::settle` meets its contract: refused by the measure's number, or as `settle::settle`. Assumes nothing.
+use mathlib.Core.Path.{sym, _∙_}
+use Rattle.counter.proofs.Laws.{settled-refused, settled-measure}
 use borrow.Author.Needs.{needs}
-use Rattle.harness.proofs.harness_settle.Statement.{statement}
-use Rattle.harness.proofs.harness_settle.Tie as tie
+use Rattle.counter.proofs.settle.Statement.{statement}
+use Rattle.counter.proofs.settle.Tie as tie
 
 measure-numbered-requires : tie.Need-measure-numbered-requires
 measure-numbered-requires c κs = search needs
@@ -37,8 +38,8 @@ same-length-3 c = search needs
 returns-2 : tie.Need-returns-2
 returns-2 c = settled-measure _ _ (sym (c .before .before .before .before .before .before .before .before .before .before .before .before .before .before .measure-numbered .ensures) ∙ c .before .before .before .before .before .before .before .before .before .before .before .before .choice2 .given .1) (c .result2 .ensures) (c .before .before .before .before .before .before .before .settle .ensures)
 
-pub harness-settle-spec : {M : Type 1} → statement M
-harness-settle-spec =
+pub settle-spec : {M : Type 1} → statement M
+settle-spec =
     tie.close
     (tie.spec
     measure-numbered-requires

@@ -1,8 +1,9 @@
+-- `counter::reprice` meets its contract: refused by the measure's number, or as `reprice::reprice`. Assumes nothing.
 use mathlib.Core.Path.{sym, _∙_}
-use Rattle.harness.proofs.Laws.{repriced-refused, repriced-measure}
+use Rattle.counter.proofs.Laws.{repriced-refused, repriced-measure}
 use borrow.Author.Needs.{needs}
-use Rattle.harness.proofs.harness_reprice.Statement.{statement}
-use Rattle.harness.proofs.harness_reprice.Tie as tie
+use Rattle.counter.proofs.reprice.Statement.{statement}
+use Rattle.counter.proofs.reprice.Tie as tie
 
 measure-numbered-requires : tie.Need-measure-numbered-requires
 measure-numbered-requires c κs = search needs
@@ -40,8 +41,8 @@ same-length-4 c = search needs
 returns-2 : tie.Need-returns-2
 returns-2 c = repriced-measure _ _ _ _ (sym (c .before .before .before .before .before .before .before .before .before .before .before .before .before .before .before .before .before .measure-numbered .ensures) ∙ c .before .before .before .before .before .before .before .before .before .before .before .before .before .before .before .choice2 .given .1) (c .result2 .ensures) (c .before .before .before .before .before .before .before .before .before .reprice .ensures)
 
-pub harness-reprice-spec : {M : Type 1} → statement M
-harness-reprice-spec =
+pub reprice-spec : {M : Type 1} → statement M
+reprice-spec =
     tie.close
     (tie.spec
     measure-numbered-requires

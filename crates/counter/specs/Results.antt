@@ -1,0 +1,54 @@
+-- The three calls as a program in C gets them: one number, and the lent columns as they are left. The paper's "The calls". Assumes nothing: these are definitions.
+use Prim.Native.Nat.{ℕ}
+use mathlib.Core.List.{List, _++_}
+use lib.ListN.{take, drop}
+use Rattle.refusal.specs.declared.MeasureChoice.{MeasureChoice}
+use Rattle.refusal.specs.declared.MeasureChoice.the-variants.{Measure, Refused}
+use Rattle.refusal.specs.Refusals.{codeOf, resultOf, answerResult, extentResult}
+use Rattle.provenance.specs.BestFirst.{Answers}
+use Rattle.columns.specs.Columns.{Columns}
+use Rattle.settle.specs.Settling.{Outcome, settled}
+use Rattle.reprice.specs.Repricing.{Change, repriced}
+use Rattle.bill.specs.Billing.{Outcome as BillOutcome, billed}
+
+-- a number, and the answer columns
+pub record Left : Type 0 where
+  pub result : ℕ
+  pub left : Answers
+
+abbrev pub outcomeResult : Outcome → Left
+outcomeResult o = record { result = answerResult (o .result); left = o .left }
+
+-- a measure's number is tested before everything
+abbrev pub settledResult : MeasureChoice → Columns → Answers → Left
+settledResult (Refused r) c a = record { result = resultOf (codeOf r); left = a }
+settledResult (Measure m) c a = outcomeResult (settled m c a)
+
+-- a number, the own figures, and the answer columns
+pub record LeftOwn : Type 0 where
+  pub result : ℕ
+  pub own : List ℕ
+  pub left : Answers
+
+abbrev pub changeResult : Change → LeftOwn
+changeResult x = record { result = answerResult (x .result); own = x .own; left = x .left }
+
+abbrev pub repricedResult : MeasureChoice → Columns → Answers → (e w : ℕ) → LeftOwn
+repricedResult (Refused r) c a e w = record { result = resultOf (codeOf r); own = c .own; left = a }
+repricedResult (Measure m) c a e w = changeResult (repriced m c a e w)
+
+-- a number, and a room
+pub record LeftRoom : Type 0 where
+  pub result : ℕ
+  pub left : List ℕ
+
+-- "counts room beyond 4,294,967,295 places as absent": a bill is given the places up to there, and those behind them keep what they hold
+abbrev pub mostRoom : ℕ
+mostRoom = 4_294_967_295
+
+abbrev pub billResult : BillOutcome → (behind : List ℕ) → LeftRoom
+billResult o behind = record { result = extentResult (o .result); left = o .left ++ behind }
+
+abbrev pub billedResult : MeasureChoice → Columns → Answers → (v : ℕ) → List ℕ → LeftRoom
+billedResult (Refused r) c a v room = record { result = resultOf (codeOf r); left = room }
+billedResult (Measure m) c a v room = billResult (billed m c a v (take mostRoom room)) (drop mostRoom room)
