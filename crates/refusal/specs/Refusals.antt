@@ -59,8 +59,8 @@ resultOf c = c .0 * 4_294_967_296 + min (c .1) lastPlace
 pub exact : (c : Code) → c .1 ≤ lastPlace → resultOf c ≡ c .0 * 4_294_967_296 + c .1
 exact c h = omega arith
 
--- there are seventeen
-pub numbered : (r : Refusal) → numberOf r ≤ 17
+-- there are seventeen, numbered from 1
+pub numbered : (r : Refusal) → (1 ≤ numberOf r) × (numberOf r ≤ 17)
 numbered TooManyVertices = omega arith
 numbered Lengths = omega arith
 numbered (Head e) = omega arith
