@@ -1,0 +1,163 @@
+/* The specification's examples through C, and demand 3. */
+#include <string.h>
+
+#include "table.h"
+
+static void test_worked_cost(void)
+{
+    static const uint64_t figures[] = { 1200, 300, 2000, 2600, 0 }, depths[] = { 1, 1, 2, 3, 0 },
+        lines[] = { 0, 1, 2, 4, 0 }, listed[] = { 4, 2, 0, 1, 1, 1 };
+    struct table *t = priced(TOZBIERDU_COST);
+
+    check(holds(t, FIGURES, figures) && holds(t, DEPTHS, depths) && holds(t, LINES, lines), "answers");
+    bill_is(t, 3, 6, listed);
+}
+
+static void test_worked_days(void)
+{
+    static const uint64_t figures[] = { 1200, 300, 1200, 1200, 0 }, lines[] = { 0, 1, 2, 4, 0 };
+    struct table *t = priced(TOZBIERDU_DAYS);
+
+    check(holds(t, FIGURES, figures) && holds(t, LINES, lines), "answers");
+}
+
+static void test_worked_repriced(void)
+{
+    static const uint64_t own[] = { 1200, 500, 500, 2100, 0, 10 }, depths[] = { 1, 1, 1, 2, 0 },
+        figures[] = { 1200, 500, 2100, 3100, 0 }, lines[] = { 0, 1, 3, 4, 0 }, listed[] = { 4, 3, 1, 1 };
+    struct table *t = priced(TOZBIERDU_COST);
+
+    t->line = 1;
+    t->figure = 500;
+    expect(REPRICE, "line 1 to 500", run(REPRICE, t), 0, 0);
+    check(holds(t, OWN, own), "own figures");
+    check(holds(t, FIGURES, figures) && holds(t, DEPTHS, depths) && holds(t, LINES, lines), "answers");
+    bill_is(t, 3, 4, listed);
+}
+
+/* A part at the ceiling, and one over it; both have a bill. */
+static void test_ceiling(void)
+{
+    uint64_t ten[10], part, i;
+    struct table *t = blank(5);
+
+    add(t, 0, TOZBIERDU_GREATEST, 0, NULL);
+    for (part = 1; part < 4; part++) {
+        for (i = 0; i < 10; i++)
+            ten[i] = part - 1;
+        add(t, part, 0, 10, ten);
+    }
+    for (i = 0; i < 10; i++)
+        ten[i] = 2;
+    add(t, 4, 1, 10, ten);
+    expect(SETTLE, "the ceiling", run(SETTLE, t), 0, 0);
+    check(t->at[FIGURES][3] == TOZBIERDU_CEILING, "the ceiling is made");
+    check(t->at[FIGURES][4] == TOZBIERDU_OVER, "one more is over");
+    t->part = 4;
+    expect(BILL, "an over part", run(BILL, t), 0, 1111);
+}
+
+static uint64_t seed = 1;
+
+static uint64_t below(uint64_t n)
+{
+    seed ^= seed << 13;
+    seed ^= seed >> 7;
+    seed ^= seed << 17;
+    return seed % n;
+}
+
+static struct table *chance(void)
+{
+    struct table *t = blank(1 + below(8));
+    uint64_t lines = 1 + below(16), parts[4], needs, i;
+
+    while (lines-- > 0) {
+        needs = below(4);
+        for (i = 0; i < needs; i++)
+            parts[i] = below(t->n);
+        add(t, below(t->n), below(10) == 0 ? TOZBIERDU_STRUCK : below(20), needs, parts);
+    }
+    t->measure = below(2);
+    return t;
+}
+
+static uint64_t count_in_bill(struct table *t, uint64_t part, uint64_t line)
+{
+    uint64_t length, i, count = 0;
+
+    t->part = part;
+    length = run(BILL, t);
+    check(!tozbierdu_refused(length), "a made part has a bill");
+    for (i = 0; i < length && i < ROOM; i++)
+        count += t->room[i] == line;
+    return count;
+}
+
+/* What one part of two tables owes, of which the new one has line e raised by d. */
+static void rises(struct table *old, struct table *new, uint64_t part, uint64_t e, uint64_t d)
+{
+    uint64_t rise = new->at[FIGURES][part] - old->at[FIGURES][part];
+
+    check((old->at[DEPTHS][part] == 0) == (new->at[DEPTHS][part] == 0), "the same parts are unmade");
+    if (old->at[DEPTHS][part] == 0)
+        return;
+    check(new->at[FIGURES][part] >= old->at[FIGURES][part], "no part falls");
+    if (old->measure == TOZBIERDU_DAYS) {
+        check(rise <= d, "in days, by at most d");
+        return;
+    }
+    check(rise >= d * count_in_bill(new, part, e), "at least d times the count in the new bill");
+    check(rise <= d * count_in_bill(old, part, e), "at most d times the count in the old bill");
+}
+
+static int same_answers(const struct table *t, const struct table *u)
+{
+    return holds(t, OWN, u->at[OWN]) && holds(t, FIGURES, u->at[FIGURES])
+           && holds(t, DEPTHS, u->at[DEPTHS]) && holds(t, LINES, u->at[LINES]);
+}
+
+/* Settling one of two tables and repricing the line leaves what settling the other does. */
+static void compare(struct table *old, uint64_t e, uint64_t d)
+{
+    struct table *new = copy(old), *changed;
+    uint64_t part;
+
+    new->at[OWN][e] += d;
+    expect(SETTLE, "the old table", run(SETTLE, old), 0, 0);
+    expect(SETTLE, "the new table", run(SETTLE, new), 0, 0);
+    changed = copy(old);
+    changed->line = e;
+    changed->figure = old->at[OWN][e] + d;
+    expect(REPRICE, "up", run(REPRICE, changed), 0, 0);
+    check(same_answers(changed, new), "raised, the new table's answers");
+    changed->figure = old->at[OWN][e];
+    expect(REPRICE, "down", run(REPRICE, changed), 0, 0);
+    check(same_answers(changed, old), "lowered, the old table's answers");
+    for (part = 0; part < old->n; part++)
+        rises(old, new, part, e, d);
+    drop(new);
+    drop(changed);
+}
+
+static void test_demand_3(void)
+{
+    int i;
+
+    for (i = 0; i < 3000 && failures == 0; i++) {
+        struct table *t = chance();
+        uint64_t e = below(t->count[HEADS]);
+        if (t->at[OWN][e] != TOZBIERDU_STRUCK)
+            compare(t, e, below(25));
+        drop(t);
+    }
+}
+
+const struct test answer_tests[] = {
+    { "worked_cost", test_worked_cost, 0 },
+    { "worked_days", test_worked_days, 0 },
+    { "worked_repriced", test_worked_repriced, 0 },
+    { "ceiling", test_ceiling, 0 },
+    { "demand_3", test_demand_3, 0 },
+    { NULL, NULL, 0 },
+};

@@ -1,0 +1,49 @@
+/*
+ * Tests of the calls that a program in C has, on the archive itself. Each test runs in a process of
+ * its own; the last line is 'N passed, M failed'. Arguments: [test].
+ */
+#include <stdio.h>
+#include <string.h>
+#include <sys/wait.h>
+#include <unistd.h>
+
+#include "table.h"
+
+static const struct test *const lists[] = { answer_tests, refusal_tests, room_tests };
+
+/* A library that crashes fails one test, and the rest still run. */
+static int passes(const struct test *test)
+{
+    int status = -1;
+    pid_t child;
+
+    fflush(stdout);
+    child = fork();
+    if (child == 0) {
+        test->run();
+        fflush(stdout);
+        _exit(failures > 0);
+    }
+    return child > 0 && waitpid(child, &status, 0) == child && status == 0;
+}
+
+int main(int count, char **given)
+{
+    unsigned passed = 0, failed = 0;
+    const struct test *test;
+    size_t i;
+
+    for (i = 0; i < sizeof lists / sizeof *lists; i++)
+        for (test = lists[i]; test->name != NULL; test++) {
+            if (count > 1 ? strcmp(given[1], test->name) != 0 : test->slow)
+                continue;
+            if (passes(test)) {
+                passed++;
+            } else {
+                printf("failed %s\n", test->name);
+                failed++;
+            }
+        }
+    printf("%u passed, %u failed\n", passed, failed);
+    return failed > 0 || passed == 0;
+}
