@@ -1,7 +1,7 @@
 /*
  * Tozbierdu: prices parts tables. The calls of the archive libcounter.a, for programs in C and C++
- * on x86-64 Linux. What is said here of a call is proved of it, for every input that meets the
- * caller's duties.
+ * on x86-64 Linux. What is said here of a call's result and of what it writes is proved, for every
+ * input that meets the caller's duties; the stack was measured.
  *
  * THE TABLE. n parts, numbered from 0, and lines, numbered from 0. Line i yields the part heads[i],
  * adds the own figure own[i] (or is struck: TOZBIERDU_STRUCK), and needs the parts
@@ -17,16 +17,15 @@
  * refused call has altered no lent byte. An accepted one has written what is said of it and nothing
  * else.
  *
- * THE CALLER'S DUTIES, which are not tested. A column is passed as a pointer and a count of places,
- * aligned as uint64_t is. All its places can be read and hold a value, and those of a column that
- * the call may write can be written; of a room, as many as the bill is long. A pointer with count 0
- * may be null. The columns and the room lent in one call never overlap, and no other thread touches
- * them while it runs. No call allocates, keeps a pointer, or has state of its own, so calls on
- * different columns can run at once.
+ * THE CALLER'S DUTIES, which are not tested. A column or a room is lent as a pointer, aligned as
+ * uint64_t is, and a count of places that are there and hold values; with count 0 the pointer may be
+ * null. The columns and the room lent in one call never overlap, and nothing else writes to them
+ * while it runs. No call allocates, keeps a pointer or has state of its own, so calls on different
+ * columns can run at once.
  *
- * THE STACK. settle and reprice need under 512 KiB, bill under 4 MiB: it goes as deep as the bill,
- * and a bill of 1024 levels with 16 parts each was measured at 3.93 MB. A main thread's usual 8 MiB
- * holds it; give a thread that prints bills as much.
+ * THE STACK. settle and reprice need under 512 KiB. bill goes as deep as the bill does and needs
+ * under 4 MiB: with this version 3.93 MB for 1024 levels of 16 needed parts each. A main thread's
+ * usual 8 MiB holds it; a thread that prints bills wants as much.
  */
 #ifndef TOZBIERDU_H
 #define TOZBIERDU_H

@@ -55,7 +55,7 @@ static int guarded(const uint64_t *block, size_t count)
 }
 
 uint64_t invoke(enum call call, const struct table *t, uint64_t *const block[COLUMNS],
-                       uint64_t *room)
+                uint64_t *room)
 {
 #define COLUMN(c) block[c] + GUARD, t->count[c]
 #define TABLE COLUMN(HEADS), COLUMN(OWN), COLUMN(SPANS), COLUMN(TAILS)

@@ -1,0 +1,207 @@
+/*
+ * The library's calls beside the same written by hand in C, in one process: medians of many runs, in
+ * microseconds. Results are compared first. Arguments: [cost | days], or `once` KIND N, which makes
+ * each call once, for a tool that counts instructions.
+ */
+#include <stdio.h>
+#include <stdlib.h>
+#include <string.h>
+#include <time.h>
+
+#include "plain.h"
+#include "tables.h"
+
+uint64_t harness_check_answers(uint64_t measure, uint64_t n, TABLE_COLUMNS, ANSWER_COLUMNS);
+
+enum { ROOM = 4096, SAMPLES = 101, CALLS = 4 };
+
+/* The four calls of one maker. */
+struct maker {
+    uint64_t (*settle)(uint64_t, uint64_t, TABLE_COLUMNS, WRITTEN_COLUMNS);
+    uint64_t (*check_answers)(uint64_t, uint64_t, TABLE_COLUMNS, ANSWER_COLUMNS);
+    uint64_t (*reprice)(uint64_t, uint64_t, CHANGED_COLUMNS, WRITTEN_COLUMNS, uint64_t, uint64_t);
+    uint64_t (*bill)(uint64_t, uint64_t, TABLE_COLUMNS, ANSWER_COLUMNS, uint64_t, uint64_t *, size_t);
+};
+
+static const struct maker library = { settle, harness_check_answers, reprice, bill };
+static const struct maker plain = { plain_settle, plain_check_answers, plain_reprice, plain_bill };
+
+/* A table with its answers, a part whose bill fits the room, a line that is used, and its figure. */
+struct job {
+    uint64_t measure, part, line, figure;
+    struct table t;
+    uint64_t figures[TOZBIERDU_MOST_PARTS], depths[TOZBIERDU_MOST_PARTS], lines[TOZBIERDU_MOST_PARTS];
+    uint64_t room[ROOM];
+};
+
+#define TABLE(j) \
+    (j)->t.heads, (j)->t.lines, (j)->t.own, (j)->t.lines, (j)->t.spans, 2 * (j)->t.lines, (j)->t.tails, (j)->t.listed
+#define ANSWERS(j) (j)->figures, (j)->t.n, (j)->depths, (j)->t.n, (j)->lines, (j)->t.n
+
+static uint64_t call(const struct maker *m, int which, struct job *j)
+{
+    switch (which) {
+    case 0: return m->settle(j->measure, j->t.n, TABLE(j), ANSWERS(j));
+    case 1: return m->check_answers(j->measure, j->t.n, TABLE(j), ANSWERS(j));
+    case 2:
+        j->figure ^= 1;
+        return m->reprice(j->measure, j->t.n, TABLE(j), ANSWERS(j), j->line, j->figure);
+    default: return m->bill(j->measure, j->t.n, TABLE(j), ANSWERS(j), j->part, j->room, ROOM);
+    }
+}
+
+/* How long the bill of a part is whose needed parts are known, cut at one more than the room. */
+static uint64_t bill_length(const struct job *j, uint64_t part, const uint64_t *known)
+{
+    const uint64_t *span = j->t.spans + 2 * j->lines[part];
+    uint64_t i, length = 1;
+
+    for (i = 0; i < span[1]; i++)
+        length += known[j->t.tails[span[0] + i]];
+    return length > ROOM ? ROOM + 1 : length;
+}
+
+/* The part with the longest bill that the room holds, and the line at its root. */
+static void choose(struct job *j)
+{
+    uint64_t known[TOZBIERDU_MOST_PARTS] = { 0 }, part, depth, best = 0;
+
+    for (depth = 1; depth <= j->t.n; depth++)
+        for (part = 0; part < j->t.n; part++) {
+            if (j->depths[part] != depth)
+                continue;
+            known[part] = bill_length(j, part, known);
+            if (known[part] <= ROOM && known[part] > best) {
+                best = known[part];
+                j->part = part;
+            }
+        }
+    j->line = j->lines[j->part];
+    j->figure = j->t.own[j->line];
+}
+
+/* Both makers give the same result, none a refusal, and leave the same bytes. */
+static int agree_on(int which, struct job *a, struct job *b)
+{
+    uint64_t result = call(&library, which, a);
+
+    return result == call(&plain, which, b) && !tozbierdu_refused(result) && memcmp(a, b, sizeof *a) == 0;
+}
+
+/* On every call, and on answers that are off by one. */
+static int agree(const struct job *given)
+{
+    static struct job a, b;
+    int which;
+
+    a = b = *given;
+    for (which = 0; which < CALLS; which++)
+        if (!agree_on(which, &a, &b))
+            return 0;
+    a.figures[a.part]++;
+    b.figures[b.part]++;
+    return agree_on(1, &a, &b);
+}
+
+static void prepare(struct job *j, uint64_t measure, int kind, uint64_t n)
+{
+    memset(j, 0, sizeof *j);
+    j->measure = measure;
+    make_table(&j->t, kind, n);
+    plain_settle(j->measure, n, TABLE(j), ANSWERS(j));
+    choose(j);
+    if (!agree(j)) {
+        fprintf(stderr, "%s of %u parts: the two disagree\n", kind_names[kind], (unsigned)n);
+        exit(1);
+    }
+}
+
+static double now(void)
+{
+    struct timespec t;
+
+    clock_gettime(CLOCK_MONOTONIC, &t);
+    return 1e6 * (double)t.tv_sec + (double)t.tv_nsec / 1e3;
+}
+
+static int ascending(const void *a, const void *b)
+{
+    double x = *(const double *)a, y = *(const double *)b;
+
+    return (x > y) - (x < y);
+}
+
+static double sample(const struct maker *m, int which, struct job *j, unsigned times)
+{
+    double start = now();
+    unsigned i;
+
+    for (i = 0; i < times; i++)
+        call(m, which, j);
+    return (now() - start) / times;
+}
+
+/* The median of samples of at least 20 microseconds each, for at most a fifth of a second. */
+static double median(const struct maker *m, int which, struct job *j)
+{
+    double samples[SAMPLES], start = now();
+    unsigned times = 2, count = 0;
+
+    while (sample(m, which, j, times) * times < 20)
+        times *= 2;
+    while (count < SAMPLES && (count < 5 || now() - start < 2e5))
+        samples[count++] = sample(m, which, j, times);
+    qsort(samples, count, sizeof *samples, ascending);
+    return samples[count / 2];
+}
+
+static void row(uint64_t measure, int kind, uint64_t n)
+{
+    static struct job j;
+    int which;
+
+    prepare(&j, measure, kind, n);
+    printf("%-9s %5u", kind_names[kind], (unsigned)n);
+    for (which = 0; which < CALLS; which++) {
+        double ours = median(&library, which, &j), theirs = median(&plain, which, &j);
+        printf(" | %9.1f %8.1f %6.2f", ours, theirs, ours / theirs);
+    }
+    printf("\n");
+    fflush(stdout);
+}
+
+static int once(const char *kind, uint64_t n)
+{
+    static struct job j;
+    int k, which;
+
+    for (k = 0; k < KINDS && strcmp(kind, kind_names[k]) != 0; k++)
+        continue;
+    if (k == KINDS)
+        return 2;
+    make_table(&j.t, k, n);
+    for (which = 0; which < CALLS; which++) {
+        call(&library, which, &j);
+        call(&plain, which, &j);
+        if (which == 0)
+            choose(&j);
+    }
+    return 0;
+}
+
+int main(int count, char **given)
+{
+    static const uint64_t sizes[] = { 16, 64, 256, 1024 };
+    uint64_t measure = count > 1 && strcmp(given[1], "days") == 0 ? TOZBIERDU_DAYS : TOZBIERDU_COST;
+    int kind;
+    size_t i;
+
+    if (count == 4 && strcmp(given[1], "once") == 0)
+        return once(given[2], strtoull(given[3], NULL, 10));
+    printf("microseconds: library, plain C, ratio\n");
+    printf("%-9s %5s | %-25s | %-25s | %-25s | %-25s\n", "table", "parts", "settle", "check answers", "reprice", "bill");
+    for (kind = 0; kind < KINDS; kind++)
+        for (i = 0; i < sizeof sizes / sizeof *sizes; i++)
+            row(measure, kind, sizes[i]);
+    return 0;
+}

@@ -1,0 +1,29 @@
+/* The calls written by hand in plain C, with the library's arguments and results. */
+#ifndef BENCH_PLAIN_H
+#define BENCH_PLAIN_H
+
+#include <stddef.h>
+#include <stdint.h>
+
+/* The columns of a table, and its answers, as parameters: lent to be read, or to be written. */
+#define TABLE_COLUMNS \
+    const uint64_t *heads, size_t heads_count, const uint64_t *own, size_t own_count, \
+        const uint64_t *spans, size_t spans_count, const uint64_t *tails, size_t tails_count
+#define ANSWER_COLUMNS \
+    const uint64_t *figures, size_t figures_count, const uint64_t *depths, size_t depths_count, \
+        const uint64_t *lines, size_t lines_count
+#define CHANGED_COLUMNS \
+    const uint64_t *heads, size_t heads_count, uint64_t *own, size_t own_count, \
+        const uint64_t *spans, size_t spans_count, const uint64_t *tails, size_t tails_count
+#define WRITTEN_COLUMNS \
+    uint64_t *figures, size_t figures_count, uint64_t *depths, size_t depths_count, \
+        uint64_t *lines, size_t lines_count
+
+uint64_t plain_settle(uint64_t measure, uint64_t n, TABLE_COLUMNS, WRITTEN_COLUMNS);
+uint64_t plain_check_answers(uint64_t measure, uint64_t n, TABLE_COLUMNS, ANSWER_COLUMNS);
+uint64_t plain_reprice(uint64_t measure, uint64_t n, CHANGED_COLUMNS, WRITTEN_COLUMNS, uint64_t line,
+                       uint64_t figure);
+uint64_t plain_bill(uint64_t measure, uint64_t n, TABLE_COLUMNS, ANSWER_COLUMNS, uint64_t part,
+                    uint64_t *room, size_t room_count);
+
+#endif
