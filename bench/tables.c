@@ -14,7 +14,7 @@ static uint64_t below(uint64_t n)
     return seed % n;
 }
 
-/* One more line, with as many of the wanted parts as the table still has places for: 16 to a part. */
+/* One more line, which needs no part yet. */
 static void begin(struct table *t, uint64_t head, uint64_t own)
 {
     t->heads[t->lines] = head;
@@ -24,6 +24,7 @@ static void begin(struct table *t, uint64_t head, uint64_t own)
     t->lines++;
 }
 
+/* One more part that the last line needs, while the table has places for it: 16 to a part. */
 static void need(struct table *t, uint64_t part)
 {
     uint64_t *length = &t->spans[2 * t->lines - 1];
@@ -58,12 +59,12 @@ static void chain_line(struct table *t, uint64_t head, uint64_t k)
             continue;
 }
 
-/* The lower half is bought, the upper half needs 16 parts of it at once while places last. */
+/* The lower half is bought; a part of the upper half needs 16 parts of it at once, or is dear. */
 static void wide_line(struct table *t, uint64_t head, uint64_t k)
 {
     uint64_t i, half = t->n / 2;
 
-    begin(t, head, 1 + below(1000));
+    begin(t, head, head >= half && k >= 2 ? 1000000 : 1 + below(1000));
     if (head >= half && k < 2)
         for (i = 0; i < TOZBIERDU_LONGEST_TAIL; i++)
             need(t, below(half));
