@@ -1,0 +1,4 @@
+pub mod Report
+pub mod Pieces
+pub mod Bounds
+pub mod Laws
