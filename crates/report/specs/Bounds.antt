@@ -78,6 +78,7 @@ module _ (c : Columns) (p : acceptance c ≡ Accepted) where
   -- in days no make-up is over
   mutual
     unfolding weight weigh fold
+
     days-most : {v : ℕ} (d : Derivation (hypergraph c) v) → weight days (ownAt c) d ≤ over
     days-most (node e s h ds) = let o = own-most e (s .numbered) in let r = all-most 0 (omega arith) ds in omega arith
 

@@ -24,16 +24,17 @@ use Rattle.columns.specs.Acceptance.{mostVertices, mostEdges, mostListed, accep
 use Rattle.columns.specs.Accepted.{table-accepted, columns-accept}
 use Rattle.settle.specs.Settling.{answersOf, settled}
 use Rattle.settle.specs.Demands.{settled-result, settled-left}
-use Rattle.text.specs.Tables.{Table, closed}
+use Rattle.text.specs.Tables.{Table, headsOf, ownsOf, spansFrom, tailsOf, closed}
 use Rattle.text.specs.Render.{render, Permitted}
 use Rattle.text.specs.Machine.{Parse, Whole, Wrong, parse}
 use Rattle.text.specs.Digits.{pick-by}
-use Rattle.text.specs.Rows.{closed-accepted}
+use Rattle.text.specs.Rows.{closed-accepted, length-heads, length-owns, length-spans, length-tails}
+use Rattle.text.specs.Sound.{sound}
 use Rattle.text.specs.Permitted.{FirstWrong}
-use Rattle.text.specs.Filled.{filled, take-filled}
+use Rattle.text.specs.Filled.{filled, take-filled, length-filled}
 use Rattle.reading.specs.Lines.{headerOf}
 use Rattle.readtable.specs.Read.{ReadOutcome, readOutcome, columnsRead, roomFor, readInto, readTable}
-use Rattle.roundtrip.specs.RoundTrip.{Room, headerFor, filledWith, read-accepted, read-rendered}
+use Rattle.roundtrip.specs.RoundTrip.{Room, headerFor, filledWith, held, read-accepted, read-rendered}
 use Rattle.roundtrip.specs.Refused.{unpermitted-is-refused}
 use Rattle.report.specs.Report.{mostInput, mostOutput, list, refusedLine, priced, listedAs, listed, readInput, report}
 use Rattle.report.specs.Pieces.{Lent}
@@ -152,7 +153,32 @@ report-unpermitted input h n =
 
 -- What the code asks ---------------------------------------------------------------------------------------------------------------------------
 
-module _ (input : List ℕ) (g : Header) (room : ℕ) (short : length input ≤ mostInput) (large : mostOutput ≤ room) (e : readInput input .answer ≡ reading.Table g) where
-  -- the table that was read stands at the start of the columns, and its output fits
-  pub input-lent : Lent g (readInput input .heads) (readInput input .own) (readInput input .spans) (readInput input .tails) room
-  input-lent = ?
+-- the table that was read stands at the start of the columns, and its output fits the room
+pub input-lent : (input : List ℕ) (g : Header) (room : ℕ) → length input ≤ mostInput → room ≡ mostOutput → readInput input .answer ≡ reading.Table g
+    → Lent g (readInput input .heads) (readInput input .own) (readInput input .spans) (readInput input .tails) room
+unfolding readInput
+input-lent input g room short large e =
+    let k = held input _ _ _ _ g e in
+    let es = k .table .edges in
+    let f = sound input (k .table) (k .whole) .0 in
+    let fe = f .edges in
+    let fl = f .listed in
+    let fv = f .vertices in
+    let v = ap (λ (x : Header). x .vertices) (k .header-of) in
+    let n = ap (λ (x : Header). x .edges) (k .header-of) in
+    let l = ap (λ (x : Header). x .listed) (k .header-of) in
+    let p = length-replicate {A = ℕ} mostEdges 0 in
+    let q = length-replicate {A = ℕ} (2 * mostEdges) 0 in
+    let r = length-replicate {A = ℕ} mostListed 0 in
+    let a = length-heads es in
+    let b = length-owns es in
+    let c = length-spans 0 es in
+    let d = length-tails es in
+    let hs = ap (λ (x : ReadOutcome). length (x .heads)) (k .outcome) ∙ length-filled (headsOf es) (replicate mostEdges 0) (omega arith) in
+    let os = ap (λ (x : ReadOutcome). length (x .own)) (k .outcome) ∙ length-filled (ownsOf es) (replicate mostEdges 0) (omega arith) in
+    let ss = ap (λ (x : ReadOutcome). length (x .spans)) (k .outcome) ∙ length-filled (spansFrom 0 es) (replicate (2 * mostEdges) 0) (omega arith) in
+    let ts = ap (λ (x : ReadOutcome). length (x .tails)) (k .outcome) ∙ length-filled (tailsOf es) (replicate mostListed 0) (omega arith) in
+    let y : listed (readInput input) ≡ priced (g .vertices) (settled (g .measure) (columnsRead g (readInput input)) (blank (g .vertices))) = unfold listedAs in ap (λ (z : Reading). listedAs z (readInput input)) e in
+    let z = ap length (report-short input short ∙ y) in
+    let w = report-fits input in
+    record { few = omega arith; heads = omega arith; own = omega arith; spans = omega arith; tails = omega arith; fits = omega arith }

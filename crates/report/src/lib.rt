@@ -122,9 +122,7 @@ fn put_priced(
     requires { ⌜ length (priced n (settled measure (columns n (now heads) (now own) (now spans) (now tails)) (answers (now weights) (now depths) (now edges)))) ≤ length (now room) ⌝ }
     ensures { λ r. ⌜ Written (priced n (settled measure (columns n (now (heads .entry)) (now (own .entry)) (now (spans .entry)) (now (tails .entry))) (answers (now (weights .entry)) (now (depths .entry)) (now (edges .entry))))) (now (room .entry)) r (now (room .exit)) ⌝ }
 {
-    let answer = settle::settle(
-        measure, n, heads, own, spans, tails, weights, depths, edges,
-    );
+    let answer = settle::settle(measure, n, heads, own, spans, tails, weights, depths, edges);
     match answer {
         Answer::Refused(r) => return put_refused(room, r),
         Answer::Accepted => {}

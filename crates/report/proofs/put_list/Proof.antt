@@ -17,7 +17,6 @@ whole : (c : tie.Start) → length (names ++ (rows (answers (c .args .weights .n
 unfolding list
 whole c = c .pre
 
-
 slice-aggregate-put-bytes : tie.Need-slice-aggregate-put-bytes
 slice-aggregate-put-bytes c = search needs
 
@@ -41,14 +40,14 @@ put-rows-requires c κs = let k = c .before in let s = k .before .before .before
 
 returns : tie.Need-returns
 unfolding list names
-returns c = 
+returns c =
     let p = c .before .before in
     let k = p .before .before in
     let s = k .before .before .before .before .before .before .before .before .before in
     written-part (names) _ _ _ (k .before .before .put-bytes .ensures) ((rows (answers (s .args .weights .now) (s .args .depths .now) (s .args .edges .now)) (length (s .args .depths .now)))) _ _ (whole s) (p .put-rows .ensures)
 
 add-result : tie.Need-add-result
-add-result c = 
+add-result c =
     let s = c .before .before .before .before .before .before .before .before .before .before .before .before .before in
     let n = returns c .count in
     let w = s .pre in

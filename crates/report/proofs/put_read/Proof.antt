@@ -1,65 +1,57 @@
+-- `report::put_read` meets its contract: the parts that are lent on have the lengths that the header tells. Assumes nothing.
 use borrow.Author.Needs.{needs}
 use Rattle.report.proofs.put_read.Statement.{statement}
 use Rattle.report.proofs.put_read.Tie as tie
-use Rattle.report.proofs.put_read.Reads as reads
-use Rattle.report.proofs.put_read.Lts as lts
-use Rattle.report.proofs.put_priced.Reads as put-priced-reads
+use mathlib.Core.Path.{_≡_, sym, _∙_, ap, subst}
+use mathlib.Core.List.{List}
+use Prim.Native.Nat.{ℕ, _*_, _≤_}
+use lib.ListN.{length, take}
+use lib.Seq.{length-take-le}
+use Rattle.writing.specs.Written.{written-as}
+use Rattle.report.specs.Pieces.{lentColumns}
+use Rattle.report.proofs.Laws.{zeros-long, priced-blank}
 
--- src/lib.rt:151:18
 mul-places : tie.Need-mul-places
 mul-places c = search needs
 
--- src/lib.rt:160:9
 slice-aggregate-put-priced : tie.Need-slice-aggregate-put-priced
-slice-aggregate-put-priced c = ?
+slice-aggregate-put-priced c = let s = c .before .before .before .before .before .before .before in sym (length-take-le (s .args .header .edges) (s .args .heads .now) (s .pre .heads))
 
--- src/lib.rt:161:9
 slice-aggregate-put-priced-2 : tie.Need-slice-aggregate-put-priced-2
-slice-aggregate-put-priced-2 c = ?
+slice-aggregate-put-priced-2 c = let s = c .before .before .before .before .before .before .before .before in sym (length-take-le (s .args .header .edges) (s .args .own .now) (s .pre .own))
 
--- src/lib.rt:162:9
 slice-aggregate-put-priced-3 : tie.Need-slice-aggregate-put-priced-3
-slice-aggregate-put-priced-3 c = ?
+slice-aggregate-put-priced-3 c = let s = c .before .before .before .before .before .before .before .before .before in sym (length-take-le (2 * s .args .header .edges) (s .args .spans .now) (s .pre .spans))
 
--- src/lib.rt:163:9
 slice-aggregate-put-priced-4 : tie.Need-slice-aggregate-put-priced-4
-slice-aggregate-put-priced-4 c = ?
+slice-aggregate-put-priced-4 c = let s = c .before .before .before .before .before .before .before .before .before .before in sym (length-take-le (s .args .header .listed) (s .args .tails .now) (s .pre .tails))
 
--- src/lib.rt:164:9
 array-borrow-prefix-weights : tie.Need-array-borrow-prefix-weights
 array-borrow-prefix-weights c = search needs
 
--- src/lib.rt:164:9
 slice-aggregate-put-priced-5 : tie.Need-slice-aggregate-put-priced-5
-slice-aggregate-put-priced-5 c = ?
+slice-aggregate-put-priced-5 c = let s = c .before .before .before .before .before .before .before .before .before .before .before in zeros-long (s .args .header .vertices) (s .pre .few)
 
--- src/lib.rt:165:9
 array-borrow-prefix-depths : tie.Need-array-borrow-prefix-depths
 array-borrow-prefix-depths c = search needs
 
--- src/lib.rt:165:9
 slice-aggregate-put-priced-6 : tie.Need-slice-aggregate-put-priced-6
-slice-aggregate-put-priced-6 c = ?
+slice-aggregate-put-priced-6 c = let s = c .before .before .before .before .before .before .before .before .before .before .before .before in zeros-long (s .args .header .vertices) (s .pre .few)
 
--- src/lib.rt:166:9
 array-borrow-prefix-edges : tie.Need-array-borrow-prefix-edges
 array-borrow-prefix-edges c = search needs
 
--- src/lib.rt:166:9
 slice-aggregate-put-priced-7 : tie.Need-slice-aggregate-put-priced-7
-slice-aggregate-put-priced-7 c = ?
+slice-aggregate-put-priced-7 c = let s = c .before .before .before .before .before .before .before .before .before .before .before .before .before in zeros-long (s .args .header .vertices) (s .pre .few)
 
--- src/lib.rt:156:5
 put-priced-requires : tie.Need-put-priced-requires
-put-priced-requires c κs = ?
+put-priced-requires c κs = let s = c .before .before .before .before .before .before .before .before .before .before .before .before .before in subst (λ (z : List ℕ). length z ≤ length (s .args .room .now)) (sym (priced-blank (s .args .header .measure) (lentColumns (s .args .header) (s .args .heads .now) (s .args .own .now) (s .args .spans .now) (s .args .tails .now)) (s .args .header .vertices) (s .pre .few))) (s .pre .fits)
 
--- src/lib.rt:136:1
 same-length : tie.Need-same-length
 same-length c = search needs
 
--- src/lib.rt:136:1
 returns : tie.Need-returns
-returns c = ?
+returns c = let p = c .before .before .before .before .before in let s = p .before .before .before .before .before .before .before .before .before .before .before .before .before .before in written-as _ _ _ (priced-blank (s .args .header .measure) (lentColumns (s .args .header) (s .args .heads .now) (s .args .own .now) (s .args .spans .now) (s .args .tails .now)) (s .args .header .vertices) (s .pre .few)) (p .put-priced .ensures)
 
 pub put-read-spec : {M : Type 1} → statement M
 put-read-spec =

@@ -13,14 +13,12 @@ use Rattle.report.proofs.Laws.{first-fits}
 use Rattle.report.specs.Report.{refusedWord, refusedLine}
 use Rattle.report.specs.Pieces.{refused-split}
 
-
 -- the line in the pieces in which it is written, and they have room
 split : (c : tie.After-place) → refusedLine (c .before .before .before .args .refusal) ≡ refusedWord ++ (tailText (c .before .number .result ∷ c .place .result ∷ []) ++ 10 ∷ [])
 split c = refused-split (c .before .before .before .args .refusal) ∙ ap₂ (λ (a b : ℕ). refusedWord ++ (tailText (a ∷ b ∷ []) ++ 10 ∷ [])) (sym (c .before .number .ensures)) (sym (c .place .ensures))
 
 whole : (c : tie.After-place) → length (refusedWord ++ (tailText (c .before .number .result ∷ c .place .result ∷ []) ++ 10 ∷ [])) ≤ length (c .before .before .before .args .room .now)
 whole c = let e = ap length (split c) in let p = c .before .before .before .pre in omega arith
-
 
 number-requires : tie.Need-number-requires
 number-requires c κs = search needs
@@ -54,14 +52,14 @@ put-tail-requires c κs = let k = c .before .before in let s = k .before .before
 
 returns : tie.Need-returns
 unfolding refusedWord
-returns c = 
+returns c =
     let p = c .before .before in
     let k = p .before .before .before in
     let s = k .before .before .before .before .before in
     written-as _ _ _ (sym (split s)) (written-part refusedWord _ _ _ (k .before .before .put-bytes .ensures) (tailText (s .before .number .result ∷ s .place .result ∷ []) ++ 10 ∷ []) _ _ (whole s) (p .put-tail .ensures))
 
 add-result : tie.Need-add-result
-add-result c = 
+add-result c =
     let s = c .before .before .before .before .before .before .before .before .before .before .before .before .before in
     let n = returns c .count in
     let w = s .pre in

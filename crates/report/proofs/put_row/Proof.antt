@@ -17,7 +17,6 @@ use Rattle.report.specs.Pieces.{row-split}
 whole : (c : tie.Start) → length ((digits (c .args .v .0) ++ (32 ∷ stateWord (c .args .entry .state))) ++ (tailText (c .args .entry .weight .0 ∷ c .args .entry .depth ∷ c .args .entry .edge .0 ∷ []) ++ 10 ∷ [])) ≤ length (c .args .room .now)
 whole c = let e = ap length (row-split (c .args .v .0) (c .args .entry)) in let p = c .pre in omega arith
 
-
 put-stem-requires : tie.Need-put-stem-requires
 put-stem-requires c κs = let s = c .before .before .before .before in first-fits ((digits (s .args .v .0) ++ (32 ∷ stateWord (s .args .entry .state)))) ((tailText (s .args .entry .weight .0 ∷ s .args .entry .depth ∷ s .args .entry .edge .0 ∷ []) ++ 10 ∷ [])) _ (whole s)
 
@@ -37,14 +36,14 @@ put-tail-requires : tie.Need-put-tail-requires
 put-tail-requires c κs = let k = c .before .before in let s = k .before .before .before .before .before .before .before in lent-room ((digits (s .args .v .0) ++ (32 ∷ stateWord (s .args .entry .state)))) _ _ _ (k .before .before .put-stem .ensures) ((tailText (s .args .entry .weight .0 ∷ s .args .entry .depth ∷ s .args .entry .edge .0 ∷ []) ++ 10 ∷ [])) (whole s)
 
 returns : tie.Need-returns
-returns c = 
+returns c =
     let p = c .before .before in
     let k = p .before .before .before in
     let s = k .before .before .before .before .before .before .before in
     written-as _ _ _ (sym (row-split (s .args .v .0) (s .args .entry))) (written-part ((digits (s .args .v .0) ++ (32 ∷ stateWord (s .args .entry .state)))) _ _ _ (k .before .before .put-stem .ensures) ((tailText (s .args .entry .weight .0 ∷ s .args .entry .depth ∷ s .args .entry .edge .0 ∷ []) ++ 10 ∷ [])) _ _ (whole s) (p .put-tail .ensures))
 
 add-result : tie.Need-add-result
-add-result c = 
+add-result c =
     let s = c .before .before .before .before .before .before .before .before .before .before .before .before in
     let n = returns c .count in
     let w = s .pre in

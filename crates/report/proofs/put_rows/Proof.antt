@@ -10,7 +10,6 @@ use Rattle.writing.specs.Written.{Written, written-none}
 use Rattle.report.specs.Report.{rows}
 use Rattle.report.proofs.Laws.{rows-within, row-starts, row-room, row-next, rows-all}
 
-
 abbrev Inv-loop : tie.InvT-loop
 Inv-loop room₀ weights depths edges at₀ i₀ room at i = (i ≤ length depths) × Written (rows (answers weights depths edges) i) room₀ at room
 
@@ -37,7 +36,7 @@ put-row-requires : tie.Need-put-row-requires Inv-loop μ-loop
 put-row-requires c κs = let e = c .before in let l = e .before in let s = l .before .before .before .before .before .before in row-room (answers (s .args .weights .now) (s .args .depths .now) (s .args .edges .now)) _ _ (l .before .loop .i) (length (s .args .depths .now)) (l .before .loop .at) (l .loop-test .taken) (l .before .loop .inv .1) (s .pre) (e .entry .result) (e .entry .ensures)
 
 loop-again : tie.Need-loop-again Inv-loop μ-loop
-loop-again c = 
+loop-again c =
     let p = c .before .before in
     let e = p .before .before in
     let l = e .before in
@@ -45,7 +44,7 @@ loop-again c =
     (omega arith, row-next (answers (s .args .weights .now) (s .args .depths .now) (s .args .edges .now)) _ _ (l .before .loop .i) (length (s .args .depths .now)) (l .before .loop .at) (l .loop-test .taken) (l .before .loop .inv .1) (s .pre) (e .entry .result) (e .entry .ensures) _ _ (p .put-row .ensures))
 
 add-at : tie.Need-add-at Inv-loop μ-loop
-add-at c = 
+add-at c =
     let l = c .before .before .before .before .before in
     let s = l .before .before .before .before .before .before in
     let w = loop-again c .1 .count in

@@ -10,7 +10,6 @@ use Rattle.weights.specs.declared.State.{State}
 use Rattle.writing.specs.Written.{written-as}
 use Rattle.report.specs.Report.{stateWord}
 
-
 -- what is to be written
 made : (c : tie.After-enum-told) → 32 ∷ stateWord (c .before .before .before .args .state) ≡ 32 ∷ 109 ∷ 97 ∷ 100 ∷ 101 ∷ []
 unfolding stateWord
@@ -23,8 +22,6 @@ over c = ap (λ (s : State). 32 ∷ stateWord s) (c .enum-told2 .given .1)
 unmade : (c : tie.After-enum-told3) → 32 ∷ stateWord (c .before .before .before .args .state) ≡ 32 ∷ 117 ∷ 110 ∷ 109 ∷ 97 ∷ 100 ∷ 101 ∷ []
 unfolding stateWord
 unmade c = ap (λ (s : State). 32 ∷ stateWord s) (c .enum-told3 .given .1)
-
-
 
 enum-told : tie.Need-enum-told
 enum-told c = search needs

@@ -16,7 +16,6 @@ use Rattle.report.specs.Report.{stateWord}
 whole : (c : tie.Start) → length (digits (c .args .v .0) ++ (32 ∷ stateWord (c .args .state))) ≤ length (c .args .room .now)
 whole c = c .pre
 
-
 put-number-requires : tie.Need-put-number-requires
 put-number-requires c κs = let s = c .before .before in first-fits (digits (s .args .v .0)) ((32 ∷ stateWord (s .args .state))) _ (whole s)
 
@@ -33,14 +32,14 @@ put-state-requires : tie.Need-put-state-requires
 put-state-requires c κs = let k = c .before in let s = k .before .before .before .before .before in lent-room (digits (s .args .v .0)) _ _ _ (k .before .before .put-number .ensures) ((32 ∷ stateWord (s .args .state))) (whole s)
 
 returns : tie.Need-returns
-returns c = 
+returns c =
     let p = c .before .before in
     let k = p .before .before in
     let s = k .before .before .before .before .before in
     written-part (digits (s .args .v .0)) _ _ _ (k .before .before .put-number .ensures) ((32 ∷ stateWord (s .args .state))) _ _ (whole s) (p .put-state .ensures)
 
 add-result : tie.Need-add-result
-add-result c = 
+add-result c =
     let s = c .before .before .before .before .before .before .before .before .before in
     let n = returns c .count in
     let w = s .pre in
