@@ -3,14 +3,34 @@
 use libc::STDIN_FILENO;
 use libc::STDOUT_FILENO;
 use report::MOST_OUTPUT;
+ghost use Rattle.io.specs.Counts.{Counts};
+
+// Reads until the buffer is full or the input ends, also after a short read, and returns how many
+// bytes came. After a read that failed none counts: the start of a table is not the table.
+fn read_input(buf: &mut [u8]) -> usize
+    ensures { λ r. ⌜ Counts r (now (buf .exit)) ⌝ }
+{
+    let mut at: usize = 0;
+    while at < buf.len() {
+        let got = libc::read(STDIN_FILENO, &mut buf[at..]);
+        if got < 0 {
+            return 0;
+        }
+        let more = io::count(got, &buf[at..]);
+        if more == 0 {
+            return at;
+        }
+        at += more;
+    }
+    at
+}
 
 fn main() {
-    // One byte more than an input may have, so a full buffer is an input too long. Reading goes on
-    // after a short read, until the buffer is full or the input ends; a read that fails ends it too.
+    // One byte more than an input may have: a full buffer is an input too long.
     let mut input = io::large_buffer();
-    let length = io::read_full(STDIN_FILENO, &mut input);
+    let length = read_input(&mut input);
     let mut room = [0u8; MOST_OUTPUT];
     let width = report::report(&input[..length], &mut room);
-    // A reader that has gone away wants no more.
+    // Where nobody reads the output any more, nothing is left to do.
     io::write_all(STDOUT_FILENO, &room[..width]);
 }

@@ -17,7 +17,7 @@ use Rattle.refusal.specs.declared.Answer.the-variants.{Accepted}
 use Rattle.refusal.specs.declared.Reading.{Reading}
 use Rattle.refusal.specs.declared.Reading.the-variants as reading
 use Rattle.refusal.specs.Refusals.{placeOf}
-use Rattle.provenance.specs.BestFirst.{blank}
+use Rattle.provenance.specs.BestFirst.{Answers, blank}
 use Rattle.provenance.specs.Existence.{Sized}
 use Rattle.columns.specs.Columns.{Columns, columns}
 use Rattle.columns.specs.Acceptance.{mostVertices, mostEdges, mostListed, acceptance, lentAcceptance}
@@ -38,6 +38,7 @@ use Rattle.roundtrip.specs.RoundTrip.{Room, headerFor, filledWith, held, read-a
 use Rattle.roundtrip.specs.Refused.{unpermitted-is-refused}
 use Rattle.report.specs.Report.{mostInput, mostOutput, list, refusedLine, priced, listedAs, listed, readInput, report}
 use Rattle.report.specs.Pieces.{Lent}
+use Rattle.report.specs.Closed.{answers-closed}
 use Rattle.report.specs.Bounds.{answers-ranged, list-most, refused-most, wrong-low}
 
 -- A table that was read ------------------------------------------------------------------------------------------------------------------------
@@ -138,11 +139,12 @@ module _ (m : Measure) (c : Columns) (a : acceptance c ≡ Accepted) where
       ∙ ap₂ (λ (x y : List ℕ). columns (z .vertices) (z .heads) (z .own) x y) (take-filled (z .spans) (zeros (2 * mostEdges)) (2 * length (z .heads)) (t .spans)) (take-filled (z .tails) (zeros mostListed) (length (z .tails)) refl)
 
   -- of an accepted table whose text is short enough: the list of its best-first answers
-  pub report-rendered : length (render m c) ≤ mostInput → report (render m c) ≡ list (answersOf m (closed c)) (c .vertices)
+  pub report-rendered : length (render m c) ≤ mostInput → report (render m c) ≡ list (answersOf m c) (c .vertices)
   report-rendered h =
       report-short (render m c) h
       ∙ read-listed (render m c) (headerFor m (closed c)) (ap (λ (x : ReadOutcome). x .answer) rendered)
       ∙ ap (λ (z : Columns). list (answersOf m z) (c .vertices)) columns-back
+      ∙ ap (λ (z : Answers). list z (c .vertices)) (answers-closed m c a)
 
 -- of a text that is not permitted: 14, at the first line that breaks a rule
 pub report-unpermitted : (input : List ℕ) → length input ≤ mostInput → (Permitted input → ⊥) → (k : ℕ) × (report input ≡ refusedLine (Text (record { 0 = k }))) × FirstWrong input k

@@ -1,4 +1,5 @@
 pub mod Report
 pub mod Pieces
 pub mod Bounds
+pub mod Closed
 pub mod Laws
