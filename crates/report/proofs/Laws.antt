@@ -1,6 +1,6 @@
 -- The laws by which rows are written one after the other, and by which the answers of the calls tell what is to be written. Assumes nothing.
 use mathlib.Core.Path.{_≡_, refl, sym, _∙_, ap, subst}
-use mathlib.Core.List.{List, [], _∷_, _++_}
+use mathlib.Core.List.{List, _∷_, _++_}
 use Prim.Native.Nat.{ℕ, zero, suc, _+_, _-_, _≤_, _<_}
 use native.Mathlib.Numerals.{add-one}
 use native.Mathlib.Omega.{arith}
@@ -26,10 +26,6 @@ use Rattle.writing.specs.Written.{Written, lent, lent-room, within, written-par
 use Rattle.report.specs.Report.{mostInput, mostOutput, row, rows, list, refusedLine, pricedAs, priced, listedAs, listed, readInput, report}
 use Rattle.report.specs.Pieces.{Lent, lentColumns}
 use Rattle.report.specs.Laws.{report-short, report-fits, input-lent}
-
--- the first of two pieces that fit
-pub first-fits : (a b : List ℕ) (room : ℕ) → length (a ++ b) ≤ room → length a ≤ room
-first-fits a b room h = let l = length-append a b in omega arith
 
 rows-next : (a : Answers) (i : ℕ) → rows a (i + 1) ≡ rows a i ++ row i (entryOf (labels a i))
 unfolding rows

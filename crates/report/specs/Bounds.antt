@@ -1,21 +1,19 @@
 -- How long the pieces of an output can be: a number by its digits, a row by the range of a table's answers, the line of a refusal by the range of its place.
 -- Assumes nothing.
 use Prim.Native.Nat.{ℕ, zero, suc, _+_, _*_, _/_, _≤_, _<_, max}
-use mathlib.Core.Path.{_≡_, refl, sym, _∙_, ap, subst}
+use mathlib.Core.Path.{_≡_, refl, sym, _∙_, subst}
 use mathlib.Core.List.{List, [], _∷_, _++_}
 use mathlib.Core.Bool.{Bool, true, false}
 use native.Mathlib.Omega.{arith}
 use native.Mathlib.Decide.{ℕ-discrete}
 use lib.ListN.{length, length-append}
-use lib.Dec.{ltb, eqb}
+use lib.Dec.{ltb}
 use borrow.Author.Tests.{ltb-true, ltb-false, ne-eqb}
 use Rattle.weights.specs.declared.Label.{Label}
 use Rattle.weights.specs.declared.Entry.{Entry}
 use Rattle.weights.specs.declared.Measure.{Measure}
 use Rattle.weights.specs.declared.Measure.the-variants.{Cost, Days}
 use Rattle.weights.specs.declared.State.{State}
-use Rattle.weights.specs.declared.State.the-variants.{Made, Over, Unmade}
-use Rattle.weights.specs.Choice.{pick}
 use Rattle.weights.specs.Figures.{over, isOver}
 use Rattle.weights.specs.Labels.{unmade, stateOf, entryOf}
 use Rattle.weights.specs.Measures.{days, algebra, fold, weigh}

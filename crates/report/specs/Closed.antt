@@ -12,8 +12,8 @@ use Rattle.weights.specs.Figures.{isStruck}
 use Rattle.weights.specs.Measures.{algebra}
 use Rattle.refusal.specs.declared.Answer.the-variants.{Accepted}
 use Rattle.provenance.specs.Hypergraph.{Hypergraph}
-use Rattle.provenance.specs.BestFirst.{Answers, best-first}
-use Rattle.columns.specs.Columns.{Columns, headAt, ownAt, offsetAt, lengthAt, part, tailAt, hypergraph}
+use Rattle.provenance.specs.BestFirst.{best-first}
+use Rattle.columns.specs.Columns.{Columns, headAt, ownAt, part, tailAt, hypergraph}
 use Rattle.columns.specs.Acceptance.{acceptance}
 use Rattle.columns.specs.Accepted.{AcceptedTable, table-accepted}
 use Rattle.settle.specs.Settling.{answersOf}

@@ -2,28 +2,24 @@
 -- list of its answers. The paper's "A table priced whole". Assumes nothing.
 use Prim.Native.Nat.{ℕ, _+_, _*_, _≤_, _<_}
 use mathlib.Core.Path.{_≡_, refl, sym, _∙_, ap, ap₂, subst}
-use mathlib.Core.List.{List, [], _∷_, _++_}
-use mathlib.Core.Bool.{Bool, true, false}
+use mathlib.Core.List.{List}
 use native.Mathlib.Omega.{arith}
 use lib.ListN.{length, take, replicate, length-replicate}
 use lib.Dec.{ltb}
 use borrow.Author.Tests.{lt-ltb, le-ltb}
 use Rattle.weights.specs.declared.Measure.{Measure}
-use Rattle.weights.specs.Choice.{pick}
-use Rattle.refusal.specs.declared.Refusal.{Refusal}
-use Rattle.refusal.specs.declared.Refusal.the-variants.{Text, TextRoom, InputLength}
+use Rattle.refusal.specs.declared.Refusal.the-variants.{Text, InputLength}
 use Rattle.refusal.specs.declared.Header.{Header}
 use Rattle.refusal.specs.declared.Answer.the-variants.{Accepted}
 use Rattle.refusal.specs.declared.Reading.{Reading}
 use Rattle.refusal.specs.declared.Reading.the-variants as reading
 use Rattle.refusal.specs.Refusals.{placeOf}
 use Rattle.provenance.specs.BestFirst.{Answers, blank}
-use Rattle.provenance.specs.Existence.{Sized}
 use Rattle.columns.specs.Columns.{Columns, columns}
-use Rattle.columns.specs.Acceptance.{mostVertices, mostEdges, mostListed, acceptance, lentAcceptance}
+use Rattle.columns.specs.Acceptance.{mostEdges, mostListed, acceptance, lentAcceptance}
 use Rattle.columns.specs.Accepted.{table-accepted, columns-accept}
 use Rattle.settle.specs.Settling.{answersOf, settled}
-use Rattle.settle.specs.Demands.{settled-result, settled-left}
+use Rattle.settle.specs.Demands.{settled-result}
 use Rattle.text.specs.Tables.{Table, headsOf, ownsOf, spansFrom, tailsOf, closed}
 use Rattle.text.specs.Render.{render, Permitted}
 use Rattle.text.specs.Machine.{Parse, Whole, Wrong, parse}
@@ -33,7 +29,7 @@ use Rattle.text.specs.Sound.{sound}
 use Rattle.text.specs.Permitted.{FirstWrong}
 use Rattle.text.specs.Filled.{filled, take-filled, length-filled}
 use Rattle.reading.specs.Lines.{headerOf}
-use Rattle.readtable.specs.Read.{ReadOutcome, readOutcome, columnsRead, roomFor, readInto, readTable}
+use Rattle.readtable.specs.Read.{ReadOutcome, columnsRead, roomFor, readInto}
 use Rattle.roundtrip.specs.RoundTrip.{Room, headerFor, filledWith, held, read-accepted, read-rendered}
 use Rattle.roundtrip.specs.Refused.{unpermitted-is-refused}
 use Rattle.report.specs.Report.{mostInput, mostOutput, list, refusedLine, priced, listedAs, listed, readInput, report}

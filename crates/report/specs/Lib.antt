@@ -3,3 +3,4 @@ pub mod Pieces
 pub mod Bounds
 pub mod Closed
 pub mod Laws
+pub mod Examples

@@ -1,6 +1,6 @@
 -- What the functions below `report` ask of their caller, and the pieces in which a row and the line of a refusal are written. Assumes nothing.
 use Prim.Native.Nat.{ℕ, _*_, _≤_}
-use mathlib.Core.Path.{_≡_, refl, sym, _∙_, ap}
+use mathlib.Core.Path.{_≡_, sym, _∙_, ap}
 use mathlib.Core.List.{List, [], _∷_, _++_, append-assoc, append-nil}
 use lib.ListN.{length, take}
 use Rattle.weights.specs.declared.Entry.{Entry}

@@ -1,14 +1,14 @@
 -- `listing::main` is safe and ends: what is read and what is written lie within their arrays. Assumes nothing.
-use borrow.Author.Needs.{needs}
-use Rattle.listing.proofs.main.Statement.{statement}
-use Rattle.listing.proofs.main.Tie as tie
 use mathlib.Core.Path.{_≡_, sym, ap}
 use mathlib.Core.List.{List}
 use Prim.Native.Nat.{ℕ, _≤_}
 use native.Mathlib.Omega.{arith}
+use borrow.Author.Needs.{needs}
 use lib.ListN.{length, drop, length-append}
 use lib.Seq.{length-take-le}
 use Rattle.text.specs.Filled.{filled}
+use Rattle.listing.proofs.main.Statement.{statement}
+use Rattle.listing.proofs.main.Tie as tie
 
 -- what was put at a room's start is within it
 within : (n : ℕ) (bytes old room : List ℕ) → n ≡ length bytes → room ≡ filled bytes old → n ≤ length room

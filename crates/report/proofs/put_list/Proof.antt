@@ -1,19 +1,21 @@
 -- `report::put_list` meets its contract: the names, and the rows in the room behind them. Assumes nothing.
+use mathlib.Core.List.{List, _++_}
+use Prim.Native.Nat.{ℕ, _≤_}
+use native.Mathlib.Omega.{arith}
 use borrow.Author.Needs.{needs}
+use lib.ListN.{length}
+use Rattle.columns.specs.Columns.{answers}
+use Rattle.writing.specs.Written.{lent-room, within, written-part, first-fits}
+use Rattle.report.specs.Report.{names, rows, list}
 use Rattle.report.proofs.put_list.Statement.{statement}
 use Rattle.report.proofs.put_list.Tie as tie
-use mathlib.Core.Path.{_≡_, sym, _∙_, ap}
-use mathlib.Core.List.{[], _∷_, _++_}
-use Prim.Native.Nat.{_≤_}
-use native.Mathlib.Omega.{arith}
-use lib.ListN.{length}
-use Rattle.writing.specs.Written.{Written, lent-room, within, written-part, written-as}
-use Rattle.report.proofs.Laws.{first-fits}
-use Rattle.columns.specs.Columns.{answers}
-use Rattle.report.specs.Report.{names, rows, list}
 
--- the two pieces have room
-whole : (c : tie.Start) → length (names ++ (rows (answers (c .args .weights .now) (c .args .depths .now) (c .args .edges .now)) (length (c .args .depths .now)))) ≤ length (c .args .room .now)
+-- the piece behind the names
+abbrev back : tie.Start → List ℕ
+back s = rows (answers (s .args .weights .now) (s .args .depths .now) (s .args .edges .now)) (length (s .args .depths .now))
+
+-- both have room
+whole : (c : tie.Start) → length (names ++ back c) ≤ length (c .args .room .now)
 unfolding list
 whole c = c .pre
 
@@ -22,11 +24,11 @@ slice-aggregate-put-bytes c = search needs
 
 put-bytes-requires : tie.Need-put-bytes-requires
 unfolding list names
-put-bytes-requires c κs = let s = c .before .before .before .before .before .before in first-fits (names) ((rows (answers (s .args .weights .now) (s .args .depths .now) (s .args .edges .now)) (length (s .args .depths .now)))) _ (whole s)
+put-bytes-requires c κs = let s = c .before .before .before .before .before .before in first-fits names (back s) (s .args .room .now) (whole s)
 
 sub-put-rows : tie.Need-sub-put-rows
 unfolding list names
-sub-put-rows c = let s = c .before .before .before .before .before .before .before .before .before in within (names) _ _ _ (c .before .before .put-bytes .ensures) ((rows (answers (s .args .weights .now) (s .args .depths .now) (s .args .edges .now)) (length (s .args .depths .now)))) (whole s)
+sub-put-rows c = let s = c .before .before .before .before .before .before .before .before .before in within names _ _ _ (c .before .before .put-bytes .ensures) (back s) (whole s)
 
 part-put-rows-start : tie.Need-part-put-rows-start
 part-put-rows-start c = let r = sub-put-rows c in search (needs, r)
@@ -36,7 +38,7 @@ part-put-rows-end c = search needs
 
 put-rows-requires : tie.Need-put-rows-requires
 unfolding list names
-put-rows-requires c κs = let k = c .before in let s = k .before .before .before .before .before .before .before .before .before in lent-room (names) _ _ _ (k .before .before .put-bytes .ensures) ((rows (answers (s .args .weights .now) (s .args .depths .now) (s .args .edges .now)) (length (s .args .depths .now)))) (whole s)
+put-rows-requires c κs = let k = c .before in let s = k .before .before .before .before .before .before .before .before .before in lent-room names _ _ _ (k .before .before .put-bytes .ensures) (back s) (whole s)
 
 returns : tie.Need-returns
 unfolding list names
@@ -44,7 +46,7 @@ returns c =
     let p = c .before .before in
     let k = p .before .before in
     let s = k .before .before .before .before .before .before .before .before .before in
-    written-part (names) _ _ _ (k .before .before .put-bytes .ensures) ((rows (answers (s .args .weights .now) (s .args .depths .now) (s .args .edges .now)) (length (s .args .depths .now)))) _ _ (whole s) (p .put-rows .ensures)
+    written-part names _ _ _ (k .before .before .put-bytes .ensures) (back s) _ _ (whole s) (p .put-rows .ensures)
 
 add-result : tie.Need-add-result
 add-result c =

@@ -1,16 +1,16 @@
 -- `report::put_priced` meets its contract, by what settling returned. Assumes nothing.
-use borrow.Author.Needs.{needs}
-use Rattle.report.proofs.put_priced.Statement.{statement}
-use Rattle.report.proofs.put_priced.Tie as tie
-use mathlib.Core.Path.{_≡_, sym, _∙_, subst}
+use mathlib.Core.Path.{_≡_, sym, subst}
 use mathlib.Core.List.{List}
 use Prim.Native.Nat.{ℕ, _≤_}
+use borrow.Author.Needs.{needs}
 use lib.ListN.{length}
 use Rattle.columns.specs.Columns.{columns, answers}
 use Rattle.settle.specs.Settling.{settled}
 use Rattle.writing.specs.Written.{written-as}
 use Rattle.report.specs.Report.{list, refusedLine, priced}
 use Rattle.report.proofs.Laws.{priced-refused, priced-accepted}
+use Rattle.report.proofs.put_priced.Statement.{statement}
+use Rattle.report.proofs.put_priced.Tie as tie
 
 -- what is to be written, where settling was refused and where it was accepted
 refused : (c : tie.After-answer) → let s = c .before .before .before .before .before .before .before .before .before .before .before .before .before .before .before .before .before .before .before .before in priced (s .args .n) (settled (s .args .measure) (columns (s .args .n) (s .args .heads .now) (s .args .own .now) (s .args .spans .now) (s .args .tails .now)) (answers (s .args .weights .now) (s .args .depths .now) (s .args .edges .now))) ≡ refusedLine (c .answer .given .0 .0)

@@ -1,15 +1,15 @@
 -- `report::put_read` meets its contract: the parts that are lent on have the lengths that the header tells. Assumes nothing.
-use borrow.Author.Needs.{needs}
-use Rattle.report.proofs.put_read.Statement.{statement}
-use Rattle.report.proofs.put_read.Tie as tie
-use mathlib.Core.Path.{_≡_, sym, _∙_, ap, subst}
+use mathlib.Core.Path.{sym, subst}
 use mathlib.Core.List.{List}
 use Prim.Native.Nat.{ℕ, _*_, _≤_}
-use lib.ListN.{length, take}
+use borrow.Author.Needs.{needs}
+use lib.ListN.{length}
 use lib.Seq.{length-take-le}
 use Rattle.writing.specs.Written.{written-as}
 use Rattle.report.specs.Pieces.{lentColumns}
 use Rattle.report.proofs.Laws.{zeros-long, priced-blank}
+use Rattle.report.proofs.put_read.Statement.{statement}
+use Rattle.report.proofs.put_read.Tie as tie
 
 mul-places : tie.Need-mul-places
 mul-places c = search needs

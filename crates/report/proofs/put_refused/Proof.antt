@@ -1,23 +1,26 @@
 -- `report::put_refused` meets its contract: the word, and the numbers in the room behind it. Assumes nothing.
-use borrow.Author.Needs.{needs}
-use Rattle.report.proofs.put_refused.Statement.{statement}
-use Rattle.report.proofs.put_refused.Tie as tie
 use mathlib.Core.Path.{_≡_, sym, _∙_, ap, ap₂}
-use mathlib.Core.List.{[], _∷_, _++_}
+use mathlib.Core.List.{List, [], _∷_, _++_}
 use Prim.Native.Nat.{ℕ, _≤_}
 use native.Mathlib.Omega.{arith}
+use borrow.Author.Needs.{needs}
 use lib.ListN.{length}
 use Rattle.text.specs.Render.{tailText}
-use Rattle.writing.specs.Written.{lent-room, within, written-part, written-as}
-use Rattle.report.proofs.Laws.{first-fits}
+use Rattle.writing.specs.Written.{lent-room, within, written-part, written-as, first-fits}
 use Rattle.report.specs.Report.{refusedWord, refusedLine}
 use Rattle.report.specs.Pieces.{refused-split}
+use Rattle.report.proofs.put_refused.Statement.{statement}
+use Rattle.report.proofs.put_refused.Tie as tie
 
--- the line in the pieces in which it is written, and they have room
-split : (c : tie.After-place) → refusedLine (c .before .before .before .args .refusal) ≡ refusedWord ++ (tailText (c .before .number .result ∷ c .place .result ∷ []) ++ 10 ∷ [])
+-- the piece behind the word
+abbrev back : tie.After-place → List ℕ
+back s = tailText (s .before .number .result ∷ s .place .result ∷ []) ++ 10 ∷ []
+
+-- the line in both pieces, and they have room
+split : (c : tie.After-place) → refusedLine (c .before .before .before .args .refusal) ≡ refusedWord ++ back c
 split c = refused-split (c .before .before .before .args .refusal) ∙ ap₂ (λ (a b : ℕ). refusedWord ++ (tailText (a ∷ b ∷ []) ++ 10 ∷ [])) (sym (c .before .number .ensures)) (sym (c .place .ensures))
 
-whole : (c : tie.After-place) → length (refusedWord ++ (tailText (c .before .number .result ∷ c .place .result ∷ []) ++ 10 ∷ [])) ≤ length (c .before .before .before .args .room .now)
+whole : (c : tie.After-place) → length (refusedWord ++ back c) ≤ length (c .before .before .before .args .room .now)
 whole c = let e = ap length (split c) in let p = c .before .before .before .pre in omega arith
 
 number-requires : tie.Need-number-requires
@@ -31,11 +34,11 @@ slice-aggregate-put-bytes c = search needs
 
 put-bytes-requires : tie.Need-put-bytes-requires
 unfolding refusedWord
-put-bytes-requires c κs = let s = c .before .before in first-fits refusedWord (tailText (s .before .number .result ∷ s .place .result ∷ []) ++ 10 ∷ []) _ (whole s)
+put-bytes-requires c κs = let s = c .before .before in first-fits refusedWord (back s) (s .before .before .before .args .room .now) (whole s)
 
 sub-put-tail : tie.Need-sub-put-tail
 unfolding refusedWord
-sub-put-tail c = let s = c .before .before .before .before .before in within refusedWord _ _ _ (c .before .before .put-bytes .ensures) (tailText (s .before .number .result ∷ s .place .result ∷ []) ++ 10 ∷ []) (whole s)
+sub-put-tail c = let s = c .before .before .before .before .before in within refusedWord _ _ _ (c .before .before .put-bytes .ensures) (back s) (whole s)
 
 part-put-tail-start : tie.Need-part-put-tail-start
 part-put-tail-start c = let r = sub-put-tail c in search (needs, r)
@@ -48,7 +51,7 @@ slice-aggregate-put-tail c = search needs
 
 put-tail-requires : tie.Need-put-tail-requires
 unfolding refusedWord
-put-tail-requires c κs = let k = c .before .before in let s = k .before .before .before .before .before in lent-room refusedWord _ _ _ (k .before .before .put-bytes .ensures) (tailText (s .before .number .result ∷ s .place .result ∷ []) ++ 10 ∷ []) (whole s)
+put-tail-requires c κs = let k = c .before .before in let s = k .before .before .before .before .before in lent-room refusedWord _ _ _ (k .before .before .put-bytes .ensures) (back s) (whole s)
 
 returns : tie.Need-returns
 unfolding refusedWord
@@ -56,7 +59,7 @@ returns c =
     let p = c .before .before in
     let k = p .before .before .before in
     let s = k .before .before .before .before .before in
-    written-as _ _ _ (sym (split s)) (written-part refusedWord _ _ _ (k .before .before .put-bytes .ensures) (tailText (s .before .number .result ∷ s .place .result ∷ []) ++ 10 ∷ []) _ _ (whole s) (p .put-tail .ensures))
+    written-as _ _ _ (sym (split s)) (written-part refusedWord _ _ _ (k .before .before .put-bytes .ensures) (back s) _ _ (whole s) (p .put-tail .ensures))
 
 add-result : tie.Need-add-result
 add-result c =

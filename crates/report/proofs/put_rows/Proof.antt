@@ -1,6 +1,4 @@
 -- `report::put_rows` meets its contract. The invariant: the rows of the parts so far are written. Assumes nothing.
-use Rattle.report.proofs.put_rows.Statement.{statement}
-use Rattle.report.proofs.put_rows.Tie as tie
 use Prim.Native.Nat.{_+_, _-_, _≤_}
 use native.Mathlib.Omega.{arith}
 use borrow.Author.Needs.{needs}
@@ -9,6 +7,8 @@ use Rattle.columns.specs.Columns.{answers}
 use Rattle.writing.specs.Written.{Written, written-none}
 use Rattle.report.specs.Report.{rows}
 use Rattle.report.proofs.Laws.{rows-within, row-starts, row-room, row-next, rows-all}
+use Rattle.report.proofs.put_rows.Statement.{statement}
+use Rattle.report.proofs.put_rows.Tie as tie
 
 abbrev Inv-loop : tie.InvT-loop
 Inv-loop room₀ weights depths edges at₀ i₀ room at i = (i ≤ length depths) × Written (rows (answers weights depths edges) i) room₀ at room

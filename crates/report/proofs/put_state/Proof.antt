@@ -1,14 +1,14 @@
 -- `report::put_state` meets its contract, state by state. Assumes nothing.
-use borrow.Author.Needs.{needs}
-use Rattle.report.proofs.put_state.Statement.{statement}
-use Rattle.report.proofs.put_state.Tie as tie
 use mathlib.Core.Path.{_≡_, sym, ap}
 use mathlib.Core.List.{[], _∷_}
 use native.Mathlib.Omega.{arith}
+use borrow.Author.Needs.{needs}
 use lib.ListN.{length}
 use Rattle.weights.specs.declared.State.{State}
 use Rattle.writing.specs.Written.{written-as}
 use Rattle.report.specs.Report.{stateWord}
+use Rattle.report.proofs.put_state.Statement.{statement}
+use Rattle.report.proofs.put_state.Tie as tie
 
 -- what is to be written
 made : (c : tie.After-enum-told) → 32 ∷ stateWord (c .before .before .before .args .state) ≡ 32 ∷ 109 ∷ 97 ∷ 100 ∷ 101 ∷ []

@@ -1,26 +1,31 @@
 -- `report::put_stem` meets its contract: the part, and the state in the room behind it. Assumes nothing.
+use mathlib.Core.List.{List, _∷_, _++_}
+use Prim.Native.Nat.{ℕ, _≤_}
+use native.Mathlib.Omega.{arith}
 use borrow.Author.Needs.{needs}
+use lib.ListN.{length}
+use Rattle.text.specs.Render.{digits}
+use Rattle.writing.specs.Written.{lent-room, within, written-part, first-fits}
+use Rattle.report.specs.Report.{stateWord}
 use Rattle.report.proofs.put_stem.Statement.{statement}
 use Rattle.report.proofs.put_stem.Tie as tie
-use mathlib.Core.Path.{_≡_, sym, _∙_, ap}
-use mathlib.Core.List.{[], _∷_, _++_}
-use Prim.Native.Nat.{_≤_}
-use native.Mathlib.Omega.{arith}
-use lib.ListN.{length}
-use Rattle.writing.specs.Written.{Written, lent-room, within, written-part, written-as}
-use Rattle.report.proofs.Laws.{first-fits}
-use Rattle.text.specs.Render.{digits}
-use Rattle.report.specs.Report.{stateWord}
 
--- the two pieces have room
-whole : (c : tie.Start) → length (digits (c .args .v .0) ++ (32 ∷ stateWord (c .args .state))) ≤ length (c .args .room .now)
+-- the two pieces
+abbrev front : tie.Start → List ℕ
+front s = digits (s .args .v .0)
+
+abbrev back : tie.Start → List ℕ
+back s = 32 ∷ stateWord (s .args .state)
+
+-- both have room
+whole : (c : tie.Start) → length (front c ++ back c) ≤ length (c .args .room .now)
 whole c = c .pre
 
 put-number-requires : tie.Need-put-number-requires
-put-number-requires c κs = let s = c .before .before in first-fits (digits (s .args .v .0)) ((32 ∷ stateWord (s .args .state))) _ (whole s)
+put-number-requires c κs = let s = c .before .before in first-fits (front s) (back s) (s .args .room .now) (whole s)
 
 sub-put-state : tie.Need-sub-put-state
-sub-put-state c = let s = c .before .before .before .before .before in within (digits (s .args .v .0)) _ _ _ (c .before .before .put-number .ensures) ((32 ∷ stateWord (s .args .state))) (whole s)
+sub-put-state c = let s = c .before .before .before .before .before in within (front s) _ _ _ (c .before .before .put-number .ensures) (back s) (whole s)
 
 part-put-state-start : tie.Need-part-put-state-start
 part-put-state-start c = let r = sub-put-state c in search (needs, r)
@@ -29,14 +34,14 @@ part-put-state-end : tie.Need-part-put-state-end
 part-put-state-end c = search needs
 
 put-state-requires : tie.Need-put-state-requires
-put-state-requires c κs = let k = c .before in let s = k .before .before .before .before .before in lent-room (digits (s .args .v .0)) _ _ _ (k .before .before .put-number .ensures) ((32 ∷ stateWord (s .args .state))) (whole s)
+put-state-requires c κs = let k = c .before in let s = k .before .before .before .before .before in lent-room (front s) _ _ _ (k .before .before .put-number .ensures) (back s) (whole s)
 
 returns : tie.Need-returns
 returns c =
     let p = c .before .before in
     let k = p .before .before in
     let s = k .before .before .before .before .before in
-    written-part (digits (s .args .v .0)) _ _ _ (k .before .before .put-number .ensures) ((32 ∷ stateWord (s .args .state))) _ _ (whole s) (p .put-state .ensures)
+    written-part (front s) _ _ _ (k .before .before .put-number .ensures) (back s) _ _ (whole s) (p .put-state .ensures)
 
 add-result : tie.Need-add-result
 add-result c =

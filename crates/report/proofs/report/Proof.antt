@@ -1,18 +1,15 @@
 -- `report::report` meets its contract, by the length of the input and by what reading it returned. Assumes nothing.
-use borrow.Author.Needs.{needs}
-use Rattle.report.proofs.report.Statement.{statement}
-use Rattle.report.proofs.report.Tie as tie
 use mathlib.Core.Path.{_≡_}
-use Prim.Native.Nat.{_≤_}
-use native.Mathlib.Omega.{arith}
-use lib.ListN.{length}
+use borrow.Author.Needs.{needs}
 use Rattle.refusal.specs.declared.Refusal.the-variants.{InputLength}
 use Rattle.provenance.specs.BestFirst.{blank}
 use Rattle.settle.specs.Settling.{settled}
-use Rattle.report.specs.Report.{mostOutput, refusedLine, priced, readInput, report}
+use Rattle.report.specs.Report.{refusedLine, priced, readInput, report}
 use Rattle.report.specs.Pieces.{lentColumns}
 use Rattle.report.specs.Laws.{report-long}
 use Rattle.report.proofs.Laws.{reported, report-refused, report-table, table-lent, report-within}
+use Rattle.report.proofs.report.Statement.{statement}
+use Rattle.report.proofs.report.Tie as tie
 
 -- what is to be written: for an input too long, for a text that is refused, and for one that holds a table
 long : (c : tie.Then1) → report (c .before .before .args .input .now) ≡ refusedLine InputLength
