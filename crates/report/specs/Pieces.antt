@@ -2,21 +2,23 @@
 use Prim.Native.Nat.{ℕ, _*_, _≤_}
 use mathlib.Core.Path.{_≡_, sym, _∙_, ap}
 use mathlib.Core.List.{List, [], _∷_, _++_, append-assoc, append-nil}
-use lib.ListN.{length, take}
+use lib.ListN.{length}
 use Rattle.weights.specs.declared.Entry.{Entry}
 use Rattle.refusal.specs.declared.Refusal.{Refusal}
 use Rattle.refusal.specs.declared.Header.{Header}
+use Rattle.refusal.specs.declared.Reading.the-variants as reading
 use Rattle.refusal.specs.Refusals.{numberOf, placeOf}
 use Rattle.provenance.specs.BestFirst.{blank}
-use Rattle.columns.specs.Columns.{Columns, columns}
+use Rattle.columns.specs.Columns.{Columns}
 use Rattle.columns.specs.Acceptance.{mostVertices}
 use Rattle.settle.specs.Settling.{settled}
 use Rattle.text.specs.Render.{digits, tailText}
+use Rattle.readtable.specs.Read.{readOutcome, columnsRead}
 use Rattle.report.specs.Report.{stateWord, row, refusedWord, refusedLine, priced}
 
 -- the table that a header tells of, at the start of four columns
 abbrev pub lentColumns : Header → (heads own spans tails : List ℕ) → Columns
-lentColumns g h o s t = columns (g .vertices) (take (g .edges) h) (take (g .edges) o) (take (2 * g .edges) s) (take (g .listed) t)
+lentColumns g h o s t = columnsRead g (readOutcome (reading.Table g) h o s t)
 
 -- the columns are so long, and the room holds the output
 pub record Lent (g : Header) (h o s t : List ℕ) (room : ℕ) : Type 0 where
