@@ -5,13 +5,14 @@ use Prim.Native.Nat.{ℕ, _+_, _*_, _≤_}
 use mathlib.Core.Path.{_≡_}
 use mathlib.Core.Bool.{Bool, true, false}
 use mathlib.Core.List.{List, []}
-use lib.ListN.{length}
+use lib.ListN.{length, take}
 use lib.Dec.{leb}
 use Rattle.weights.specs.Choice.{pick}
 use Rattle.refusal.specs.declared.Refusal.the-variants.{TextRoom}
 use Rattle.refusal.specs.declared.Header.{Header}
 use Rattle.refusal.specs.declared.Reading.{Reading}
 use Rattle.refusal.specs.declared.Reading.the-variants as reading
+use Rattle.columns.specs.Columns.{Columns, columns}
 use Rattle.text.specs.Tables.{Edge, Table, total, headsOf, ownsOf, spansFrom, tailsOf}
 use Rattle.text.specs.Machine.{Parse, Whole, Wrong, parse}
 use Rattle.text.specs.Filled.{filled}
@@ -27,6 +28,10 @@ pub record ReadOutcome : Type 0 where
 
 abbrev pub readOutcome : Reading → (heads own spans tails : List ℕ) → ReadOutcome
 readOutcome r h o s t = record { answer = r; heads = h; own = o; spans = s; tails = t }
+
+-- the columns that a reading gave back: as many places of each as it said
+abbrev pub columnsRead : Header → ReadOutcome → Columns
+columnsRead g r = columns (g .vertices) (take (g .edges) (r .heads)) (take (g .edges) (r .own)) (take (2 * g .edges) (r .spans)) (take (g .listed) (r .tails))
 
 -- columns of these lengths have room for the table
 unfoldable pub roomFor : Header → (heads own spans tails : ℕ) → Bool

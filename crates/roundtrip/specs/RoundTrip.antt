@@ -28,7 +28,7 @@ use Rattle.text.specs.Sound.{sound}
 use Rattle.text.specs.Complete.{complete}
 use Rattle.text.specs.Filled.{filled, take-filled}
 use Rattle.reading.specs.Lines.{headerOf}
-use Rattle.readtable.specs.Read.{ReadOutcome, readOutcome, roomFor, readInto, readTable}
+use Rattle.readtable.specs.Read.{ReadOutcome, readOutcome, columnsRead, roomFor, readInto, readTable}
 use Rattle.writetable.specs.Write.{WriteOutcome, writeOutcome, writeText, writeAs, writeTable}
 
 -- four columns have room for those of a table
@@ -111,18 +111,14 @@ read-after-write m c room k h o s t e r =
 
 -- Write after read ----------------------------------------------------------------------------------------------------------------------------
 
--- the columns that a reading gave back: as many places of each as it said
-abbrev pub columnsRead : Header → ReadOutcome → Columns
-columnsRead g r = columns (g .vertices) (take (g .edges) (r .heads)) (take (g .edges) (r .own)) (take (2 * g .edges) (r .spans)) (take (g .listed) (r .tails))
-
 -- a text that was read holds a table, and those are its columns
-record Held (text h o s t : List ℕ) (g : Header) : Type 0 where
-  table : Table
-  whole : parse text ≡ Whole table
-  header-of : g ≡ headerOf table
-  outcome : readTable text h o s t ≡ readOutcome (reading.Table (headerOf table)) (filled (headsOf (table .edges)) h) (filled (ownsOf (table .edges)) o) (filled (spansFrom 0 (table .edges)) s) (filled (tailsOf (table .edges)) t)
+pub record Held (text h o s t : List ℕ) (g : Header) : Type 0 where
+  pub table : Table
+  pub whole : parse text ≡ Whole table
+  pub header-of : g ≡ headerOf table
+  pub outcome : readTable text h o s t ≡ readOutcome (reading.Table (headerOf table)) (filled (headsOf (table .edges)) h) (filled (ownsOf (table .edges)) o) (filled (spansFrom 0 (table .edges)) s) (filled (tailsOf (table .edges)) t)
 
-held : (text h o s t : List ℕ) (g : Header) → readTable text h o s t .answer ≡ reading.Table g → Held text h o s t g
+pub held : (text h o s t : List ℕ) (g : Header) → readTable text h o s t .answer ≡ reading.Table g → Held text h o s t g
 unfolding readInto
 held text h o s t g e = go (parse text) refl e
   where
@@ -140,7 +136,7 @@ module _ (text h o s t : List ℕ) (g : Header) (k : Held text h o s t g) where
   abbrev es : List Edge
   es = k .table .edges
 
-  columns-are : columnsRead g (readTable text h o s t) ≡ columnsOf (k .table .vertices) es
+  pub columns-are : columnsRead g (readTable text h o s t) ≡ columnsOf (k .table .vertices) es
   columns-are =
       ap₂ columnsRead (k .header-of) (k .outcome)
       ∙ ap₂ (λ (a b : List ℕ). columns (k .table .vertices) a b (take (2 * length es) (filled (spansFrom 0 es) s)) (take (total es) (filled (tailsOf es) t))) (take-filled (headsOf es) h (length es) (length-heads es)) (take-filled (ownsOf es) o (length es) (length-owns es))

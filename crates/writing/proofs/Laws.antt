@@ -127,7 +127,3 @@ tail-ends vs old room j n h w l =
     let a = listed-within vs j in
     let c = w .count in
     written-as old (n + 1) (set room n 10) (ap (λ (z : List ℕ). tailText z ++ 10 ∷ []) (take-all j vs h)) (written-byte (tailText (take j vs)) old n room w 10 (omega arith))
-
--- the first of two pieces that fit
-pub first-fits : (a b old : List ℕ) → length (a ++ b) ≤ length old → length a ≤ length old
-first-fits a b old h = let l = length-append a b in omega arith

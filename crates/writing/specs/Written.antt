@@ -60,6 +60,10 @@ module _ (bytes old : List ℕ) (n : ℕ) (room : List ℕ) (w : Written bytes o
 pub written-as : {bytes bytes′ : List ℕ} (old : List ℕ) (n : ℕ) (room : List ℕ) → bytes ≡ bytes′ → Written bytes old n room → Written bytes′ old n room
 written-as old n room e w = record { count = w .count ∙ ap length e; room-is = w .room-is ∙ ap (λ (z : List ℕ). filled z old) e; long = w .long }
 
+-- the first of two pieces that fit
+pub first-fits : (a b old : List ℕ) → length (a ++ b) ≤ length old → length a ≤ length old
+first-fits a b old h = let l = length-append a b in omega arith
+
 -- what keeps the widths from wrapping: an own figure, and a list, of an accepted table
 abbrev pub OwnFits : ℕ → Type 0
 OwnFits o = o ≤ struck

@@ -133,7 +133,8 @@ pub fn put_edge(room: &mut [u8], head: Vertex, own: Weight, tail: &[u64]) -> usi
     at + width
 }
 
-fn put_bytes(room: &mut [u8], bytes: &[u8]) -> usize
+// Bytes as they are.
+pub fn put_bytes(room: &mut [u8], bytes: &[u8]) -> usize
     requires { ⌜ length (now bytes) ≤ length (now room) ⌝ }
     ensures { λ r. ⌜ Written (now (bytes .entry)) (now (room .entry)) r (now (room .exit)) ⌝ }
 {

@@ -1,0 +1,85 @@
+-- `report::put_priced` meets its contract, by what settling returned. Assumes nothing.
+use mathlib.Core.Path.{_≡_, sym, subst}
+use mathlib.Core.List.{List}
+use Prim.Native.Nat.{ℕ, _≤_}
+use borrow.Author.Needs.{needs}
+use lib.ListN.{length}
+use Rattle.columns.specs.Columns.{columns, answers}
+use Rattle.settle.specs.Settling.{settled}
+use Rattle.writing.specs.Written.{written-as}
+use Rattle.report.specs.Report.{list, refusedLine, priced}
+use Rattle.report.proofs.Laws.{priced-refused, priced-accepted}
+use Rattle.report.proofs.put_priced.Statement.{statement}
+use Rattle.report.proofs.put_priced.Tie as tie
+
+-- what is to be written, where settling was refused and where it was accepted
+refused : (c : tie.After-answer) → let s = c .before .before .before .before .before .before .before .before .before .before .before .before .before .before .before .before .before .before .before .before in priced (s .args .n) (settled (s .args .measure) (columns (s .args .n) (s .args .heads .now) (s .args .own .now) (s .args .spans .now) (s .args .tails .now)) (answers (s .args .weights .now) (s .args .depths .now) (s .args .edges .now))) ≡ refusedLine (c .answer .given .0 .0)
+refused c = priced-refused _ _ _ _ _ (c .before .before .before .before .before .before .before .before .settle .ensures) _ (c .answer .given .1)
+
+accepted : (c : tie.After-enum-told) → let s = c .before .before .before .before .before .before .before .before .before .before .before .before .before .before .before .before .before .before .before .before in let k = c .before .before .before .before .before .before .before .before .settle in priced (s .args .n) (settled (s .args .measure) (columns (s .args .n) (s .args .heads .now) (s .args .own .now) (s .args .spans .now) (s .args .tails .now)) (answers (s .args .weights .now) (s .args .depths .now) (s .args .edges .now))) ≡ list (answers (k .last .1 .1 .1 .1 .1 .1 .0) (k .last .1 .1 .1 .1 .1 .1 .1 .0) (k .last .1 .1 .1 .1 .1 .1 .1 .1 .0)) (length (k .last .1 .1 .1 .1 .1 .1 .1 .0))
+accepted c = priced-accepted _ _ _ _ _ (c .before .before .before .before .before .before .before .before .settle .ensures) (c .enum-told .given .1)
+
+settle-requires : tie.Need-settle-requires
+settle-requires c κs = search needs
+
+enum-known-answer : tie.Need-enum-known-answer
+enum-known-answer c = search needs
+
+put-refused-requires : tie.Need-put-refused-requires
+put-refused-requires c κs = let a = c .before .before in subst (λ (z : List ℕ). length z ≤ length (a .before .before .before .before .before .before .before .before .before .before .before .before .before .before .before .before .before .before .before .before .args .room .now)) (refused a) (a .before .before .before .before .before .before .before .before .before .before .before .before .before .before .before .before .before .before .before .before .pre)
+
+same-length : tie.Need-same-length
+same-length c = search needs
+
+same-length-2 : tie.Need-same-length-2
+same-length-2 c = search needs
+
+same-length-3 : tie.Need-same-length-3
+same-length-3 c = search needs
+
+same-length-4 : tie.Need-same-length-4
+same-length-4 c = search needs
+
+returns : tie.Need-returns
+returns c = let p = c .before .before in written-as _ _ _ (sym (refused (p .before .before .before))) (p .put-refused .ensures)
+
+enum-told : tie.Need-enum-told
+enum-told c = search needs
+
+put-list-requires : tie.Need-put-list-requires
+put-list-requires c κs = let a = c .before .before .before .before in subst (λ (z : List ℕ). length z ≤ length (a .before .before .before .before .before .before .before .before .before .before .before .before .before .before .before .before .before .before .before .before .args .room .now)) (accepted a) (a .before .before .before .before .before .before .before .before .before .before .before .before .before .before .before .before .before .before .before .before .pre)
+
+same-length-5 : tie.Need-same-length-5
+same-length-5 c = search needs
+
+same-length-6 : tie.Need-same-length-6
+same-length-6 c = search needs
+
+same-length-7 : tie.Need-same-length-7
+same-length-7 c = search needs
+
+same-length-8 : tie.Need-same-length-8
+same-length-8 c = search needs
+
+returns-2 : tie.Need-returns-2
+returns-2 c = let p = c .before .before in written-as _ _ _ (sym (accepted (p .before .before .before .before .before))) (p .put-list .ensures)
+
+pub put-priced-spec : {M : Type 1} → statement M
+put-priced-spec =
+    tie.close
+    (tie.spec
+    settle-requires
+    enum-known-answer
+    put-refused-requires
+    same-length
+    same-length-2
+    same-length-3
+    same-length-4
+    returns
+    enum-told
+    put-list-requires
+    same-length-5
+    same-length-6
+    same-length-7
+    same-length-8
+    returns-2)

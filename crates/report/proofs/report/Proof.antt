@@ -1,0 +1,105 @@
+-- `report::report` meets its contract, by the length of the input and by what reading it returned. Assumes nothing.
+use mathlib.Core.Path.{_≡_}
+use Prim.Native.Nat.{_≤_}
+use native.Mathlib.Omega.{arith}
+use borrow.Author.Needs.{needs}
+use lib.ListN.{length}
+use Rattle.refusal.specs.declared.Refusal.the-variants.{InputLength}
+use Rattle.provenance.specs.BestFirst.{blank}
+use Rattle.settle.specs.Settling.{settled}
+use Rattle.report.specs.Report.{mostInput, refusedLine, priced, readInput, report}
+use Rattle.report.specs.Pieces.{lentColumns}
+use Rattle.report.specs.Laws.{report-long}
+use Rattle.report.proofs.Laws.{reported, report-refused, report-table, table-lent, report-within}
+use Rattle.report.proofs.report.Statement.{statement}
+use Rattle.report.proofs.report.Tie as tie
+
+-- an input that is not too long
+short : (c : tie.Else1) → length (c .before .before .args .input .now) ≤ mostInput
+short c = let h = c .if1 .left in omega arith
+
+-- what is to be written: for an input too long, for a text that is refused, and for one that holds a table
+long : (c : tie.Then1) → report (c .before .before .args .input .now) ≡ refusedLine InputLength
+long c = report-long (c .before .before .args .input .now) (let h = c .if1 .taken in omega arith)
+
+wrong : (c : tie.After-reading) → report (c .before .before .before .before .before .before .before .before .before .before .before .before .before .args .input .now) ≡ refusedLine (c .reading .given .0 .0)
+unfolding readInput
+wrong c = report-refused _ (short (c .before .before .before .before .before .before .before .before .before .before .before)) _ _ _ _ _ (c .before .before .before .before .before .before .read-table .ensures) _ (c .reading .given .1)
+
+whole : (c : tie.After-reading2) → let g = c .reading2 .given .0 .0 in let l = c .before .before .before .before .before .before .read-table .last in report (c .before .before .before .before .before .before .before .before .before .before .before .before .before .args .input .now) ≡ priced (g .vertices) (settled (g .measure) (lentColumns g (l .1 .0) (l .1 .1 .0) (l .1 .1 .1 .0) (l .1 .1 .1 .1 .0)) (blank (g .vertices)))
+unfolding readInput
+whole c = report-table _ (short (c .before .before .before .before .before .before .before .before .before .before .before)) _ _ _ _ _ (c .before .before .before .before .before .before .read-table .ensures) _ (c .reading2 .given .1)
+
+put-refused-requires : tie.Need-put-refused-requires
+put-refused-requires c κs = let k = c .before in report-within _ _ _ (c .put-refused-arg .given .0 .1) (long k)
+
+returns : tie.Need-returns
+returns c = reported _ _ _ _ _ (long (c .before .before)) (c .put-refused .ensures)
+
+slice-aggregate-read-table : tie.Need-slice-aggregate-read-table
+slice-aggregate-read-table c = search needs
+
+slice-aggregate-read-table-2 : tie.Need-slice-aggregate-read-table-2
+slice-aggregate-read-table-2 c = search needs
+
+slice-aggregate-read-table-3 : tie.Need-slice-aggregate-read-table-3
+slice-aggregate-read-table-3 c = search needs
+
+slice-aggregate-read-table-4 : tie.Need-slice-aggregate-read-table-4
+slice-aggregate-read-table-4 c = search needs
+
+read-table-requires : tie.Need-read-table-requires
+read-table-requires c κs = search needs
+
+enum-known-reading : tie.Need-enum-known-reading
+enum-known-reading c = search needs
+
+put-refused-requires-2 : tie.Need-put-refused-requires-2
+put-refused-requires-2 c κs = let k = c .before .before in report-within _ _ _ (c .put-refused-arg2 .given .0 .1) (wrong k)
+
+returns-2 : tie.Need-returns-2
+returns-2 c = reported _ _ _ _ _ (wrong (c .before .before .before)) (c .put-refused2 .ensures)
+
+enum-known-reading-2 : tie.Need-enum-known-reading-2
+enum-known-reading-2 c = search needs
+
+slice-aggregate-put-read : tie.Need-slice-aggregate-put-read
+slice-aggregate-put-read c = search needs
+
+slice-aggregate-put-read-2 : tie.Need-slice-aggregate-put-read-2
+slice-aggregate-put-read-2 c = search needs
+
+slice-aggregate-put-read-3 : tie.Need-slice-aggregate-put-read-3
+slice-aggregate-put-read-3 c = search needs
+
+slice-aggregate-put-read-4 : tie.Need-slice-aggregate-put-read-4
+slice-aggregate-put-read-4 c = search needs
+
+put-read-requires : tie.Need-put-read-requires
+unfolding readInput
+put-read-requires c κs = let k = c .before .before .before .before .before .before in table-lent _ (short (k .before .before .before .before .before .before .before .before .before .before .before)) _ _ _ _ _ (k .before .before .before .before .before .before .read-table .ensures) _ _ (c .before .before .before .before .put-read-arg .given .0 .1) (k .reading2 .given .1)
+
+returns-3 : tie.Need-returns-3
+returns-3 c = reported _ _ _ _ _ (whole (c .before .before .before .before .before .before .before)) (c .put-read .ensures)
+
+pub report-spec : {M : Type 1} → statement M
+report-spec =
+    tie.close
+    (tie.spec
+    put-refused-requires
+    returns
+    slice-aggregate-read-table
+    slice-aggregate-read-table-2
+    slice-aggregate-read-table-3
+    slice-aggregate-read-table-4
+    read-table-requires
+    enum-known-reading
+    put-refused-requires-2
+    returns-2
+    enum-known-reading-2
+    slice-aggregate-put-read
+    slice-aggregate-put-read-2
+    slice-aggregate-put-read-3
+    slice-aggregate-put-read-4
+    put-read-requires
+    returns-3)

@@ -1,0 +1,213 @@
+-- How long the pieces of an output can be: a number by its digits, a row by the range of a table's answers, the line of a refusal by the range of its place.
+-- Assumes nothing.
+use Prim.Native.Nat.{ℕ, zero, suc, _+_, _*_, _/_, _≤_, _<_, max}
+use mathlib.Core.Path.{_≡_, refl, sym, _∙_, subst}
+use mathlib.Core.List.{List, [], _∷_, _++_}
+use mathlib.Core.Bool.{Bool, true, false}
+use native.Mathlib.Omega.{arith}
+use native.Mathlib.Decide.{ℕ-discrete}
+use lib.ListN.{length, length-append}
+use lib.Dec.{ltb}
+use borrow.Author.Tests.{ltb-true, ltb-false, ne-eqb}
+use Rattle.weights.specs.declared.Label.{Label}
+use Rattle.weights.specs.declared.Entry.{Entry}
+use Rattle.weights.specs.declared.Measure.{Measure}
+use Rattle.weights.specs.declared.Measure.the-variants.{Cost, Days}
+use Rattle.weights.specs.declared.State.{State}
+use Rattle.weights.specs.Figures.{over, isOver}
+use Rattle.weights.specs.Labels.{unmade, stateOf, entryOf}
+use Rattle.weights.specs.Measures.{days, algebra, fold, weigh}
+use Rattle.refusal.specs.declared.Refusal.{Refusal}
+use Rattle.refusal.specs.declared.Answer.the-variants.{Accepted}
+use Rattle.refusal.specs.Refusals.{numberOf, placeOf, numbered}
+use Rattle.provenance.specs.Hypergraph.{Derivation, Derivations, node, none, more, weight, weights, root}
+use Rattle.provenance.specs.Means.{Means, underivable, derivable}
+use Rattle.provenance.specs.BestFirst.{Answers, labels}
+use Rattle.columns.specs.Columns.{Columns, ownAt, hypergraph}
+use Rattle.columns.specs.Acceptance.{mostVertices, mostEdges, acceptance}
+use Rattle.columns.specs.Accepted.{table-accepted}
+use Rattle.settle.specs.Settling.{answersOf}
+use Rattle.settle.specs.Demands.{answers-fixpoint, answers-mean}
+use Rattle.text.specs.Tables.{Edge, Table}
+use Rattle.text.specs.Render.{digits}
+use Rattle.text.specs.Digits.{pick-by}
+use Rattle.text.specs.Machine.{begun, withEdge, mayList, Parse, Whole, Wrong, parse}
+use Rattle.reading.specs.declared.FirstLine.{FirstLine}
+use Rattle.reading.specs.declared.FirstLine.the-variants as first
+use Rattle.reading.specs.Lines.{firstLine, Row, Holds, Fails, rowAt, onRow, scanFrom, onFirst, scan}
+use Rattle.reading.specs.Scanned.{scan-is-parse}
+use Rattle.writing.specs.Widths.{width-one, width-more}
+use Rattle.report.specs.Report.{mostOutput, names, stateWord, row, rows, list, refusedWord, refusedLine}
+
+-- Numbers ----------------------------------------------------------------------------------------------------------------------------------------
+
+-- the least number of k + 2 digits
+unfoldable tens : ℕ → ℕ
+tens zero = 10
+tens (suc k) = 10 * tens k
+
+width-below : (k v : ℕ) → v < tens k → length (digits v) ≤ suc k
+unfolding tens
+width-below zero v h = let w = width-one v h in omega arith
+width-below (suc k) v h = go (ltb v 10) refl (width-below k (v / 10))
+  where
+    go : (b : Bool) → ltb v 10 ≡ b → (v / 10 < tens k → length (digits (v / 10)) ≤ suc k) → length (digits v) ≤ suc (suc k)
+    go true e rec = let w = width-one v (ltb-true v 10 e) in omega arith
+    go false e rec = let w = width-more v (ltb-false v 10 e) in let r = rec (omega arith) in omega arith
+
+width-2 : (v : ℕ) → v < 100 → length (digits v) ≤ 2
+unfolding tens
+width-2 v h = width-below 1 v h
+
+pub width-4 : (v : ℕ) → v < 10_000 → length (digits v) ≤ 4
+unfolding tens
+width-4 v h = width-below 3 v h
+
+width-13 : (v : ℕ) → v < 10_000_000_000_000 → length (digits v) ≤ 13
+unfolding tens
+width-13 v h = width-below 12 v h
+
+-- The answers of a table -----------------------------------------------------------------------------------------------------------------------
+
+module _ (c : Columns) (p : acceptance c ≡ Accepted) where
+  own-most : (e : ℕ) → e < length (c .heads) → ownAt c e ≤ over
+  own-most e h = let o = table-accepted c p .each e h .1 .own in omega arith
+
+  -- in days no make-up is over
+  mutual
+    unfolding weight weigh fold
+
+    days-most : {v : ℕ} (d : Derivation (hypergraph c) v) → weight days (ownAt c) d ≤ over
+    days-most (node e s h ds) = let o = own-most e (s .numbered) in let r = all-most 0 (omega arith) ds in omega arith
+
+    all-most : (a : ℕ) → a ≤ over → {vs : List ℕ} (ds : Derivations (hypergraph c) vs) → fold max a (weights days (ownAt c) ds) ≤ over
+    all-most a h none = h
+    all-most a h (more d ds) = let w = days-most d in all-most (max a (weight days (ownAt c) d)) (omega arith) ds
+
+  weight-most : (m : Measure) {v : ℕ} (d : Derivation (hypergraph c) v) → weight (algebra m) (ownAt c) d ≤ over
+  unfolding weight weigh
+  weight-most Cost (node e s h ds) = omega arith
+  weight-most Days d = days-most d
+
+  root-below : {v : ℕ} (d : Derivation (hypergraph c) v) → root d < length (c .heads)
+  unfolding root
+  root-below (node e s h ds) = s .numbered
+
+-- what the numbers of an entry can be
+pub record Ranged (l : Label) : Type 0 where
+  pub weight : l .weight .0 ≤ over
+  pub depth : l .depth ≤ mostVertices
+  pub edge : l .edge .0 ≤ mostEdges
+  pub blank : l .depth ≡ 0 → l ≡ unmade
+
+ranged-unmade : Ranged unmade
+ranged-unmade = record { weight = omega arith; depth = omega arith; edge = omega arith; blank = λ _. refl }
+
+-- the numbers of an accepted table's answers
+pub answers-ranged : (m : Measure) (c : Columns) → acceptance c ≡ Accepted → (v : ℕ) → Ranged (labels (answersOf m c) v)
+answers-ranged m c p v = go (answers-mean m c p v .means)
+  where
+    go : Means (algebra m) (hypergraph c) (ownAt c) (labels (answersOf m c) v) v → Ranged (labels (answersOf m c) v)
+    go (underivable e n) = subst Ranged (sym e) ranged-unmade
+    go (derivable d) = record {
+      weight = let w = weight-most c p m (d .shown) in let e = d .weighs in omega arith;
+      depth = let s = answers-mean m c p v .shallow in let f = table-accepted c p .few in omega arith;
+      edge = let r = root-below c p (d .shown) in let e = d .rooted in let f = table-accepted c p .edges in omega arith;
+      blank = answers-fixpoint m c p .blank v;
+    }
+
+-- The list -------------------------------------------------------------------------------------------------------------------------------------
+
+row-length : (v : ℕ) (e : Entry)
+    → length (row v e) ≡ length (digits v) + (1 + length (stateWord (e .state))) + (1 + length (digits (e .weight .0))) + (1 + length (digits (e .depth))) + (1 + length (digits (e .edge .0))) + 1
+unfolding row
+row-length v e =
+    let s : List ℕ = 32 ∷ stateWord (e .state) in
+    let a : List ℕ = 32 ∷ digits (e .weight .0) in
+    let b : List ℕ = 32 ∷ digits (e .depth) in
+    let d : List ℕ = 32 ∷ digits (e .edge .0) in
+    let p = length-append (digits v) s in
+    let q = length-append (digits v ++ s) a in
+    let r = length-append (digits v ++ s ++ a) b in
+    let t = length-append (digits v ++ s ++ a ++ b) d in
+    let u = length-append (digits v ++ s ++ a ++ b ++ d) (10 ∷ []) in
+    omega arith
+
+-- the words of parts that are not unmade are the shorter ones
+short-word : (w d : ℕ) → (d ≡ 0 → ⊥) → length (stateWord (stateOf w d)) ≡ 4
+unfolding stateWord
+short-word w d n = rw (ne-eqb d 0 n) (pick-by (λ (s : State). length (stateWord s) ≡ 4) (isOver w) (λ _. refl) (λ _. refl))
+
+row-most : (v : ℕ) (l : Label) → v < mostVertices → Ranged l → length (row v (entryOf l)) ≤ 34
+row-most v l h r = go (ℕ-discrete (l .depth) 0)
+  where
+    blank-row : length (row v (entryOf unmade)) ≤ 34
+    blank-row = unfold stateWord in let e = row-length v (entryOf unmade) in let a = width-4 v (omega arith) in let b = width-one 0 (omega arith) in omega arith
+
+    go : Dec (l .depth ≡ 0) → length (row v (entryOf l)) ≤ 34
+    go (yes z) = subst (λ (x : Label). length (row v (entryOf x)) ≤ 34) (sym (r .blank z)) blank-row
+    go (no n) =
+        let e = row-length v (entryOf l) in
+        let s = short-word (l .weight .0) (l .depth) n in
+        let a = width-4 v (omega arith) in
+        let w = r .weight in
+        let b = width-13 (l .weight .0) (omega arith) in
+        let x = r .depth in
+        let d = width-4 (l .depth) (omega arith) in
+        let y = r .edge in
+        let f = width-4 (l .edge .0) (omega arith) in
+        omega arith
+
+rows-most : (a : Answers) → ((v : ℕ) → Ranged (labels a v)) → (n : ℕ) → n ≤ mostVertices → length (rows a n) ≤ 34 * n
+unfolding rows
+rows-most a r zero h = omega arith
+rows-most a r (suc n) h =
+    let i = rows-most a r n (omega arith) in
+    let w = row-most n (labels a n) (omega arith) (r n) in
+    let l = length-append (rows a n) (row n (entryOf (labels a n))) in
+    omega arith
+
+pub list-most : (a : Answers) → ((v : ℕ) → Ranged (labels a v)) → (n : ℕ) → n ≤ mostVertices → length (list a n) ≤ mostOutput
+unfolding list names
+list-most a r n h = let w = rows-most a r n h in let l = length-append names (rows a n) in omega arith
+
+-- A refusal ------------------------------------------------------------------------------------------------------------------------------------
+
+pub refused-most : (r : Refusal) → placeOf r < 10_000 → length (refusedLine r) ≤ mostOutput
+unfolding refusedLine refusedWord
+refused-most r h =
+    let a : List ℕ = 32 ∷ digits (numberOf r) in
+    let b : List ℕ = 32 ∷ digits (placeOf r) in
+    let k = numbered r in
+    let m = width-2 (numberOf r) (omega arith) in
+    let n = width-4 (placeOf r) h in
+    let p = length-append refusedWord a in
+    let q = length-append (refusedWord ++ a) b in
+    let s = length-append (refusedWord ++ a ++ b) (10 ∷ []) in
+    omega arith
+
+-- the text line of a refusal is the first, one of a hyperedge, or the one behind the last that may stand
+abbrev PlacedLow : Parse → Type 0
+PlacedLow (Whole t) = Unit {0}
+PlacedLow (Wrong l) = l ≤ mostEdges + 2
+
+row-low : (t : Table) (R : Row) (rest : Table → ℕ → Parse) → length (t .edges) ≤ mostEdges → ((e : Edge) (next : ℕ) → PlacedLow (rest (withEdge t e) next)) → PlacedLow (onRow t R rest)
+row-low t (Holds e next) rest h k = k e next
+row-low t (Fails xs) rest h k = omega arith
+
+scan-low : (left : ℕ) (s : List ℕ) (at : ℕ) (t : Table) → length (t .edges) + left ≤ mostEdges → PlacedLow (scanFrom left s at t)
+unfolding scanFrom
+scan-low zero s at t h = pick-by PlacedLow (ltb at (length s)) (λ _. omega arith) (λ _. tt)
+scan-low (suc left) s at t h =
+    let rest : Table → ℕ → Parse = λ u next. scanFrom left s next u in
+    pick-by PlacedLow (ltb at (length s))
+    (λ _. row-low t (rowAt s (t .vertices) (mayList t) at) rest (omega arith) (λ e next. scan-low left s next (withEdge t e) (let l = length-append (t .edges) (e ∷ []) in omega arith)))
+    (λ _. tt)
+
+first-low : (s : List ℕ) (F : FirstLine) → PlacedLow (onFirst s F)
+first-low s (first.Read n m start) = scan-low mostEdges s start (begun n m) (omega arith)
+first-low s first.Wrong = omega arith
+
+pub wrong-low : (s : List ℕ) (l : ℕ) → parse s ≡ Wrong l → l ≤ mostEdges + 2
+unfolding scan
+wrong-low s l e = subst PlacedLow (scan-is-parse s ∙ e) (first-low s (firstLine s))

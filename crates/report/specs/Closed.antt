@@ -1,0 +1,75 @@
+-- Closing the gaps of a table changes none of its answers: its columns hold the same hypergraph, with the same own figures. The paper's "Gaps may stand between
+-- spans and their contents are never looked at". Assumes nothing.
+use Prim.Native.Nat.{ℕ, zero, suc, _+_, _*_, _≤_, _<_}
+use mathlib.Core.Path.{_≡_, refl, sym, _∙_, ap, ap₂}
+use mathlib.Core.Bool.{not}
+use mathlib.Core.List.{List, []}
+use native.Mathlib.Omega.{arith}
+use native.Mathlib.Decide.{decLe}
+use lib.ListN.{length, getD, List·getD-eq-default}
+use Rattle.weights.specs.declared.Measure.{Measure}
+use Rattle.weights.specs.Figures.{isStruck}
+use Rattle.weights.specs.Measures.{algebra}
+use Rattle.refusal.specs.declared.Answer.the-variants.{Accepted}
+use Rattle.provenance.specs.Hypergraph.{Hypergraph}
+use Rattle.provenance.specs.BestFirst.{best-first}
+use Rattle.columns.specs.Columns.{Columns, headAt, ownAt, part, tailAt, hypergraph}
+use Rattle.columns.specs.Acceptance.{acceptance}
+use Rattle.columns.specs.Accepted.{AcceptedTable, table-accepted}
+use Rattle.settle.specs.Settling.{answersOf}
+use Rattle.text.specs.Tables.{Edge, edge, edgesFrom, edgesOf, closed}
+use Rattle.text.specs.Rows.{length-heads, closed-edges, closed-accepted}
+
+abbrev edgeAt : Columns → ℕ → Edge
+edgeAt c e = edge (headAt c e) (ownAt c e) (tailAt c e)
+
+-- the hyperedges as a list, and one by one
+edge-in : (c : Columns) (left from k : ℕ) → k < left → getD (edgesFrom c left from) k (edge 0 0 []) ≡ edgeAt c (from + k)
+unfolding edgesFrom
+edge-in c zero from k h = absurd (omega arith)
+edge-in c (suc left) from zero h = let q : from ≡ from + 0 = omega arith in ap (edgeAt c) q
+edge-in c (suc left) from (suc k) h = let q : from + 1 + k ≡ from + suc k = omega arith in edge-in c left (from + 1) k (omega arith) ∙ ap (edgeAt c) q
+
+length-edges : (c : Columns) (left from : ℕ) → length (edgesFrom c left from) ≡ left
+unfolding edgesFrom
+length-edges c zero from = refl
+length-edges c (suc left) from = ap suc (length-edges c left (from + 1))
+
+-- beyond the last hyperedge all columns are read as zeros
+beyond : (c : Columns) → AcceptedTable c → (e : ℕ) → length (c .heads) ≤ e → edgeAt c e ≡ edge 0 0 []
+beyond c t e h =
+    let s = t .spans in
+    let w = t .own in
+    let o = List·getD-eq-default (c .spans) 0 {n = 2 * e} (omega arith) in
+    let l = List·getD-eq-default (c .spans) 0 {n = 2 * e + 1} (omega arith) in
+    ap₂ (λ (x y : ℕ). edge x y (tailAt c e)) (List·getD-eq-default (c .heads) 0 {n = e} h) (List·getD-eq-default (c .own) 0 {n = e} (omega arith))
+    ∙ ap₂ (λ (x y : ℕ). edge 0 0 (part x y (c .tails))) o l
+
+module _ (m : Measure) (c : Columns) (p : acceptance c ≡ Accepted) where
+  as-many : length (closed c .heads) ≡ length (c .heads)
+  as-many = length-heads (edgesOf c) ∙ length-edges c (length (c .heads)) 0
+
+  -- every hyperedge is the same
+  same-edge : (e : ℕ) → edgeAt (closed c) e ≡ edgeAt c e
+  same-edge e = go (decLe (length (c .heads)) e)
+    where
+      at : (a : Columns) → e < length (a .heads) → edgeAt a e ≡ getD (edgesOf a) e (edge 0 0 [])
+      at a h = let q : 0 + e ≡ e = omega arith in sym (edge-in a (length (a .heads)) 0 e h ∙ ap (edgeAt a) q)
+
+      go : Dec (length (c .heads) ≤ e) → edgeAt (closed c) e ≡ edgeAt c e
+      go (yes h) = let n = as-many in beyond (closed c) (table-accepted (closed c) (closed-accepted m c p)) e (omega arith) ∙ sym (beyond c (table-accepted c p) e h)
+      go (no h) = let n = as-many in at (closed c) (omega arith) ∙ ap (λ (es : List Edge). getD es e (edge 0 0 [])) (closed-edges c) ∙ sym (at c (omega arith))
+
+  same-hypergraph : hypergraph (closed c) ≡ hypergraph c
+  same-hypergraph =
+      λ i. record {
+        vertices = c .vertices;
+        edges = as-many i;
+        head = λ e. same-edge e i .head;
+        tail = λ e. same-edge e i .tail;
+        live = λ e. not (isStruck (same-edge e i .own));
+      }
+
+  pub answers-closed : answersOf m (closed c) ≡ answersOf m c
+  unfolding answersOf
+  answers-closed = ap₂ (λ (H : Hypergraph) (own : ℕ → ℕ). best-first (algebra m) H own) same-hypergraph (λ i e. same-edge e i .own)

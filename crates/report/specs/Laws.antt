@@ -1,0 +1,182 @@
+-- What an output is: it fits its room; a table that was read is settled, so the one refusal of a text is its own; and the text of an accepted table gives the
+-- list of its answers. The paper's "A table priced whole". Assumes nothing.
+use Prim.Native.Nat.{ℕ, _+_, _*_, _≤_, _<_}
+use mathlib.Core.Path.{_≡_, refl, sym, _∙_, ap, ap₂, subst}
+use mathlib.Core.List.{List}
+use native.Mathlib.Omega.{arith}
+use lib.ListN.{length, take, replicate, length-replicate}
+use lib.Dec.{ltb}
+use borrow.Author.Tests.{lt-ltb, le-ltb}
+use Rattle.weights.specs.declared.Measure.{Measure}
+use Rattle.refusal.specs.declared.Refusal.the-variants.{Text, InputLength}
+use Rattle.refusal.specs.declared.Header.{Header}
+use Rattle.refusal.specs.declared.Answer.the-variants.{Accepted}
+use Rattle.refusal.specs.declared.Reading.{Reading}
+use Rattle.refusal.specs.declared.Reading.the-variants as reading
+use Rattle.refusal.specs.Refusals.{placeOf}
+use Rattle.provenance.specs.BestFirst.{Answers, blank}
+use Rattle.columns.specs.Columns.{Columns, columns}
+use Rattle.columns.specs.Acceptance.{mostEdges, mostListed, acceptance, lentAcceptance}
+use Rattle.columns.specs.Accepted.{table-accepted, columns-accept}
+use Rattle.settle.specs.Settling.{answersOf, settled}
+use Rattle.settle.specs.Demands.{settled-result}
+use Rattle.text.specs.Tables.{Table, headsOf, ownsOf, spansFrom, tailsOf, closed}
+use Rattle.text.specs.Render.{render, Permitted}
+use Rattle.text.specs.Machine.{Parse, Whole, Wrong, parse}
+use Rattle.text.specs.Digits.{pick-by}
+use Rattle.text.specs.Rows.{closed-accepted, length-heads, length-owns, length-spans, length-tails}
+use Rattle.text.specs.Sound.{sound}
+use Rattle.text.specs.Permitted.{FirstWrong}
+use Rattle.text.specs.Filled.{filled, take-filled, length-filled}
+use Rattle.reading.specs.Lines.{headerOf}
+use Rattle.readtable.specs.Read.{ReadOutcome, columnsRead, roomFor, readInto}
+use Rattle.roundtrip.specs.RoundTrip.{Room, headerFor, filledWith, held, read-accepted, read-rendered}
+use Rattle.roundtrip.specs.Refused.{unpermitted-is-refused}
+use Rattle.report.specs.Report.{mostInput, mostOutput, list, refusedLine, priced, listedAs, listed, readInput, report}
+use Rattle.report.specs.Pieces.{Lent}
+use Rattle.report.specs.Closed.{answers-closed}
+use Rattle.report.specs.Bounds.{answers-ranged, list-most, refused-most, wrong-low}
+
+-- A table that was read ------------------------------------------------------------------------------------------------------------------------
+
+module _ (input : List ℕ) (g : Header) (e : readInput input .answer ≡ reading.Table g) where
+  abbrev table : Columns
+  table = columnsRead g (readInput input)
+
+  pub input-accepted : acceptance table ≡ Accepted
+  unfolding readInput
+  input-accepted = read-accepted input _ _ _ _ g e
+
+  lent : lentAcceptance table (blank (g .vertices)) ≡ Accepted
+  lent = columns-accept table (blank (g .vertices)) input-accepted (record { weights = length-replicate (g .vertices) 0; depths = length-replicate (g .vertices) 0; edges = length-replicate (g .vertices) 0 })
+
+  -- settling it is never refused
+  pub read-settles : settled (g .measure) table (blank (g .vertices)) .result ≡ Accepted
+  read-settles = settled-result (g .measure) table (blank (g .vertices)) ∙ lent
+
+  -- so its list is printed
+  pub read-listed : listed (readInput input) ≡ list (answersOf (g .measure) table) (g .vertices)
+  unfolding listedAs settled
+  read-listed = rw (e, lent)
+
+-- By the length of an input ---------------------------------------------------------------------------------------------------------------------
+
+-- 17 comes first
+pub report-long : (input : List ℕ) → mostInput < length input → report input ≡ refusedLine InputLength
+unfolding report
+report-long input h = rw (lt-ltb mostInput (length input) h)
+
+pub report-short : (input : List ℕ) → length input ≤ mostInput → report input ≡ listed (readInput input)
+unfolding report
+report-short input h = rw (le-ltb mostInput (length input) h)
+
+-- The largest output fits the room -------------------------------------------------------------------------------------------------------------
+
+-- the place that a reading tells
+abbrev placeIn : Reading → ℕ
+placeIn (reading.Table g) = 0
+placeIn (reading.Refused r) = placeOf r
+
+place-low : (h o s t : List ℕ) (P : Parse) → ((l : ℕ) → P ≡ Wrong l → l ≤ mostEdges + 2) → placeIn (readInto P h o s t .answer) < 10_000
+unfolding readInto
+place-low h o s t (Wrong l) k = let m = k l refl in omega arith
+place-low h o s t (Whole u) k =
+    pick-by (λ (x : ReadOutcome). placeIn (x .answer) < 10_000) (roomFor (headerOf u) (length h) (length o) (length s) (length t)) (λ _. omega arith) (λ _. omega arith)
+
+read-low : (input : List ℕ) → placeIn (readInput input .answer) < 10_000
+unfolding readInput
+read-low input = place-low _ _ _ _ (parse input) (λ l e. wrong-low input l e)
+
+listed-fits : (input : List ℕ) → length (listed (readInput input)) ≤ mostOutput
+listed-fits input = go (readInput input .answer) refl
+  where
+    go : (a : Reading) → readInput input .answer ≡ a → length (listed (readInput input)) ≤ mostOutput
+    go (reading.Refused r) e =
+        let q : listed (readInput input) ≡ refusedLine r = unfold listedAs in ap (λ (a : Reading). listedAs a (readInput input)) e in
+        let p = subst (λ (a : Reading). placeIn a < 10_000) e (read-low input) in
+        subst (λ (z : List ℕ). length z ≤ mostOutput) (sym q) (refused-most r p)
+    go (reading.Table g) e =
+        let a = input-accepted input g e in
+        let m = list-most (answersOf (g .measure) (columnsRead g (readInput input))) (answers-ranged (g .measure) (columnsRead g (readInput input)) a) (g .vertices) (table-accepted (columnsRead g (readInput input)) a .few) in
+        subst (λ (z : List ℕ). length z ≤ mostOutput) (sym (read-listed input g e)) m
+
+pub report-fits : (input : List ℕ) → length (report input) ≤ mostOutput
+unfolding report
+report-fits input = pick-by (λ (z : List ℕ). length z ≤ mostOutput) (ltb mostInput (length input)) (λ _. refused-most InputLength (omega arith)) (λ _. listed-fits input)
+
+-- The output of a text -------------------------------------------------------------------------------------------------------------------------
+
+module _ (m : Measure) (c : Columns) (a : acceptance c ≡ Accepted) where
+  abbrev zeros : ℕ → List ℕ
+  zeros n = replicate n 0
+
+  roomy : Room (closed c) (zeros mostEdges) (zeros mostEdges) (zeros (2 * mostEdges)) (zeros mostListed)
+  roomy =
+      let t = table-accepted (closed c) (closed-accepted m c a) in
+      let e = t .edges in
+      let o = t .own in
+      let s = t .spans in
+      let l = t .tails in
+      let p = length-replicate {A = ℕ} mostEdges 0 in
+      let q = length-replicate {A = ℕ} (2 * mostEdges) 0 in
+      let r = length-replicate {A = ℕ} mostListed 0 in
+      record { heads = omega arith; own = omega arith; spans = omega arith; tails = omega arith }
+
+  rendered : readInput (render m c) ≡ filledWith (closed c) m (zeros mostEdges) (zeros mostEdges) (zeros (2 * mostEdges)) (zeros mostListed)
+  unfolding readInput
+  rendered = read-rendered m c (zeros mostEdges) (zeros mostEdges) (zeros (2 * mostEdges)) (zeros mostListed) a roomy
+
+  columns-back : columnsRead (headerFor m (closed c)) (readInput (render m c)) ≡ closed c
+  columns-back =
+      let t = table-accepted (closed c) (closed-accepted m c a) in
+      let z = closed c in
+      ap (columnsRead (headerFor m z)) rendered
+      ∙ ap₂ (λ (x y : List ℕ). columns (z .vertices) x y (take (2 * length (z .heads)) (filled (z .spans) (zeros (2 * mostEdges)))) (take (length (z .tails)) (filled (z .tails) (zeros mostListed)))) (take-filled (z .heads) (zeros mostEdges) (length (z .heads)) refl) (take-filled (z .own) (zeros mostEdges) (length (z .heads)) (t .own))
+      ∙ ap₂ (λ (x y : List ℕ). columns (z .vertices) (z .heads) (z .own) x y) (take-filled (z .spans) (zeros (2 * mostEdges)) (2 * length (z .heads)) (t .spans)) (take-filled (z .tails) (zeros mostListed) (length (z .tails)) refl)
+
+  -- of an accepted table whose text is short enough: the list of its best-first answers
+  pub report-rendered : length (render m c) ≤ mostInput → report (render m c) ≡ list (answersOf m c) (c .vertices)
+  report-rendered h =
+      report-short (render m c) h
+      ∙ read-listed (render m c) (headerFor m (closed c)) (ap (λ (x : ReadOutcome). x .answer) rendered)
+      ∙ ap (λ (z : Columns). list (answersOf m z) (c .vertices)) columns-back
+      ∙ ap (λ (z : Answers). list z (c .vertices)) (answers-closed m c a)
+
+-- of a text that is not permitted: 14, at the first line that breaks a rule
+pub report-unpermitted : (input : List ℕ) → length input ≤ mostInput → (Permitted input → ⊥) → (k : ℕ) × (report input ≡ refusedLine (Text (record { 0 = k }))) × FirstWrong input k
+unfolding listedAs readInput
+report-unpermitted input h n =
+    let u = unpermitted-is-refused input _ _ _ _ n in
+    (u .0, report-short input h ∙ ap listed (u .1), u .2)
+
+-- What the code asks ---------------------------------------------------------------------------------------------------------------------------
+
+-- the table that was read stands at the start of the columns, and its output fits the room
+pub input-lent : (input : List ℕ) (g : Header) (room : ℕ) → length input ≤ mostInput → room ≡ mostOutput → readInput input .answer ≡ reading.Table g
+    → Lent g (readInput input .heads) (readInput input .own) (readInput input .spans) (readInput input .tails) room
+unfolding readInput
+input-lent input g room short large e =
+    let k = held input _ _ _ _ g e in
+    let es = k .table .edges in
+    let f = sound input (k .table) (k .whole) .0 in
+    let fe = f .edges in
+    let fl = f .listed in
+    let fv = f .vertices in
+    let v = ap (λ (x : Header). x .vertices) (k .header-of) in
+    let n = ap (λ (x : Header). x .edges) (k .header-of) in
+    let l = ap (λ (x : Header). x .listed) (k .header-of) in
+    let p = length-replicate {A = ℕ} mostEdges 0 in
+    let q = length-replicate {A = ℕ} (2 * mostEdges) 0 in
+    let r = length-replicate {A = ℕ} mostListed 0 in
+    let a = length-heads es in
+    let b = length-owns es in
+    let c = length-spans 0 es in
+    let d = length-tails es in
+    let hs = ap (λ (x : ReadOutcome). length (x .heads)) (k .outcome) ∙ length-filled (headsOf es) (replicate mostEdges 0) (omega arith) in
+    let os = ap (λ (x : ReadOutcome). length (x .own)) (k .outcome) ∙ length-filled (ownsOf es) (replicate mostEdges 0) (omega arith) in
+    let ss = ap (λ (x : ReadOutcome). length (x .spans)) (k .outcome) ∙ length-filled (spansFrom 0 es) (replicate (2 * mostEdges) 0) (omega arith) in
+    let ts = ap (λ (x : ReadOutcome). length (x .tails)) (k .outcome) ∙ length-filled (tailsOf es) (replicate mostListed 0) (omega arith) in
+    let y : listed (readInput input) ≡ priced (g .vertices) (settled (g .measure) (columnsRead g (readInput input)) (blank (g .vertices))) = unfold listedAs in ap (λ (z : Reading). listedAs z (readInput input)) e in
+    let z = ap length (report-short input short ∙ y) in
+    let w = report-fits input in
+    record { few = omega arith; heads = omega arith; own = omega arith; spans = omega arith; tails = omega arith; fits = omega arith }

@@ -1,0 +1,91 @@
+-- What the listing program prints of an input: the list of a table's entries, or the line of a refusal. The paper's "A table priced whole", and 17 of "What is
+-- turned away", which comes first. Assumes nothing: these are definitions.
+use Prim.Native.Nat.{ℕ, zero, suc, _*_}
+use mathlib.Core.List.{List, [], _∷_, _++_}
+use lib.ListN.{length, replicate}
+use lib.Dec.{ltb}
+use Rattle.weights.specs.declared.State.{State}
+use Rattle.weights.specs.declared.State.the-variants.{Made, Over, Unmade}
+use Rattle.weights.specs.declared.Entry.{Entry}
+use Rattle.weights.specs.Choice.{pick}
+use Rattle.weights.specs.Labels.{entryOf}
+use Rattle.refusal.specs.declared.Refusal.{Refusal}
+use Rattle.refusal.specs.declared.Refusal.the-variants.{InputLength}
+use Rattle.refusal.specs.declared.Answer.{Answer}
+use Rattle.refusal.specs.declared.Answer.the-variants as answer
+use Rattle.refusal.specs.declared.Reading.{Reading}
+use Rattle.refusal.specs.declared.Reading.the-variants as reading
+use Rattle.refusal.specs.Refusals.{numberOf, placeOf}
+use Rattle.provenance.specs.BestFirst.{Answers, labels, blank}
+use Rattle.columns.specs.Acceptance.{mostEdges, mostListed}
+use Rattle.settle.specs.Settling.{Outcome, settled}
+use Rattle.text.specs.Render.{digits}
+use Rattle.readtable.specs.Read.{ReadOutcome, columnsRead, readTable}
+
+-- the most bytes of an input; one more is refused by 17
+abbrev pub mostInput : ℕ
+mostInput = 65535
+
+-- the most bytes of an output: the names, and 1,024 rows of 34; `report-fits` of Laws
+abbrev pub mostOutput : ℕ
+mostOutput = 34845
+
+-- The list -------------------------------------------------------------------------------------------------------------------------------------
+
+-- `part state figure depth line`
+unfoldable pub names : List ℕ
+names = 112 ∷ 97 ∷ 114 ∷ 116 ∷ 32 ∷ 115 ∷ 116 ∷ 97 ∷ 116 ∷ 101 ∷ 32 ∷ 102 ∷ 105 ∷ 103 ∷ 117 ∷ 114 ∷ 101 ∷ 32 ∷ 100 ∷ 101 ∷ 112 ∷ 116 ∷ 104 ∷ 32 ∷ 108 ∷ 105 ∷ 110 ∷ 101 ∷ 10 ∷ []
+
+-- `made`, `over`, `unmade`
+unfoldable pub stateWord : State → List ℕ
+stateWord Made = 109 ∷ 97 ∷ 100 ∷ 101 ∷ []
+stateWord Over = 111 ∷ 118 ∷ 101 ∷ 114 ∷ []
+stateWord Unmade = 117 ∷ 110 ∷ 109 ∷ 97 ∷ 100 ∷ 101 ∷ []
+
+-- part, state, figure, depth, line, single spaces between and an LF
+unfoldable pub row : ℕ → Entry → List ℕ
+row v e = digits v ++ (32 ∷ stateWord (e .state)) ++ (32 ∷ digits (e .weight .0)) ++ (32 ∷ digits (e .depth)) ++ (32 ∷ digits (e .edge .0)) ++ 10 ∷ []
+
+-- of the parts below k
+unfoldable pub rows : Answers → ℕ → List ℕ
+rows a zero = []
+rows a (suc k) = rows a k ++ row k (entryOf (labels a k))
+
+unfoldable pub list : Answers → ℕ → List ℕ
+list a n = names ++ rows a n
+
+-- A refusal --------------------------------------------------------------------------------------------------------------------------------------
+
+-- `refused`
+unfoldable pub refusedWord : List ℕ
+refusedWord = 114 ∷ 101 ∷ 102 ∷ 117 ∷ 115 ∷ 101 ∷ 100 ∷ []
+
+-- `refused`, number, place
+unfoldable pub refusedLine : Refusal → List ℕ
+refusedLine r = refusedWord ++ (32 ∷ digits (numberOf r)) ++ (32 ∷ digits (placeOf r)) ++ 10 ∷ []
+
+-- The whole --------------------------------------------------------------------------------------------------------------------------------------
+
+-- by what settling a table of n parts returned
+abbrev pub pricedAs : (n : ℕ) → Answer → Answers → List ℕ
+pricedAs n answer.Accepted a = list a n
+pricedAs n (answer.Refused r) a = refusedLine r
+
+abbrev pub priced : (n : ℕ) → Outcome → List ℕ
+priced n o = pricedAs n (o .result) (o .left)
+
+-- by what reading a text returned: the table that was read is settled from answer columns of zeros
+unfoldable pub listedAs : Reading → ReadOutcome → List ℕ
+listedAs (reading.Refused r) x = refusedLine r
+listedAs (reading.Table g) x = priced (g .vertices) (settled (g .measure) (columnsRead g x) (blank (g .vertices)))
+
+abbrev pub listed : ReadOutcome → List ℕ
+listed x = listedAs (x .answer) x
+
+-- a text, read into columns that have room for the largest table
+unfoldable pub readInput : List ℕ → ReadOutcome
+readInput input = readTable input (replicate mostEdges 0) (replicate mostEdges 0) (replicate (2 * mostEdges) 0) (replicate mostListed 0)
+
+-- the bytes printed of an input
+unfoldable pub report : List ℕ → List ℕ
+report input = pick (ltb mostInput (length input)) (refusedLine InputLength) (listed (readInput input))

@@ -1,0 +1,187 @@
+// What the listing program prints of an input: the list of a table's entries, or the line of a
+// refusal.
+use readtable::read_table;
+use refusal::Answer;
+use refusal::Header;
+use refusal::Reading;
+use refusal::Refusal;
+use weights::Entry;
+use weights::Measure;
+use weights::State;
+use weights::Vertex;
+use writing::put_bytes;
+use writing::put_number;
+use writing::put_tail;
+ghost use mathlib.Core.Path.{_≡_};
+ghost use mathlib.Core.List.{_∷_, _++_};
+ghost use Prim.Native.Nat.{_≤_};
+ghost use lib.ListN.{length};
+ghost use Rattle.provenance.specs.BestFirst.{blank};
+ghost use Rattle.columns.specs.Columns.{columns, answers};
+ghost use Rattle.settle.specs.Settling.{settled};
+ghost use Rattle.text.specs.Render.{digits};
+ghost use Rattle.text.specs.Filled.{filled};
+ghost use Rattle.writing.specs.Written.{Written};
+ghost use Rattle.report.specs.Report.{stateWord, row, rows, list, refusedLine, priced, report};
+ghost use Rattle.report.specs.Pieces.{Lent, lentColumns};
+
+// The most bytes of an input.
+pub const MOST_INPUT: usize = 65535;
+
+// The most bytes of an output: the names, and 1,024 rows of 34.
+pub const MOST_OUTPUT: usize = 34845;
+
+// A state's word behind a space.
+fn put_state(room: &mut [u8], state: State) -> usize
+    requires { ⌜ length (32 ∷ stateWord state) ≤ length (now room) ⌝ }
+    ensures { λ r. ⌜ Written (32 ∷ stateWord state) (now (room .entry)) r (now (room .exit)) ⌝ }
+{
+    match state {
+        State::Made => return put_bytes(room, b" made"),
+        State::Over => return put_bytes(room, b" over"),
+        State::Unmade => return put_bytes(room, b" unmade"),
+    }
+}
+
+// A part and its state.
+fn put_stem(room: &mut [u8], v: Vertex, state: State) -> usize
+    requires { ⌜ length (digits (v .0) ++ (32 ∷ stateWord state)) ≤ length (now room) ⌝ }
+    ensures { λ r. ⌜ Written (digits (v .0) ++ (32 ∷ stateWord state)) (now (room .entry)) r (now (room .exit)) ⌝ }
+{
+    let at = put_number(room, v.0);
+    let width = put_state(&mut room[at..], state);
+    at + width
+}
+
+// The line of a part. Its three numbers are written as a list of numbers is.
+fn put_row(room: &mut [u8], v: Vertex, entry: Entry) -> usize
+    requires { ⌜ length (row (v .0) entry) ≤ length (now room) ⌝ }
+    ensures { λ r. ⌜ Written (row (v .0) entry) (now (room .entry)) r (now (room .exit)) ⌝ }
+{
+    let state = entry.state;
+    let weight = entry.weight;
+    let edge = entry.edge;
+    let numbers = [weight.0, entry.depth, edge.0];
+    let at = put_stem(room, v, state);
+    let width = put_tail(&mut room[at..], &numbers);
+    at + width
+}
+
+// The lines of all parts.
+fn put_rows(room: &mut [u8], weights: &[u64], depths: &[u64], edges: &[u64]) -> usize
+    requires { ⌜ length (rows (answers (now weights) (now depths) (now edges)) (length (now depths))) ≤ length (now room) ⌝ }
+    ensures { λ r. ⌜ Written (rows (answers (now (weights .entry)) (now (depths .entry)) (now (edges .entry))) (length (now (depths .entry)))) (now (room .entry)) r (now (room .exit)) ⌝ }
+{
+    let mut at: usize = 0;
+    let mut i = 0;
+    while i < depths.len() {
+        let v = Vertex(i as u64);
+        let entry = settle::entry(weights, depths, edges, v);
+        at += put_row(&mut room[at..], v, entry);
+        i += 1;
+    }
+    at
+}
+
+// The lines of all parts under the line of names.
+fn put_list(room: &mut [u8], weights: &[u64], depths: &[u64], edges: &[u64]) -> usize
+    requires { ⌜ length (list (answers (now weights) (now depths) (now edges)) (length (now depths))) ≤ length (now room) ⌝ }
+    ensures { λ r. ⌜ Written (list (answers (now (weights .entry)) (now (depths .entry)) (now (edges .entry))) (length (now (depths .entry)))) (now (room .entry)) r (now (room .exit)) ⌝ }
+{
+    let at = put_bytes(room, b"part state figure depth line\n");
+    let width = put_rows(&mut room[at..], weights, depths, edges);
+    at + width
+}
+
+// The line of a refusal.
+fn put_refused(room: &mut [u8], refusal: Refusal) -> usize
+    requires { ⌜ length (refusedLine refusal) ≤ length (now room) ⌝ }
+    ensures { λ r. ⌜ Written (refusedLine refusal) (now (room .entry)) r (now (room .exit)) ⌝ }
+{
+    let number = refusal.number();
+    let place = refusal.place();
+    let numbers = [number, place];
+    let at = put_bytes(room, b"refused");
+    let width = put_tail(&mut room[at..], &numbers);
+    at + width
+}
+
+// A table is settled into the answer columns and listed.
+fn put_priced(
+    room: &mut [u8],
+    measure: Measure,
+    n: u64,
+    heads: &[u64],
+    own: &[u64],
+    spans: &[u64],
+    tails: &[u64],
+    weights: &mut [u64],
+    depths: &mut [u64],
+    edges: &mut [u64],
+) -> usize
+    requires { ⌜ length (priced n (settled measure (columns n (now heads) (now own) (now spans) (now tails)) (answers (now weights) (now depths) (now edges)))) ≤ length (now room) ⌝ }
+    ensures { λ r. ⌜ Written (priced n (settled measure (columns n (now (heads .entry)) (now (own .entry)) (now (spans .entry)) (now (tails .entry))) (answers (now (weights .entry)) (now (depths .entry)) (now (edges .entry))))) (now (room .entry)) r (now (room .exit)) ⌝ }
+{
+    let answer = settle::settle(measure, n, heads, own, spans, tails, weights, depths, edges);
+    match answer {
+        Answer::Refused(r) => return put_refused(room, r),
+        Answer::Accepted => {}
+    }
+    put_list(room, weights, depths, edges)
+}
+
+// The table that was read is priced from answer columns of zeros.
+fn put_read(
+    room: &mut [u8],
+    header: Header,
+    heads: &[u64],
+    own: &[u64],
+    spans: &[u64],
+    tails: &[u64],
+) -> usize
+    requires { ⌜ Lent header (now heads) (now own) (now spans) (now tails) (length (now room)) ⌝ }
+    ensures { λ r. ⌜ Written (priced (header .vertices) (settled (header .measure) (lentColumns header (now (heads .entry)) (now (own .entry)) (now (spans .entry)) (now (tails .entry))) (blank (header .vertices)))) (now (room .entry)) r (now (room .exit)) ⌝ }
+{
+    let measure = header.measure;
+    let n = header.vertices;
+    let parts = n as usize;
+    let lines = header.edges as usize;
+    let places = 2 * lines;
+    let listed = header.listed as usize;
+    let mut weights = [0u64; 1024];
+    let mut depths = [0u64; 1024];
+    let mut edges = [0u64; 1024];
+    put_priced(
+        room,
+        measure,
+        n,
+        &heads[..lines],
+        &own[..lines],
+        &spans[..places],
+        &tails[..listed],
+        &mut weights[..parts],
+        &mut depths[..parts],
+        &mut edges[..parts],
+    )
+}
+
+// The output of an input is put at the room's start, and its length is returned.
+pub fn report(input: &[u8], room: &mut [u8; MOST_OUTPUT]) -> usize
+    ensures { λ r. ⌜ r ≡ length (report (now (input .entry))) ⌝ }
+    ensures { λ r. ⌜ now (room .exit) ≡ filled (report (now (input .entry))) (now (room .entry)) ⌝ }
+{
+    if input.len() > MOST_INPUT {
+        return put_refused(room, Refusal::InputLength);
+    }
+    let mut heads = [0u64; 4096];
+    let mut own = [0u64; 4096];
+    let mut spans = [0u64; 8192];
+    let mut tails = [0u64; 16384];
+    let reading = read_table(input, &mut heads, &mut own, &mut spans, &mut tails);
+    match reading {
+        Reading::Refused(r) => return put_refused(room, r),
+        Reading::Table(header) => {
+            return put_read(room, header, &heads, &own, &spans, &tails);
+        }
+    }
+}
