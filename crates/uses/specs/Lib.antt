@@ -1,0 +1,5 @@
+pub mod Uses
+pub mod Indexable
+pub mod Pairs
+pub mod Lists
+pub mod Laws
