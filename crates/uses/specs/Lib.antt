@@ -3,3 +3,5 @@ pub mod Indexable
 pub mod Pairs
 pub mod Lists
 pub mod Laws
+pub mod Room
+pub mod Example

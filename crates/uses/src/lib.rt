@@ -99,9 +99,9 @@ fn fill(spans: &[u64], tails: &[u64], index: &mut [u64], list: &mut [u64])
     requires { ⌜ Offset (now spans) (now tails) (now index) (now list) ⌝ }
     ensures { λ r. ⌜ FilledTo (tailOf (now (spans .entry)) (now (tails .entry))) (pairsIn (now (spans .entry))) (pairsIn (now (index .entry))) (pairsIn (now (spans .entry))) (now (index .exit)) (now (list .exit)) (now (list .entry)) ⌝ }
 {
-    let m = spans.len() / 2;
+    let edges = spans.len() / 2;
     let mut i = 0;
-    while i < m {
+    while i < edges {
         fill_edge(i as u64, spans, tails, index, list);
         i += 1;
     }

@@ -13,10 +13,10 @@ use Rattle.uses.specs.Pairs.{length-pairs}
 use Rattle.uses.proofs.Filling.{fill-none, filling, fill-more}
 
 abbrev Inv-loop : tie.InvT-loop
-Inv-loop spans tails index₀ list₀ m i₀ index list i = (i ≤ m) × FilledTo (tailOf spans tails) (pairsIn spans) (pairsIn index₀) i index list list₀
+Inv-loop spans tails index₀ list₀ edges i₀ index list i = (i ≤ edges) × FilledTo (tailOf spans tails) (pairsIn spans) (pairsIn index₀) i index list list₀
 
 abbrev μ-loop : tie.MeasureT-loop
-μ-loop spans tails index₀ list₀ m i₀ index list i = m - i
+μ-loop spans tails index₀ list₀ edges i₀ index list i = edges - i
 
 abbrev entry : tie.At-loop Inv-loop μ-loop → tie.Start Inv-loop μ-loop
 entry c = c .before .before .before .before .before
