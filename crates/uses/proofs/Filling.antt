@@ -6,11 +6,10 @@ use mathlib.Core.Bool.{Bool, true, false}
 use Prim.Native.Nat.{ℕ, zero, suc, _+_, _-_, _*_, _≤_, _<_}
 use native.Mathlib.Numerals.{add-one}
 use native.Mathlib.Omega.{arith}
-use lib.ListN.{length, getD, set, take, drop, length-append, length-set, length-drop, List·getD-append}
+use lib.ListN.{length, getD, set, drop, length-append, length-set, List·getD-append}
 use lib.Seq.{ext-getD, getD-at, getD-append-add, getD-drop, getD-set-same, getD-set-other}
-use lib.Dec.{eqb, ltb}
+use lib.Dec.{ltb}
 use borrow.Author.Tests.{eq-eqb, ne-eqb, ltb-true, ltb-false}
-use Rattle.weights.specs.Choice.{pick}
 use Rattle.columns.specs.Columns.{tailOf}
 use Rattle.columns.specs.Filled.{filled, length-filled}
 use Rattle.uses.specs.Uses.{member, usesBelow, useList, pairs, pairsIn, useOffset, useCount}

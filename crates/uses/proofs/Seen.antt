@@ -3,20 +3,19 @@ use mathlib.Core.Path.{_≡_, refl, sym, _∙_, ap, fun-ext}
 use mathlib.Core.List.{List, [], _∷_, _++_}
 use mathlib.Core.Logic.{⊎-elim}
 use mathlib.Core.Bool.{Bool, true, false}
-use Prim.Native.Nat.{ℕ, zero, suc, _+_, _-_, _*_, _≤_, _<_}
+use Prim.Native.Nat.{ℕ, _+_, _*_, _≤_, _<_}
 use native.Mathlib.Numerals.{add-one}
 use native.Mathlib.Omega.{arith}
 use lib.ListN.{length, getD, take, drop, length-take, length-drop}
 use lib.Seq.{take-suc, take-all, getD-take, getD-drop}
-use lib.Dec.{eqb}
 use borrow.Author.Tests.{eq-eqb, ne-eqb}
 use Rattle.weights.specs.Choice.{pick}
-use Rattle.columns.specs.Columns.{part, tailOf}
+use Rattle.columns.specs.Columns.{tailOf}
 use Rattle.columns.specs.Accepted.{below-at}
 use Rattle.uses.specs.Uses.{member, usesBelow}
 use Rattle.uses.specs.Indexable.{TailReadable}
 use Rattle.uses.specs.Pairs.{same-or-not}
-use Rattle.uses.specs.Lists.{member-snoc, member-at, member-take}
+use Rattle.uses.specs.Lists.{either, member-snoc, member-at}
 
 -- the vertices of a list
 abbrev pub seenIn : List ℕ → ℕ → Bool
@@ -30,13 +29,9 @@ or-false : (b : Bool) → pick b true false ≡ b
 or-false true = refl
 or-false false = refl
 
-or-true : (b : Bool) → pick b true true ≡ true
-or-true true = refl
-or-true false = refl
-
 module _ (vs : List ℕ) (w : ℕ) where
   pub seen-now : member w (vs ++ w ∷ []) ≡ true
-  seen-now = member-snoc w vs w ∙ rw (eq-eqb w w refl) (or-true (member w vs))
+  seen-now = member-snoc w vs w ∙ rw (eq-eqb w w refl) (either (member w vs))
 
   pub seen-other : (v : ℕ) → (v ≡ w → ⊥) → member v (vs ++ w ∷ []) ≡ member v vs
   seen-other v d = member-snoc v vs w ∙ rw (ne-eqb v w d) (or-false (member v vs))

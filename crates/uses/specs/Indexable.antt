@@ -1,14 +1,14 @@
 -- What indexing asks of the lent columns, and what its passes leave in them, hyperedge by hyperedge. Assumes nothing: these are definitions.
 use mathlib.Core.Path.{_≡_}
 use mathlib.Core.Bool.{Bool, true, false}
-use mathlib.Core.List.{List, [], _∷_, _++_}
+use mathlib.Core.List.{List}
 use Prim.Native.Nat.{ℕ, zero, suc, _+_, _*_, _-_, _≤_, _<_}
 use lib.ListN.{length, getD}
 use lib.Dec.{eqb}
 use Rattle.weights.specs.Choice.{pick}
 use Rattle.columns.specs.Columns.{tailOf}
 use Rattle.columns.specs.Acceptance.{allBelow}
-use Rattle.uses.specs.Uses.{member, usesBelow, useList, pairs, pairsIn, useOffset, useCount}
+use Rattle.uses.specs.Uses.{member, usesBelow, useList, pairs, pairsIn, useOffset}
 
 -- the tail of hyperedge e stands in the column, and its vertices are below n
 pub record TailReadable (n : ℕ) (spans tails : List ℕ) (e : ℕ) : Type 0 where

@@ -2,9 +2,8 @@
 -- Assumes nothing.
 use mathlib.Core.Path.{_≡_, refl, sym, _∙_, ap}
 use mathlib.Core.Bool.{Bool, true, false}
-use mathlib.Core.List.{List, [], _∷_, _++_}
-use mathlib.Core.Logic.{⊎-elim}
-use Prim.Native.Nat.{ℕ, zero, suc, _+_, _*_, _≤_, _<_}
+use mathlib.Core.List.{List, [], _∷_}
+use Prim.Native.Nat.{ℕ, suc, _+_, _*_, _≤_, _<_}
 use native.Mathlib.Numerals.{add-one}
 use native.Mathlib.Omega.{arith}
 use lib.ListN.{length, getD, drop, List·getD-append}
@@ -12,7 +11,7 @@ use lib.Dec.{eqb}
 use borrow.Author.Tests.{eqb-true}
 use Rattle.weights.specs.Choice.{pick, apart}
 use Rattle.columns.specs.Filled.{filled, length-filled}
-use Rattle.uses.specs.Uses.{member, usesBelow, useList, pairs, useOffset, useCount, Indexed}
+use Rattle.uses.specs.Uses.{member, usesBelow, useList, useOffset, useCount, Indexed}
 use Rattle.uses.specs.Pairs.{length-pairs, pairs-first, pairs-second}
 use Rattle.uses.specs.Lists.{uses-sound, uses-complete, uses-ascend, offset-next, offset-end, uses-at}
 

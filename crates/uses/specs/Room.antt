@@ -1,20 +1,18 @@
 -- An accepted table can be indexed where the list has a place for each listed vertex: spans do not overlap, so no more uses than listed vertices. Assumes nothing.
-use mathlib.Core.Path.{_≡_, refl, sym, _∙_, ap, subst, subst₂}
-use mathlib.Core.Bool.{Bool, true, false}
+use mathlib.Core.Path.{_≡_, refl, _∙_, ap, subst₂}
 use mathlib.Core.List.{List, [], _∷_}
 use mathlib.Core.Logic.{⊎-elim}
-use Prim.Native.Nat.{ℕ, zero, suc, _+_, _*_, _-_, _≤_, _<_, min}
+use Prim.Native.Nat.{ℕ, zero, suc, _+_, _*_, _-_, _≤_, min}
 use native.Mathlib.Numerals.{add-one}
 use native.Mathlib.Omega.{arith}
-use lib.ListN.{length, getD, drop, length-take}
-use lib.Dec.{eqb}
+use lib.ListN.{length, drop, length-take}
 use borrow.Author.Tests.{eq-eqb, ne-eqb}
 use Rattle.refusal.specs.declared.Answer.the-variants.{Accepted}
 use Rattle.weights.specs.Choice.{pick}
 use Rattle.columns.specs.Columns.{Columns, offsetAt, lengthAt, tailAt}
 use Rattle.columns.specs.Acceptance.{edgeAt, edgesAcceptance, acceptance}
 use Rattle.columns.specs.Accepted.{both-accepted, edge-accepted, table-accepted}
-use Rattle.uses.specs.Uses.{member, usesBelow, useList, pairsIn, useOffset, Indexed}
+use Rattle.uses.specs.Uses.{member, usesBelow, useList, pairsIn, Indexed}
 use Rattle.uses.specs.Indexable.{Indexable}
 use Rattle.uses.specs.Pairs.{same-or-not}
 use Rattle.uses.specs.Lists.{true-or-false, uses-same, more-length, offset-next}

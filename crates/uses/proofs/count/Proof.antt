@@ -2,7 +2,6 @@
 use Rattle.uses.proofs.count.Statement.{statement}
 use Rattle.uses.proofs.count.Tie as tie
 use mathlib.Core.Path.{_≡_, sym, _∙_, ap, subst}
-use mathlib.Core.List.{List}
 use Prim.Native.Nat.{ℕ, _+_, _*_, _-_, _/_, _≤_, _<_}
 use native.Mathlib.Omega.{arith}
 use borrow.Author.Needs.{needs}
@@ -51,7 +50,8 @@ count-edge-requires : tie.Need-count-edge-requires Inv-loop μ-loop
 count-edge-requires c κs =
     let l = c .before .before in
     let s = entry (cleared l) in
-    counting (subst (λ (z : ℕ). Readable z (s .args .spans .now) (s .args .tails .now)) (sym (pairs-still (cleared l))) (s .pre .0)) (c .before .loop-test .taken) (as-many l) (l .loop .inv .1)
+    let h : l .loop .i < pairsIn (s .args .spans .now) = omega arith in
+    counting (subst (λ (z : ℕ). Readable z (s .args .spans .now) (s .args .tails .now)) (sym (pairs-still (cleared l))) (s .pre .0)) h (as-many l) (l .loop .inv .1)
 
 add-i : tie.Need-add-i Inv-loop μ-loop
 add-i c = omega arith

@@ -1,8 +1,8 @@
 -- `uses::count_edge` meets its contract. The invariant: the hyperedges below e are counted, and e for the vertices passed. Assumes nothing.
 use Rattle.uses.proofs.count_edge.Statement.{statement}
 use Rattle.uses.proofs.count_edge.Tie as tie
-use mathlib.Core.Path.{_≡_, refl, sym, _∙_, ap}
-use mathlib.Core.List.{List, []}
+use mathlib.Core.Path.{_≡_, sym, _∙_, ap}
+use mathlib.Core.List.{List}
 use mathlib.Core.Logic.{⊎-elim}
 use Prim.Native.Nat.{ℕ, _+_, _*_, _-_, _≤_, _<_}
 use native.Mathlib.Omega.{arith}

@@ -1,7 +1,6 @@
 -- `uses::ends_in` meets its contract. Assumes nothing.
 use Rattle.uses.proofs.ends_in.Statement.{statement}
 use Rattle.uses.proofs.ends_in.Tie as tie
-use native.Mathlib.Omega.{arith}
 use borrow.Author.Needs.{needs}
 use borrow.Author.Tests.{eq-eqb, ne-eqb}
 use Rattle.uses.specs.Indexable.{endsIn}

@@ -1,10 +1,9 @@
 -- `uses::fill` meets its contract. The invariant: the uses below i stand. Assumes nothing.
 use Rattle.uses.proofs.fill.Statement.{statement}
 use Rattle.uses.proofs.fill.Tie as tie
-use mathlib.Core.Path.{_≡_, refl, sym, _∙_, ap, subst}
-use Prim.Native.Nat.{ℕ, _+_, _*_, _-_, _/_, _≤_, _<_}
+use mathlib.Core.Path.{_≡_, sym, _∙_, ap, subst}
+use Prim.Native.Nat.{ℕ, _-_, _/_, _≤_, _<_}
 use native.Mathlib.Omega.{arith}
-use borrow.Author.Needs.{needs}
 use lib.ListN.{length}
 use Rattle.columns.specs.Columns.{tailOf}
 use Rattle.uses.specs.Uses.{pairsIn}
@@ -31,7 +30,10 @@ loop-holds : tie.Need-loop-holds Inv-loop μ-loop
 loop-holds c = (omega arith, fill-none _ _ _ _ _ (c .before .before .before .before .pre .offsets))
 
 fill-edge-requires : tie.Need-fill-edge-requires Inv-loop μ-loop
-fill-edge-requires c κs = let l = c .before .before .before in filling (entry l .pre .readable) (c .before .before .loop-test .taken) (as-many l) (entry l .pre .room) (l .loop .inv .1)
+fill-edge-requires c κs =
+    let l = c .before .before .before in
+    let h : l .loop .i < pairsIn (entry l .args .spans .now) = omega arith in
+    filling (entry l .pre .readable) h (as-many l) (entry l .pre .room) (l .loop .inv .1)
 
 add-i : tie.Need-add-i Inv-loop μ-loop
 add-i c = omega arith

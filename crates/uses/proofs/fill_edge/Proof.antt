@@ -1,15 +1,15 @@
 -- `uses::fill_edge` meets its contract. The invariant: the uses below e stand, and e for the vertices passed. Assumes nothing.
 use Rattle.uses.proofs.fill_edge.Statement.{statement}
 use Rattle.uses.proofs.fill_edge.Tie as tie
-use mathlib.Core.Path.{_≡_, refl, sym, _∙_, ap, subst, subst₂}
-use mathlib.Core.Bool.{Bool, true, false}
+use mathlib.Core.Path.{_≡_, sym, _∙_, ap, subst, subst₂}
+use mathlib.Core.Bool.{true}
 use mathlib.Core.List.{List, [], _∷_, _++_}
 use mathlib.Core.Logic.{⊎-elim}
 use Prim.Native.Nat.{ℕ, _+_, _*_, _-_, _≤_, _<_}
 use native.Mathlib.Omega.{arith}
 use borrow.Author.Needs.{needs}
 use borrow.Author.Tests.{not-true, not-false}
-use lib.ListN.{length, getD, take, length-set}
+use lib.ListN.{length, getD, take}
 use Rattle.columns.specs.Columns.{tailOf}
 use Rattle.uses.specs.Uses.{member, pairsIn, useOffset}
 use Rattle.uses.specs.Indexable.{TailReadable, endsIn}

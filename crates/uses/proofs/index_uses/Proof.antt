@@ -1,11 +1,8 @@
 -- `uses::index_uses` meets its contract: the passes follow one another. Assumes nothing.
 use Rattle.uses.proofs.index_uses.Statement.{statement}
 use Rattle.uses.proofs.index_uses.Tie as tie
-use mathlib.Core.Path.{_≡_}
-use Prim.Native.Nat.{_≤_}
 use native.Mathlib.Omega.{arith}
 use borrow.Author.Needs.{needs}
-use lib.ListN.{length}
 use Rattle.uses.proofs.Whole.{placeable, offset, indexed}
 
 count-requires : tie.Need-count-requires

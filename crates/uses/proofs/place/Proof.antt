@@ -2,10 +2,8 @@
 use Rattle.uses.proofs.place.Statement.{statement}
 use Rattle.uses.proofs.place.Tie as tie
 use mathlib.Core.Path.{_≡_, refl, sym, _∙_, ap}
-use mathlib.Core.List.{List}
-use Prim.Native.Nat.{ℕ, _+_, _*_, _-_, _≤_, _<_}
+use Prim.Native.Nat.{ℕ, _+_, _-_, _≤_}
 use native.Mathlib.Omega.{arith}
-use borrow.Author.Needs.{needs}
 use lib.ListN.{length, length-set}
 use Rattle.uses.specs.Uses.{pairsIn}
 use Rattle.uses.specs.Indexable.{running}
