@@ -1,5 +1,6 @@
 -- An accepted table can be indexed where the list has a place for each listed vertex: spans do not overlap, so no more uses than listed vertices. Assumes nothing.
 use mathlib.Core.Path.{_≡_, refl, _∙_, ap, subst₂}
+use mathlib.Core.Bool.{true}
 use mathlib.Core.List.{List, [], _∷_}
 use mathlib.Core.Logic.{⊎-elim}
 use Prim.Native.Nat.{ℕ, zero, suc, _+_, _*_, _-_, _≤_, min}
@@ -10,8 +11,8 @@ use borrow.Author.Tests.{eq-eqb, ne-eqb}
 use Rattle.refusal.specs.declared.Answer.the-variants.{Accepted}
 use Rattle.weights.specs.Choice.{pick}
 use Rattle.columns.specs.Columns.{Columns, offsetAt, lengthAt, tailAt}
-use Rattle.columns.specs.Acceptance.{edgeAt, edgesAcceptance, acceptance}
-use Rattle.columns.specs.Accepted.{both-accepted, edge-accepted, table-accepted}
+use Rattle.columns.specs.Acceptance.{allBelow, edgeAt, edgesAcceptance, acceptance}
+use Rattle.columns.specs.Accepted.{below-at, below-all, both-accepted, edge-accepted, table-accepted}
 use Rattle.uses.specs.Uses.{member, usesBelow, useList, pairsIn, Indexed}
 use Rattle.uses.specs.Indexable.{Indexable}
 use Rattle.uses.specs.Pairs.{same-or-not}
@@ -78,25 +79,29 @@ list-fits c n p =
 pub pairs-in : (xs : List ℕ) (n : ℕ) → length xs ≡ 2 * n → pairsIn xs ≡ n
 pairs-in xs n e = omega arith
 
-module _ (c : Columns) (index : List ℕ) (p : acceptance c ≡ Accepted) (two : length index ≡ 2 * c .vertices) where
+-- the index may have pairs for more vertices than the table has
+module _ (c : Columns) (p : acceptance c ≡ Accepted) (index : List ℕ) (n : ℕ) (two : length index ≡ 2 * n) (enough : c .vertices ≤ n) where
   spans-in : pairsIn (c .spans) ≡ length (c .heads)
   spans-in = pairs-in (c .spans) (length (c .heads)) (table-accepted c p .spans)
+
+  wider : (vs : List ℕ) → allBelow (c .vertices) vs ≡ true → allBelow n vs ≡ true
+  wider vs b = below-all n vs (λ k h. omega (arith, below-at (c .vertices) vs b k h))
 
   -- what indexing asks, of an accepted table
   pub table-indexable : (list : List ℕ) → length (c .tails) ≤ length list → Indexable (c .spans) (c .tails) index list
   table-indexable list room =
       let z = table-accepted c p in
       let s = spans-in in
-      let v = pairs-in index (c .vertices) two in
+      let v = pairs-in index n two in
       record {
         readable = record {
           even = omega (arith, z .spans);
-          each = λ e h. let g = z .each e (omega arith) .1 in record { within = g .within; listed = rw v (g .listed) };
+          each = λ e h. let g = z .each e (omega arith) .1 in record { within = g .within; listed = rw v (wider (tailAt c e) (g .listed)) };
         };
         even = omega arith;
-        room = rw (s, v) (omega (arith, list-fits c (c .vertices) p));
+        room = rw (s, v) (omega (arith, list-fits c n p));
       }
 
   -- and what it leaves, in the table's own numbers
-  pub table-indexed : {total : ℕ} {ix list old : List ℕ} → Indexed (tailAt c) (pairsIn (c .spans)) (pairsIn index) old total ix list → Indexed (tailAt c) (length (c .heads)) (c .vertices) old total ix list
-  table-indexed {total} {ix} {list} {old} x = subst₂ (λ (m n : ℕ). Indexed (tailAt c) m n old total ix list) spans-in (pairs-in index (c .vertices) two) x
+  pub table-indexed : {total : ℕ} {ix list old : List ℕ} → Indexed (tailAt c) (pairsIn (c .spans)) (pairsIn index) old total ix list → Indexed (tailAt c) (length (c .heads)) n old total ix list
+  table-indexed {total} {ix} {list} {old} x = subst₂ (λ (m n : ℕ). Indexed (tailAt c) m n old total ix list) spans-in (pairs-in index n two) x
