@@ -39,8 +39,12 @@ lengthAt c e = getD (c .spans) (2 * e + 1) 0
 abbrev pub part : (offset size : ℕ) → List ℕ → List ℕ
 part offset size xs = take size (drop offset xs)
 
+-- the parts that line e lists, by the two columns that say so
+abbrev pub tailOf : (spans tails : List ℕ) → ℕ → List ℕ
+tailOf spans tails e = part (getD spans (2 * e) 0) (getD spans (2 * e + 1) 0) tails
+
 abbrev pub tailAt : Columns → ℕ → List ℕ
-tailAt c e = part (offsetAt c e) (lengthAt c e) (c .tails)
+tailAt c = tailOf (c .spans) (c .tails)
 
 -- the table: gaps between spans are in no tail, and a line of the struck mark yields nothing
 abbrev pub hypergraph : Columns → Hypergraph

@@ -3,3 +3,4 @@ pub mod Acceptance
 pub mod Accepted
 pub mod Same
 pub mod Repriced
+pub mod Filled

@@ -7,6 +7,7 @@ use weights::Hyperedge;
 use weights::Vertex;
 use weights::Weight;
 ghost use mathlib.Core.Path.{_≡_};
+ghost use lib.ListN.{length, replicate};
 ghost use Rattle.columns.specs.Columns.{columns, answers};
 ghost use Rattle.columns.specs.Acceptance.{allBelow, edgeAcceptance, acceptance, lentAcceptance};
 
@@ -150,4 +151,15 @@ pub fn check_lent(
         return Answer::Refused(Refusal::AnswerLength);
     }
     Answer::Accepted
+}
+
+// Every place of a lent column becomes 0.
+pub fn clear(column: &mut [u64])
+    ensures { λ r. ⌜ now (column .exit) ≡ replicate (length (now (column .entry))) 0 ⌝ }
+{
+    let mut i = 0;
+    while i < column.len() {
+        column[i] = 0;
+        i += 1;
+    }
 }

@@ -16,7 +16,7 @@ use Rattle.refusal.specs.declared.Reading.the-variants as reading
 use Rattle.columns.specs.Acceptance.{mostVertices, mostEdges, mostListed, longestTail}
 use Rattle.text.specs.Machine.{Parse, Whole, Wrong, parse}
 use Rattle.text.specs.Render.{default, spoken, word, opening}
-use Rattle.text.specs.Filled.{filled, filled-none, filled-set}
+use Rattle.columns.specs.Filled.{filled, filled-none, filled-set}
 use Rattle.cursor.specs.declared.Found.{Found}
 use Rattle.cursor.specs.declared.Found.the-variants.{Number, NotANumber}
 use Rattle.cursor.specs.Cursor.{numberAt, weightAt}

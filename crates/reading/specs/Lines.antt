@@ -17,7 +17,7 @@ use Rattle.columns.specs.Acceptance.{mostVertices, mostEdges}
 use Rattle.text.specs.Tables.{Edge, edge, Table, total}
 use Rattle.text.specs.Render.{default, spoken, word, opening}
 use Rattle.text.specs.Machine.{begun, withEdge, nextLine, mayList, Parse, Whole, Wrong}
-use Rattle.text.specs.Filled.{filled}
+use Rattle.columns.specs.Filled.{filled}
 use Rattle.cursor.specs.declared.Found.{Found}
 use Rattle.cursor.specs.declared.Found.the-variants.{Number, NotANumber}
 use Rattle.cursor.specs.declared.FoundWeight.{FoundWeight}

@@ -23,7 +23,7 @@ use Rattle.text.specs.Tables.{Edge, edge, Table, total, headsOf, ownsOf, spansF
 use Rattle.text.specs.Machine.{withEdge, mayList, Parse, Whole, Wrong, parse}
 use Rattle.text.specs.Rows.{total-snoc, heads-append, owns-append, spans-append, tails-append, length-heads, length-owns, length-spans, length-tails}
 use Rattle.text.specs.Sound.{never}
-use Rattle.text.specs.Filled.{filled, filled-none, filled-set, filled-part, length-filled, part-whole, part-back}
+use Rattle.columns.specs.Filled.{filled, filled-none, filled-set, filled-part, length-filled, part-whole, part-back}
 use Rattle.cursor.specs.declared.Found.{Found}
 use Rattle.cursor.specs.declared.Found.the-variants.{Number, NotANumber}
 use Rattle.cursor.specs.Cursor.{numberAt}

@@ -15,7 +15,7 @@ use Rattle.refusal.specs.declared.Reading.the-variants as reading
 use Rattle.columns.specs.Columns.{Columns, columns}
 use Rattle.text.specs.Tables.{Edge, Table, total, headsOf, ownsOf, spansFrom, tailsOf}
 use Rattle.text.specs.Machine.{Parse, Whole, Wrong, parse}
-use Rattle.text.specs.Filled.{filled}
+use Rattle.columns.specs.Filled.{filled}
 use Rattle.reading.specs.Lines.{headerOf, readingOf}
 
 -- the answer, and the four columns at exit

@@ -20,7 +20,7 @@ use Rattle.columns.specs.Acceptance.{mostVertices, lentAcceptance}
 use Rattle.columns.specs.Accepted.{columns-accepted}
 use Rattle.settle.specs.Settling.{Outcome, settled}
 use Rattle.settle.specs.Demands.{answers-sized, settled-result, settled-left}
-use Rattle.text.specs.Filled.{filled}
+use Rattle.columns.specs.Filled.{filled}
 use Rattle.readtable.specs.Read.{ReadOutcome, readOutcome}
 use Rattle.writing.specs.Written.{Written, lent, lent-room, within, written-part, written-as}
 use Rattle.report.specs.Report.{mostInput, mostOutput, row, rows, list, refusedLine, pricedAs, priced, listedAs, listed, readInput, report}

@@ -27,7 +27,7 @@ use Rattle.text.specs.Digits.{pick-by}
 use Rattle.text.specs.Rows.{closed-accepted, length-heads, length-owns, length-spans, length-tails}
 use Rattle.text.specs.Sound.{sound}
 use Rattle.text.specs.Permitted.{FirstWrong}
-use Rattle.text.specs.Filled.{filled, take-filled, length-filled}
+use Rattle.columns.specs.Filled.{filled, take-filled, length-filled}
 use Rattle.reading.specs.Lines.{headerOf}
 use Rattle.readtable.specs.Read.{ReadOutcome, columnsRead, roomFor, readInto}
 use Rattle.roundtrip.specs.RoundTrip.{Room, headerFor, filledWith, held, read-accepted, read-rendered}

@@ -20,7 +20,7 @@ ghost use Rattle.provenance.specs.BestFirst.{blank};
 ghost use Rattle.columns.specs.Columns.{columns, answers};
 ghost use Rattle.settle.specs.Settling.{settled};
 ghost use Rattle.text.specs.Render.{digits};
-ghost use Rattle.text.specs.Filled.{filled};
+ghost use Rattle.columns.specs.Filled.{filled};
 ghost use Rattle.writing.specs.Written.{Written};
 ghost use Rattle.report.specs.Report.{stateWord, row, rows, list, refusedLine, priced, report};
 ghost use Rattle.report.specs.Pieces.{Lent, lentColumns};

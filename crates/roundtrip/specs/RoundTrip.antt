@@ -26,7 +26,7 @@ use Rattle.text.specs.Machine.{Parse, Whole, Wrong, parse}
 use Rattle.text.specs.Rows.{Fits, edges-of-columns, accepted-fits, fits-accepted, length-heads, length-owns, length-spans, length-tails}
 use Rattle.text.specs.Sound.{sound}
 use Rattle.text.specs.Complete.{complete}
-use Rattle.text.specs.Filled.{filled, take-filled}
+use Rattle.columns.specs.Filled.{filled, take-filled}
 use Rattle.reading.specs.Lines.{headerOf}
 use Rattle.readtable.specs.Read.{ReadOutcome, readOutcome, columnsRead, roomFor, readInto, readTable}
 use Rattle.writetable.specs.Write.{WriteOutcome, writeOutcome, writeText, writeAs, writeTable}

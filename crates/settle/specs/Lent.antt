@@ -6,7 +6,8 @@ use mathlib.Core.List.{List}
 use lib.ListN.{length, getD}
 use Rattle.refusal.specs.declared.Answer.the-variants.{Accepted}
 use Rattle.provenance.specs.BestFirst.{Answers}
-use Rattle.columns.specs.Columns.{Columns, columns, part}
+use Rattle.columns.specs.Columns.{Columns, columns}
+pub use Rattle.columns.specs.Columns.{tailOf}
 use Rattle.columns.specs.Acceptance.{mostVertices, acceptance}
 
 -- a table of as many vertices as the column of depths has places
@@ -16,10 +17,6 @@ lent heads own spans tails depths = columns (length depths) heads own spans tail
 -- what a column holds for a vertex
 abbrev pub cell : List ℕ → ℕ → ℕ
 cell xs v = getD xs v 0
-
--- the tail of hyperedge e
-abbrev pub tailOf : (spans tails : List ℕ) → ℕ → List ℕ
-tailOf spans tails e = part (cell spans (2 * e)) (cell spans (2 * e + 1)) tails
 
 -- a tail can be read: its vertices have their places, and one more than a depth does not wrap
 pub record Legible (tail ws ds : List ℕ) : Type 0 where

@@ -12,7 +12,7 @@ use weights::Weight;
 ghost use mathlib.Core.Path.{_≡_};
 ghost use mathlib.Core.Bool.{not};
 ghost use Prim.Native.Nat.{_<_, max};
-ghost use lib.ListN.{length, replicate};
+ghost use lib.ListN.{length};
 ghost use Rattle.weights.specs.Figures.{isStruck};
 ghost use Rattle.weights.specs.Measures.{algebra};
 ghost use Rattle.weights.specs.Labels.{entryOf};
@@ -169,17 +169,6 @@ fn turn(
     edges[v] = e.0;
 }
 
-// All zeros: unmade.
-fn clear(column: &mut [u64])
-    ensures { λ r. ⌜ now (column .exit) ≡ replicate (length (now (column .entry))) 0 ⌝ }
-{
-    let mut i = 0;
-    while i < column.len() {
-        column[i] = 0;
-        i += 1;
-    }
-}
-
 // Leaves the table's answers in the three answer columns, or refuses and leaves them as they are.
 pub fn settle(
     measure: Measure,
@@ -199,9 +188,9 @@ pub fn settle(
         Answer::Refused(r) => return Answer::Refused(r),
         Answer::Accepted => {}
     }
-    clear(weights);
-    clear(depths);
-    clear(edges);
+    columns::clear(weights);
+    columns::clear(depths);
+    columns::clear(edges);
     let mut k: u64 = 0;
     while k < n {
         turn(measure, heads, own, spans, tails, weights, depths, edges);

@@ -9,4 +9,3 @@ pub mod Places
 pub mod Permitted
 pub mod Prefixes
 pub mod Examples
-pub mod Filled

@@ -19,7 +19,7 @@ use Rattle.columns.specs.Accepted.{AcceptedTable, AcceptedEdge, AcceptedAt, tab
 use Rattle.text.specs.Tables.{Edge, edge, Table, edgesFrom, edgesOf}
 use Rattle.text.specs.Render.{header, edgeText, edgesText, tableText, render}
 use Rattle.text.specs.Rows.{EdgeFits}
-use Rattle.text.specs.Filled.{filled}
+use Rattle.columns.specs.Filled.{filled}
 use Rattle.writing.specs.Written.{Written, lent, lent-room, within, written-part, written-as}
 use Rattle.writing.specs.Widths.{line-most}
 use Rattle.writetable.specs.Write.{WriteOutcome, writeOutcome, writeText, writeAs, writeTable, Writable}

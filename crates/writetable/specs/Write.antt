@@ -15,7 +15,7 @@ use Rattle.refusal.specs.declared.Extent.the-variants as extent
 use Rattle.columns.specs.Columns.{Columns}
 use Rattle.columns.specs.Acceptance.{acceptance}
 use Rattle.text.specs.Render.{render}
-use Rattle.text.specs.Filled.{filled}
+use Rattle.columns.specs.Filled.{filled}
 
 -- the answer, and the room at exit
 pub record WriteOutcome : Type 0 where

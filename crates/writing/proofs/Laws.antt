@@ -17,7 +17,7 @@ use Rattle.text.specs.Render.{digits, word, measureText, ownText, tailText, edg
 use Rattle.text.specs.Digits.{pick-by, digits-one, digits-more, by-digits}
 use Rattle.text.specs.Rows.{EdgeFits}
 use Rattle.text.specs.Sound.{tail-text-append, tail-text-snoc}
-use Rattle.text.specs.Filled.{filled}
+use Rattle.columns.specs.Filled.{filled}
 use Rattle.writing.specs.Widths.{last-digit, width-more, width-one, one-listed}
 use Rattle.writing.specs.Written.{Written, written-byte, lent, lent-room, within, written-part, written-as, TailFits}
 

@@ -8,7 +8,7 @@ use native.Mathlib.Omega.{arith}
 use lib.ListN.{length, take, drop, set, length-append, length-drop, length-set}
 use Rattle.weights.specs.Figures.{struck}
 use Rattle.columns.specs.Acceptance.{mostVertices, longestTail, allBelow}
-use Rattle.text.specs.Filled.{filled, filled-none, filled-set, filled-part, length-filled, part-whole, part-back}
+use Rattle.columns.specs.Filled.{filled, filled-none, filled-set, filled-part, length-filled, part-whole, part-back}
 
 -- n bytes are written
 pub record Written (bytes old : List ℕ) (n : ℕ) (room : List ℕ) : Type 0 where

@@ -10,7 +10,7 @@ use lib.ListN.{length, getD, drop, length-drop}
 use Rattle.weights.specs.declared.Measure.{Measure}
 use Rattle.columns.specs.Acceptance.{mostVertices}
 use Rattle.text.specs.Render.{word, opening}
-use Rattle.text.specs.Filled.{part-whole}
+use Rattle.columns.specs.Filled.{part-whole}
 use Rattle.cursor.specs.declared.Found.the-variants.{Number}
 use Rattle.cursor.specs.Cursor.{numberAt}
 use Rattle.cursor.specs.Laws.{byte-within, number-counts}

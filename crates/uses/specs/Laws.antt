@@ -1,0 +1,88 @@
+-- What an index of uses tells those who read it: for each vertex exactly the hyperedges that list it, ascending, at its offset; offsets from 0 without gaps.
+-- Assumes nothing.
+use mathlib.Core.Path.{_≡_, refl, sym, _∙_, ap}
+use mathlib.Core.Bool.{Bool, true, false}
+use mathlib.Core.List.{List, [], _∷_}
+use Prim.Native.Nat.{ℕ, suc, _+_, _*_, _≤_, _<_}
+use native.Mathlib.Numerals.{add-one}
+use native.Mathlib.Omega.{arith}
+use lib.ListN.{length, getD, drop, List·getD-append}
+use lib.Dec.{eqb}
+use borrow.Author.Tests.{eqb-true}
+use Rattle.weights.specs.Choice.{pick, apart}
+use Rattle.columns.specs.Filled.{filled, length-filled}
+use Rattle.uses.specs.Uses.{member, usesBelow, useList, useOffset, useCount, Indexed}
+use Rattle.uses.specs.Pairs.{length-pairs, pairs-first, pairs-second}
+use Rattle.uses.specs.Lists.{uses-sound, uses-complete, uses-ascend, offset-next, offset-end, uses-at}
+
+-- a member stands somewhere in the list (`member-at` of Lists is the converse)
+pub member-found : (v : ℕ) (vs : List ℕ) → member v vs ≡ true → (i : ℕ) × ((i < length vs) × (getD vs i 0 ≡ v))
+unfolding member
+member-found v [] p = apart p
+member-found v (u ∷ us) p = go (eqb v u) refl p (member-found v us)
+  where
+    go : (b : Bool) → eqb v u ≡ b → pick b true (member v us) ≡ true → (member v us ≡ true → (i : ℕ) × ((i < length us) × (getD us i 0 ≡ v))) → (i : ℕ) × ((i < length (u ∷ us)) × (getD (u ∷ us) i 0 ≡ v))
+    go true e q f = (0, (omega arith, sym (eqb-true v u e)))
+    go false e q f = let s = f q in (suc (s .0), (omega (arith, s .1 .0), s .1 .1))
+
+module _ {tail : ℕ → List ℕ} {m n : ℕ} {old : List ℕ} {total : ℕ} {index list : List ℕ} (x : Indexed tail m n old total index list) where
+  -- two places for each vertex: its offset and its length
+  pub index-length : length index ≡ 2 * n
+  index-length = ap length (x .index-is) ∙ length-pairs (useOffset tail m) (useCount tail m) n
+
+  pub offset-is : (v : ℕ) → v < n → getD index (2 * v) 0 ≡ useOffset tail m v
+  offset-is v h = ap (λ (z : List ℕ). getD z (2 * v) 0) (x .index-is) ∙ pairs-first (useOffset tail m) (useCount tail m) n v h
+
+  pub length-is : (v : ℕ) → v < n → getD index (2 * v + 1) 0 ≡ useCount tail m v
+  length-is v h = ap (λ (z : List ℕ). getD z (2 * v + 1) 0) (x .index-is) ∙ pairs-second (useOffset tail m) (useCount tail m) n v h
+
+  -- from 0, without gaps, and within the list
+  pub offset-start : 0 < n → getD index 0 0 ≡ 0
+  unfolding useList
+  offset-start h = offset-is 0 h
+
+  pub offset-gapless : (v : ℕ) → v + 1 < n → getD index (2 * (v + 1)) 0 ≡ getD index (2 * v) 0 + getD index (2 * v + 1) 0
+  offset-gapless v h =
+      let a = offset-is (v + 1) h in
+      let b = offset-is v (omega arith) in
+      let c = length-is v (omega arith) in
+      let d = offset-next tail m v in
+      let e : useOffset tail m (v + 1) ≡ useOffset tail m (suc v) = ap (useOffset tail m) (add-one v) in
+      omega arith
+
+  pub uses-end : (v : ℕ) → v < n → getD index (2 * v) 0 + getD index (2 * v + 1) 0 ≤ total
+  uses-end v h = let a = offset-is v h in let b = length-is v h in let c = offset-end tail m v n h in let d = x .total-is in omega arith
+
+  pub uses-within : length (useList tail m n) ≤ length old → (v : ℕ) → v < n → getD index (2 * v) 0 + getD index (2 * v + 1) 0 ≤ length list
+  uses-within room v h =
+      let a = uses-end v h in
+      let d = x .total-is in
+      let l = ap length (x .list-is) ∙ length-filled (useList tail m n) old room in
+      omega arith
+
+  -- a use by its number
+  pub use-is : (v i : ℕ) → v < n → i < getD index (2 * v + 1) 0 → getD list (getD index (2 * v) 0 + i) 0 ≡ getD (usesBelow tail v m) i 0
+  unfolding filled
+  use-is v i h l =
+      let c = length-is v h in
+      let b = offset-end tail m v n h in
+      ap (λ (z : ℕ). getD list (z + i) 0) (offset-is v h)
+      ∙ ap (λ (z : List ℕ). getD z (useOffset tail m v + i) 0) (x .list-is)
+      ∙ List·getD-append (useList tail m n) (drop (length (useList tail m n)) old) 0 (useOffset tail m v + i) (omega arith)
+      ∙ uses-at tail m n v i h (omega arith)
+
+  -- each use is a hyperedge that lists the vertex, each such hyperedge is a use, and they ascend
+  pub use-sound : (v i : ℕ) → v < n → i < getD index (2 * v + 1) 0 → (getD list (getD index (2 * v) 0 + i) 0 < m) × (member v (tail (getD list (getD index (2 * v) 0 + i) 0)) ≡ true)
+  use-sound v i h l = let c = length-is v h in rw (use-is v i h l) (uses-sound tail v m i (omega arith))
+
+  pub use-complete : (v e : ℕ) → v < n → e < m → member v (tail e) ≡ true → (i : ℕ) × ((i < getD index (2 * v + 1) 0) × (getD list (getD index (2 * v) 0 + i) 0 ≡ e))
+  use-complete v e h l p =
+      let f = uses-complete tail v m e l p in
+      let c = length-is v h in
+      let b : f .0 < getD index (2 * v + 1) 0 = omega (arith, f .1 .0) in
+      (f .0, (b, use-is v (f .0) h b ∙ f .1 .1))
+
+  pub use-ascend : (v i j : ℕ) → v < n → i < j → j < getD index (2 * v + 1) 0 → getD list (getD index (2 * v) 0 + i) 0 < getD list (getD index (2 * v) 0 + j) 0
+  use-ascend v i j h k l =
+      let c = length-is v h in
+      rw (use-is v i h (omega arith), use-is v j h l) (uses-ascend tail v m i j k (omega arith))

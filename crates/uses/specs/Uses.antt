@@ -1,0 +1,50 @@
+-- The index of uses: for each vertex the hyperedges that list it, ascending and each once, struck ones too, in one list; and a column of pairs that says where the
+-- uses of a vertex stand there: the offset, then the length. Assumes nothing: these are definitions.
+use mathlib.Core.Path.{_≡_}
+use mathlib.Core.Bool.{Bool, true, false}
+use mathlib.Core.List.{List, [], _∷_, _++_}
+use Prim.Native.Nat.{ℕ, zero, suc, _/_}
+use lib.ListN.{length}
+use lib.Dec.{eqb}
+use Rattle.weights.specs.Choice.{pick}
+use Rattle.columns.specs.Filled.{filled}
+
+-- v is in the list
+unfoldable pub member : ℕ → List ℕ → Bool
+member v [] = false
+member v (w ∷ ws) = pick (eqb v w) true (member v ws)
+
+-- of the hyperedges below k those that list v
+unfoldable pub usesBelow : (tail : ℕ → List ℕ) → (v k : ℕ) → List ℕ
+usesBelow tail v zero = []
+usesBelow tail v (suc k) = pick (member v (tail k)) (usesBelow tail v k ++ k ∷ []) (usesBelow tail v k)
+
+-- of m hyperedges the uses of the vertices below n, one vertex after the other
+unfoldable pub useList : (tail : ℕ → List ℕ) → (m n : ℕ) → List ℕ
+useList tail m zero = []
+useList tail m (suc n) = useList tail m n ++ usesBelow tail n m
+
+-- a column of two places for each vertex
+unfoldable pub pairs : (first second : ℕ → ℕ) → ℕ → List ℕ
+pairs f g zero = []
+pairs f g (suc n) = pairs f g n ++ f n ∷ g n ∷ []
+
+-- how many pairs a column of pairs holds
+abbrev pub pairsIn : List ℕ → ℕ
+pairsIn xs = length xs / 2
+
+-- where the uses of v start in the list, and how many there are
+abbrev pub useOffset : (tail : ℕ → List ℕ) → (m v : ℕ) → ℕ
+useOffset tail m v = length (useList tail m v)
+
+abbrev pub useCount : (tail : ℕ → List ℕ) → (m v : ℕ) → ℕ
+useCount tail m v = length (usesBelow tail v m)
+
+abbrev pub usePairs : (tail : ℕ → List ℕ) → (m n : ℕ) → List ℕ
+usePairs tail m n = pairs (useOffset tail m) (useCount tail m) n
+
+-- what indexing returns and leaves: the length of the list, the pairs, and the list at the start of a lent column
+pub record Indexed (tail : ℕ → List ℕ) (m n : ℕ) (old : List ℕ) (total : ℕ) (index list : List ℕ) : Type 0 where
+  pub total-is : total ≡ length (useList tail m n)
+  pub index-is : index ≡ usePairs tail m n
+  pub list-is : list ≡ filled (useList tail m n) old

@@ -1,0 +1,120 @@
+// The index of uses: which hyperedges list a vertex. Two passes over the tails, counting and then
+// filling; no tail is searched for a vertex that it lists twice.
+ghost use mathlib.Core.Path.{_≡_};
+ghost use Prim.Native.Nat.{_+_, _*_, _≤_};
+ghost use lib.ListN.{length};
+ghost use Rattle.columns.specs.Columns.{tailOf};
+ghost use Rattle.uses.specs.Uses.{pairsIn, Indexed};
+ghost use Rattle.uses.specs.Indexable.{Readable, Indexable, counted, Counting, running, Placeable, placed, endsIn, FilledTo, Filling, Offset};
+
+// Counts hyperedge e as a use of each vertex that it lists. The first place of a vertex is a mark
+// meanwhile: the last hyperedge counted there, and 1 more.
+fn count_edge(e: u64, spans: &[u64], tails: &[u64], index: &mut [u64])
+    requires { ⌜ Counting e (now spans) (now tails) (now index) ⌝ }
+    ensures { λ r. ⌜ now (index .exit) ≡ counted (tailOf (now (spans .entry)) (now (tails .entry))) (e + 1) (pairsIn (now (index .entry))) ⌝ }
+{
+    let line = e as usize;
+    let from = spans[2 * line] as usize;
+    let size = spans[2 * line + 1] as usize;
+    let mut i = 0;
+    while i < size {
+        let v = tails[from + i] as usize;
+        let mark = index[2 * v];
+        if mark != e + 1 {
+            let count = index[2 * v + 1];
+            index[2 * v] = e + 1;
+            index[2 * v + 1] = count + 1;
+        }
+        i += 1;
+    }
+}
+
+// Counts the uses of every vertex, whatever stood in the index.
+fn count(spans: &[u64], tails: &[u64], index: &mut [u64])
+    requires { ⌜ (Readable (pairsIn (now index)) (now spans) (now tails)) × (length (now index) ≡ 2 * pairsIn (now index)) ⌝ }
+    ensures { λ r. ⌜ now (index .exit) ≡ counted (tailOf (now (spans .entry)) (now (tails .entry))) (pairsIn (now (spans .entry))) (pairsIn (now (index .entry))) ⌝ }
+{
+    columns::clear(index);
+    let m = spans.len() / 2;
+    let mut i = 0;
+    while i < m {
+        count_edge(i as u64, spans, tails, index);
+        i += 1;
+    }
+}
+
+// Turns the counts into offsets, with lengths of 0; returns the sum of the counts.
+fn place(index: &mut [u64]) -> u64
+    requires { ⌜ Placeable (now index) ⌝ }
+    ensures { λ r. ⌜ (r ≡ running (now (index .entry)) (pairsIn (now (index .entry)))) × (now (index .exit) ≡ placed (now (index .entry)) (pairsIn (now (index .entry)))) ⌝ }
+{
+    let n = index.len() / 2;
+    let mut sum: u64 = 0;
+    let mut v = 0;
+    while v < n {
+        let count = index[2 * v + 1];
+        index[2 * v] = sum;
+        index[2 * v + 1] = 0;
+        sum += count;
+        v += 1;
+    }
+    sum
+}
+
+// Whether e is the last of the k hyperedges from a place on.
+fn ends_in(list: &[u64], from: usize, k: usize, e: u64) -> bool
+    requires { ⌜ from + k ≤ length (now list) ⌝ }
+    ensures { λ r. ⌜ r ≡ endsIn (now (list .entry)) from k e ⌝ }
+{
+    if k == 0 {
+        return false;
+    }
+    let last = list[from + k - 1];
+    last == e
+}
+
+// Puts hyperedge e behind the uses of each vertex that it lists, once.
+fn fill_edge(e: u64, spans: &[u64], tails: &[u64], index: &mut [u64], list: &mut [u64])
+    requires { ⌜ Filling e (now spans) (now tails) (now index) (now list) ⌝ }
+    ensures { λ r. ⌜ FilledTo (tailOf (now (spans .entry)) (now (tails .entry))) (pairsIn (now (spans .entry))) (pairsIn (now (index .entry))) (e + 1) (now (index .exit)) (now (list .exit)) (now (list .entry)) ⌝ }
+{
+    let line = e as usize;
+    let from = spans[2 * line] as usize;
+    let size = spans[2 * line + 1] as usize;
+    let mut i = 0;
+    while i < size {
+        let v = tails[from + i] as usize;
+        let start = index[2 * v] as usize;
+        let k = index[2 * v + 1] as usize;
+        if !ends_in(list, start, k, e) {
+            list[start + k] = e;
+            index[2 * v + 1] = k as u64 + 1;
+        }
+        i += 1;
+    }
+}
+
+// Fills the list, each vertex's uses from its offset on; the lengths then stand in the index.
+fn fill(spans: &[u64], tails: &[u64], index: &mut [u64], list: &mut [u64])
+    requires { ⌜ Offset (now spans) (now tails) (now index) (now list) ⌝ }
+    ensures { λ r. ⌜ FilledTo (tailOf (now (spans .entry)) (now (tails .entry))) (pairsIn (now (spans .entry))) (pairsIn (now (index .entry))) (pairsIn (now (spans .entry))) (now (index .exit)) (now (list .exit)) (now (list .entry)) ⌝ }
+{
+    let edges = spans.len() / 2;
+    let mut i = 0;
+    while i < edges {
+        fill_edge(i as u64, spans, tails, index, list);
+        i += 1;
+    }
+}
+
+// Leaves the index of uses in `index`, an offset and a length for each vertex, and in `list`, which
+// keeps what stands behind it; returns the length of the list.
+pub fn index_uses(spans: &[u64], tails: &[u64], index: &mut [u64], list: &mut [u64]) -> u64
+    requires { ⌜ Indexable (now spans) (now tails) (now index) (now list) ⌝ }
+    ensures { λ r. ⌜ Indexed (tailOf (now (spans .entry)) (now (tails .entry))) (pairsIn (now (spans .entry))) (pairsIn (now (index .entry))) (now (list .entry)) r (now (index .exit)) (now (list .exit)) ⌝ }
+{
+    count(spans, tails, index);
+    let total = place(index);
+    fill(spans, tails, index, list);
+    total
+}
