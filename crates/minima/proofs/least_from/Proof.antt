@@ -1,0 +1,60 @@
+-- `minima::least_from` meets its contract: the invariant: the least of the places so far. Assumes nothing.
+use Rattle.minima.proofs.least_from.Statement.{statement}
+use Rattle.minima.proofs.least_from.Tie as tie
+use mathlib.Core.Path.{_≡_, refl, sym, _∙_, ap, ap₂}
+use Prim.Native.Nat.{ℕ, _+_, _≤_, _<_, _-_, min}
+use native.Mathlib.Omega.{arith}
+use native.Mathlib.Numerals.{add-one}
+use lib.ListN.{length, length-set, set}
+use borrow.Author.Needs.{needs}
+use Rattle.minima.specs.Minima.{leastFrom}
+use Rattle.minima.specs.Laws.{least-start, least-more}
+
+abbrev Inv-loop : tie.InvT-loop
+Inv-loop q at k least₀ i₀ least i = (i ≤ k) × (least ≡ leastFrom q at i)
+
+abbrev μ-loop : tie.MeasureT-loop
+μ-loop q at k least₀ i₀ least i = k - i
+
+loop-holds : tie.Need-loop-holds Inv-loop μ-loop
+loop-holds c = (omega arith, least-start _ _)
+
+add-key : tie.Need-add-key Inv-loop μ-loop
+add-key c = search needs
+
+mul-key : tie.Need-mul-key Inv-loop μ-loop
+mul-key c = search needs
+
+shared-slice-read-key : tie.Need-shared-slice-read-key Inv-loop μ-loop
+shared-slice-read-key c = search needs
+
+lesser-requires : tie.Need-lesser-requires Inv-loop μ-loop
+lesser-requires c κs = search needs
+
+add-i : tie.Need-add-i Inv-loop μ-loop
+add-i c = search needs
+
+loop-less : tie.Need-loop-less Inv-loop μ-loop
+loop-less c = search needs
+
+loop-again : tie.Need-loop-again Inv-loop μ-loop
+loop-again c = (omega arith, c .lesser .ensures ∙ least-more _ _ _ (c .before .before .before .loop .inv .1))
+
+returns : tie.Need-returns Inv-loop μ-loop
+returns c = let l = c .before in let e : l .loop .i ≡ l .before .before .args .k = omega arith in l .loop .inv .1 ∙ ap (leastFrom (l .before .before .args .q .now) (l .before .before .args .at)) e
+
+pub least-from-spec : {M : Type 1} → statement M
+least-from-spec =
+    tie.close
+    (tie.spec
+    Inv-loop
+    μ-loop
+    loop-holds
+    add-key
+    mul-key
+    shared-slice-read-key
+    lesser-requires
+    add-i
+    loop-less
+    loop-again
+    returns)

@@ -1,0 +1,4 @@
+pub mod Keys
+pub mod Packing
+pub mod Waiting
+pub mod Queue
