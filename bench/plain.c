@@ -77,44 +77,41 @@ static uint64_t check(struct view *t, uint64_t measure, uint64_t n, TABLE_COLUMN
 struct search {
     uint64_t weight[TOZBIERDU_MOST_LINES];
     uint16_t depth[TOZBIERDU_MOST_LINES], missing[TOZBIERDU_MOST_LINES];
-    uint16_t heap[TOZBIERDU_MOST_LINES];
+    uint64_t heap[TOZBIERDU_MOST_LINES];
     unsigned ready;
     uint16_t first[TOZBIERDU_MOST_PARTS + 2], uses[TOZBIERDU_MOST_TAILS];
 };
 
-/* Figure, then depth, then the line's number. */
-static int before(const struct search *s, unsigned a, unsigned b)
+/* Figure, then depth, then the line's number, in one number. */
+static uint64_t key(const struct search *s, unsigned line)
 {
-    if (s->weight[a] != s->weight[b])
-        return s->weight[a] < s->weight[b];
-    if (s->depth[a] != s->depth[b])
-        return s->depth[a] < s->depth[b];
-    return a < b;
+    return s->weight[line] << 23 | (uint64_t)s->depth[line] << 12 | line;
 }
 
 static void push(struct search *s, unsigned line)
 {
     unsigned at = s->ready++;
+    uint64_t k = key(s, line);
 
-    for (; at > 0 && before(s, line, s->heap[(at - 1) / 2]); at = (at - 1) / 2)
+    for (; at > 0 && k < s->heap[(at - 1) / 2]; at = (at - 1) / 2)
         s->heap[at] = s->heap[(at - 1) / 2];
-    s->heap[at] = line;
+    s->heap[at] = k;
 }
 
 static unsigned pop(struct search *s)
 {
-    unsigned least = s->heap[0], last = s->heap[--s->ready], at = 0, next;
+    uint64_t least = s->heap[0], last = s->heap[--s->ready];
+    unsigned at = 0, next;
 
     while ((next = 2 * at + 1) < s->ready) {
-        if (next + 1 < s->ready && before(s, s->heap[next + 1], s->heap[next]))
-            next++;
-        if (!before(s, s->heap[next], last))
+        next += next + 1 < s->ready && s->heap[next + 1] < s->heap[next];
+        if (s->heap[next] >= last)
             break;
         s->heap[at] = s->heap[next];
         at = next;
     }
     s->heap[at] = last;
-    return least;
+    return least & 4095;
 }
 
 /* For each part the lines that need it, once for each time. */

@@ -20,7 +20,7 @@ use Rattle.provenance.specs.Support.{bills, bill}
 use Rattle.columns.specs.Columns.{Columns, ownAt, tailAt, hypergraph}
 use Rattle.columns.specs.Acceptance.{acceptance, allBelow}
 use Rattle.columns.specs.Accepted.{AcceptedColumns, AcceptedTable, table-accepted}
-use Rattle.settle.specs.Lent.{cell}
+use Rattle.offers.specs.Lent.{cell}
 use Rattle.bill.specs.declared.Budget.{Budget}
 use Rattle.bill.specs.declared.Budget.the-variants.{Left, Spent}
 use Rattle.bill.specs.Walk.{lists, choices, vertexBill, Each, Grounded, VertexFits, Written, spend}

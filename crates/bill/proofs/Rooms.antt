@@ -7,7 +7,8 @@ use native.Mathlib.Omega.{arith}
 use lib.ListN.{length, getD, take, drop, set, length-set, length-append, length-take, length-drop, take-append-drop, drop-of-length-le}
 use lib.Seq.{take-all, take-at, drop-at, drop-drop}
 use borrow.Rule.Slice.PartMut.{putMid}
-use Rattle.settle.specs.Lent.{cell, tailOf}
+use Rattle.columns.specs.Columns.{tailOf}
+use Rattle.offers.specs.Lent.{cell}
 use Rattle.bill.specs.Walk.{vertexBill, tailBill, AllGrounded, VertexFits, TailFits, written, Written}
 use Rattle.bill.proofs.Walks.{Below, grounded, each-first, each-rest, rest, bills-none, bills-more, bills-length}
 

@@ -11,7 +11,8 @@ use borrow.Author.Tests.{le-leb, lt-leb}
 use Rattle.weights.specs.Choice.{pick}
 use Rattle.provenance.specs.Support.{bills, bill}
 use Rattle.columns.specs.Acceptance.{longestTail}
-use Rattle.settle.specs.Lent.{cell, tailOf}
+use Rattle.columns.specs.Columns.{tailOf}
+use Rattle.offers.specs.Lent.{cell}
 use Rattle.bill.specs.declared.Budget.{Budget}
 use Rattle.bill.specs.declared.Budget.the-variants.{Left, Spent}
 use Rattle.bill.specs.Walk.{lists, choices, vertexBill, tailBill, Placed, Each, Grounded, AllGrounded, VertexFits, TailFits, written, Written, spend}

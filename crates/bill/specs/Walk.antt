@@ -12,7 +12,8 @@ use Rattle.provenance.specs.BestFirst.{labels}
 use Rattle.provenance.specs.Support.{bills, bill}
 use Rattle.columns.specs.Columns.{columns, answers, hypergraph}
 use Rattle.columns.specs.Acceptance.{longestTail}
-use Rattle.settle.specs.Lent.{cell, tailOf}
+use Rattle.columns.specs.Columns.{tailOf}
+use Rattle.offers.specs.Lent.{cell}
 use Rattle.bill.specs.declared.Budget.{Budget}
 use Rattle.bill.specs.declared.Budget.the-variants.{Left, Spent}
 

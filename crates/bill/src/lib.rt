@@ -9,8 +9,7 @@ use weights::Measure;
 use weights::Vertex;
 ghost use mathlib.Core.Path.{_≡_};
 ghost use lib.ListN.{length};
-ghost use Rattle.columns.specs.Columns.{columns, answers};
-ghost use Rattle.settle.specs.Lent.{tailOf};
+ghost use Rattle.columns.specs.Columns.{columns, answers, tailOf};
 ghost use Rattle.bill.specs.Billing.{partAcceptance, billed};
 ghost use Rattle.bill.specs.Walk.{vertexBill, tailBill, Placed, Grounded, AllGrounded, VertexFits, TailFits, Written, spend};
 

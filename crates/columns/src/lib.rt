@@ -153,13 +153,13 @@ pub fn check_lent(
     Answer::Accepted
 }
 
-// Every place of a lent column becomes 0.
-pub fn clear(column: &mut [u64])
-    ensures { λ r. ⌜ now (column .exit) ≡ replicate (length (now (column .entry))) 0 ⌝ }
+// Every place of a lent column becomes x.
+pub fn set_all(column: &mut [u64], x: u64)
+    ensures { λ r. ⌜ now (column .exit) ≡ replicate (length (now (column .entry))) x ⌝ }
 {
     let mut i = 0;
     while i < column.len() {
-        column[i] = 0;
+        column[i] = x;
         i += 1;
     }
 }

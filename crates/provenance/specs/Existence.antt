@@ -176,7 +176,7 @@ gaps-none [] i h z = absurd (omega arith)
 gaps-none (x ∷ ls) zero h z = omega arith
 gaps-none (x ∷ ls) (suc i) h z = omega (arith, gaps-none ls i (omega arith) z)
 
-zeros : (n v : ℕ) → getD {A = ℕ} (replicate n 0) v 0 ≡ 0
+pub zeros : (n v : ℕ) → getD {A = ℕ} (replicate n 0) v 0 ≡ 0
 zeros zero v = refl
 zeros (suc n) zero = refl
 zeros (suc n) (suc v) = zeros n v

@@ -19,10 +19,10 @@ use Rattle.columns.specs.Columns.{Columns, columns, ownAt, hypergraph}
 use Rattle.columns.specs.Acceptance.{mostVertices, acceptance, lentAcceptance, allBelow}
 use Rattle.columns.specs.Accepted.{AcceptedColumns, table-accepted, well-formed, below-at, below-all}
 use Rattle.columns.specs.Same.{same, same-refl, same-not}
-use Rattle.settle.specs.Lent.{Turning}
+use Rattle.offers.specs.Lent.{Turning}
 use Rattle.settle.specs.Settling.{answersOf}
 use Rattle.settle.specs.Checking.{checked}
-use Rattle.settle.proofs.Settled.{same-table, turning-columns}
+use Rattle.offers.specs.Laws.{same-table, turning-columns}
 
 module _ (m : Measure) (c : Columns) (a : Answers) where
   pub checked-refused : (r : Refusal) → lentAcceptance c a ≡ Refused r → verdict.Refused r ≡ checked m c a

@@ -1,71 +1,51 @@
--- From a turn to the whole: the laws by which `settle` goes. Assumes nothing.
+-- From best-first to the whole call: the laws by which `settle` goes. Assumes nothing.
 use mathlib.Core.Path.{_≡_, refl, sym, _∙_, ap, subst}
 use mathlib.Core.List.{List}
-use Prim.Native.Nat.{ℕ, _+_, _≤_}
-use native.Mathlib.Numerals.{add-one}
+use Prim.Native.Nat.{ℕ, _≤_}
 use native.Mathlib.Omega.{arith}
-use lib.ListN.{length, replicate}
+use lib.ListN.{length, getD, replicate, length-replicate}
 use Rattle.weights.specs.declared.Measure.{Measure}
 use Rattle.weights.specs.Measures.{algebra}
-use Rattle.weights.specs.Laws.{lawful}
 use Rattle.refusal.specs.declared.Refusal.{Refusal}
 use Rattle.refusal.specs.declared.Answer.the-variants.{Accepted, Refused}
-use Rattle.provenance.specs.BestFirst.{Answers, turn, turns, best-first}
-use Rattle.provenance.specs.Existence.{Sized, After, after}
+use Rattle.provenance.specs.BestFirst.{Answers, turns, best-first}
+use Rattle.provenance.specs.Existence.{Sized, zeros}
 use Rattle.columns.specs.Columns.{Columns, columns, answers, ownAt, hypergraph}
-use Rattle.columns.specs.Acceptance.{mostVertices, acceptance, lentAcceptance}
-use Rattle.columns.specs.Accepted.{table-accepted, well-formed}
-use Rattle.settle.specs.Lent.{cell, Turning}
+use Rattle.columns.specs.Acceptance.{lentAcceptance}
+use Rattle.columns.specs.Accepted.{AcceptedColumns}
+use Rattle.offers.specs.Laws.{same-table, turning-columns}
+use Rattle.bestfirst.specs.Turns.{Unmade}
 use Rattle.settle.specs.Settling.{answersOf, settled}
-
--- k turns on a table
-abbrev pub turnsOf : Measure → Columns → ℕ → Answers
-turnsOf m c = turns (algebra m) (hypergraph c) (ownAt c)
 
 module _ (m : Measure) (c : Columns) (a : Answers) where
   pub settled-refused : (r : Refusal) → lentAcceptance c a ≡ Refused r → record { result = Refused r; left = a } ≡ settled m c a
   unfolding settled
   settled-refused r p = rw p
 
-  pub settled-all : (b : Answers) → lentAcceptance c a ≡ Accepted → b ≡ turnsOf m c (c .vertices) → record { result = Accepted; left = b } ≡ settled m c a
-  unfolding settled answersOf best-first
+  pub settled-all : (b : Answers) → lentAcceptance c a ≡ Accepted → b ≡ best-first (algebra m) (hypergraph c) (ownAt c) → record { result = Accepted; left = b } ≡ settled m c a
+  unfolding settled answersOf
   settled-all b p q = rw (p, q)
 
--- the cleared columns are those before the first turn
-pub cleared : (m : Measure) (c : Columns) {ws ds es : List ℕ} (a : Answers) → ws ≡ replicate (length (a .weights)) 0 → ds ≡ replicate (length (a .depths)) 0 → es ≡ replicate (length (a .edges)) 0 → Sized (c .vertices) a → answers ws ds es ≡ turnsOf m c 0
-unfolding turns
-cleared m c a p q r s = rw (p, q, r, s .weights, s .depths, s .edges)
+  -- the columns are set to 0
+  module _ (h : AcceptedColumns c a) {ws ds es : List ℕ} (p : ws ≡ replicate (length (a .weights)) 0) (q : ds ≡ replicate (length (a .depths)) 0) (r : es ≡ replicate (length (a .edges)) 0) where
+    weights-long : length ws ≡ c .vertices
+    weights-long = ap length p ∙ length-replicate (length (a .weights)) 0 ∙ h .sized .weights
 
--- a table of n vertices and the same columns: by the length of a column, it is the table
-abbrev pub same-table : Columns → ℕ → Columns
-same-table c n = columns n (c .heads) (c .own) (c .spans) (c .tails)
+    pub depths-long : length ds ≡ c .vertices
+    depths-long = ap length q ∙ length-replicate (length (a .depths)) 0 ∙ h .sized .depths
 
-pub turning-columns : (c : Columns) (a : Answers) → acceptance c ≡ Accepted → Sized (c .vertices) a → ((v : ℕ) → cell (a .depths) v ≤ mostVertices) → Turning (same-table c (length (a .depths))) a
-turning-columns c a p s shallow =
-    record {
-      usable = record {
-        accepted = subst (λ (n : ℕ). acceptance (same-table c n) ≡ Accepted) (sym (s .depths)) p;
-        level = s .weights ∙ sym (s .depths);
-        vertices = refl;
-        shallow = shallow;
-      };
-      edges = s .edges ∙ sym (s .depths);
+    edges-long : length es ≡ c .vertices
+    edges-long = ap length r ∙ length-replicate (length (a .edges)) 0 ∙ h .sized .edges
+
+    cleared : answers ws ds es ≡ turns (algebra m) (hypergraph c) (ownAt c) 0
+    unfolding turns
+    cleared = rw (p, q, r, h .sized .weights, h .sized .depths, h .sized .edges)
+
+    pub all-unmade : Unmade m (same-table c (length ds)) (answers ws ds es)
+    all-unmade = record {
+      turning = turning-columns c (answers ws ds es) (h .table) (record { weights = weights-long; depths = depths-long; edges = edges-long }) (λ v. omega (arith, ap (λ (x : List ℕ). getD x v 0) q, zeros (length (a .depths)) v));
+      blank = subst (λ (n : ℕ). answers ws ds es ≡ turns (algebra m) (hypergraph (same-table c n)) (ownAt c) 0) (sym depths-long) cleared;
     }
 
-module _ (m : Measure) (c : Columns) (p : acceptance c ≡ Accepted) {a : Answers} (k : ℕ) (q : a ≡ turnsOf m c k) where
-  -- after k turns
-  so-far : After (algebra m) (hypergraph c) (ownAt c) k a
-  so-far = subst (After (algebra m) (hypergraph c) (ownAt c) k) (sym q) (after (lawful m) (ownAt c) (well-formed c p) k)
-
-  pub sizes : Sized (c .vertices) a
-  sizes = so-far .size
-
-  pub turning : k ≤ c .vertices → Turning (same-table c (length (a .depths))) a
-  turning h = turning-columns c a p sizes (λ v. omega (arith, so-far .shallow v, table-accepted c p .few))
-
-  -- one turn more
-  pub turns-more : {b : Answers} → b ≡ turn (algebra m) (hypergraph (same-table c (length (a .depths)))) (ownAt c) a → b ≡ turnsOf m c (k + 1)
-  unfolding turns
-  turns-more {b} t =
-      let t′ : b ≡ turn (algebra m) (hypergraph c) (ownAt c) a = subst (λ (n : ℕ). b ≡ turn (algebra m) (hypergraph (same-table c n)) (ownAt c) a) (sizes .depths) t in
-      t′ ∙ rw (add-one, ← q)
+    pub labelled : {b : Answers} → b ≡ best-first (algebra m) (hypergraph (same-table c (length ds))) (ownAt c) → b ≡ best-first (algebra m) (hypergraph c) (ownAt c)
+    labelled {b} e = subst (λ (n : ℕ). b ≡ best-first (algebra m) (hypergraph (same-table c n)) (ownAt c)) depths-long e

@@ -1,4 +1,3 @@
-pub mod Lent
 pub mod Settling
 pub mod Checking
 pub mod Demands

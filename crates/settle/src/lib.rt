@@ -1,5 +1,6 @@
 // Settling a table that is lent as columns: every vertex gets the label of its chosen derivation,
 // found best first. And the check that lent answers are those labels.
+use offers::offer;
 use refusal::Answer;
 use refusal::Verdict;
 use weights::Entry;
@@ -10,164 +11,16 @@ use weights::Offer;
 use weights::Vertex;
 use weights::Weight;
 ghost use mathlib.Core.Path.{_≡_};
-ghost use mathlib.Core.Bool.{not};
-ghost use Prim.Native.Nat.{_<_, max};
+ghost use Prim.Native.Nat.{_<_};
 ghost use lib.ListN.{length};
-ghost use Rattle.weights.specs.Figures.{isStruck};
 ghost use Rattle.weights.specs.Measures.{algebra};
 ghost use Rattle.weights.specs.Labels.{entryOf};
-ghost use Rattle.provenance.specs.Labelling.{offerOf};
-ghost use Rattle.provenance.specs.BestFirst.{labels, earlier, next, turn};
+ghost use Rattle.provenance.specs.BestFirst.{labels};
 ghost use Rattle.provenance.specs.Local.{every, gives, keepsUp, vertexRight, edgeRight};
 ghost use Rattle.columns.specs.Columns.{columns, answers, hypergraph};
-ghost use Rattle.settle.specs.Lent.{lent, cell, tailOf, Legible, EdgeIn, Usable, Turning};
+ghost use Rattle.offers.specs.Lent.{lent, cell, Turning};
 ghost use Rattle.settle.specs.Settling.{settled};
 ghost use Rattle.settle.specs.Checking.{checked};
-
-fn deeper(a: u64, b: u64) -> u64
-    ensures { λ r. ⌜ r ≡ max a b ⌝ }
-{
-    if a < b {
-        return b;
-    }
-    a
-}
-
-// What hyperedge e of this own weight and tail gives from the labels in the columns; nothing where
-// it is struck or a vertex of its tail is unmade.
-fn candidate(
-    measure: Measure,
-    e: Hyperedge,
-    own: Weight,
-    tail: &[u64],
-    weights: &[u64],
-    depths: &[u64],
-) -> Offer
-    requires { ⌜ Legible (now tail) (now weights) (now depths) ⌝ }
-    ensures { λ r. ⌜ r ≡ offerOf (algebra measure) (not (isStruck (own .0))) (own .0) (now (tail .entry)) (cell (now (weights .entry))) (cell (now (depths .entry))) (e .0) ⌝ }
-{
-    if own.is_struck() {
-        return Offer::Nothing;
-    }
-    let mut joined = Weight::unit(measure);
-    let mut deepest: u64 = 0;
-    let mut i = 0;
-    while i < tail.len() {
-        let v = tail[i] as usize;
-        let depth = depths[v];
-        if depth == 0 {
-            return Offer::Nothing;
-        }
-        let weight = weights[v];
-        joined = joined.join(measure, Weight(weight));
-        deepest = deeper(deepest, depth);
-        i += 1;
-    }
-    let weight = own.finish(measure, joined);
-    let depth = deepest + 1;
-    Offer::Found(Label {
-        weight,
-        depth,
-        edge: e,
-    })
-}
-
-// The same for hyperedge e of a table.
-fn offer(
-    measure: Measure,
-    e: Hyperedge,
-    own: &[u64],
-    spans: &[u64],
-    tails: &[u64],
-    weights: &[u64],
-    depths: &[u64],
-) -> Offer
-    requires { ⌜ EdgeIn (e .0) (now own) (now spans) (now tails) (now weights) (now depths) ⌝ }
-    ensures { λ r. ⌜ r ≡ offerOf (algebra measure) (not (isStruck (cell (now (own .entry)) (e .0)))) (cell (now (own .entry)) (e .0)) (tailOf (now (spans .entry)) (now (tails .entry)) (e .0)) (cell (now (weights .entry))) (cell (now (depths .entry))) (e .0) ⌝ }
-{
-    let i = e.0 as usize;
-    let from = spans[2 * i] as usize;
-    let to = from + spans[2 * i + 1] as usize;
-    let weight = own[i];
-    candidate(
-        measure,
-        e,
-        Weight(weight),
-        &tails[from..to],
-        weights,
-        depths,
-    )
-}
-
-// The first of two offers.
-fn earlier(measure: Measure, a: Offer, b: Offer) -> Offer
-    ensures { λ r. ⌜ r ≡ earlier (algebra measure) a b ⌝ }
-{
-    let Offer::Found(y) = b else {
-        return a;
-    };
-    let Offer::Found(x) = a else {
-        return b;
-    };
-    if weights::ahead(measure, x, y) {
-        return a;
-    }
-    b
-}
-
-// The first of the candidates of all hyperedges whose head is unmade.
-fn next(
-    measure: Measure,
-    heads: &[u64],
-    own: &[u64],
-    spans: &[u64],
-    tails: &[u64],
-    weights: &[u64],
-    depths: &[u64],
-) -> Offer
-    requires { ⌜ Usable (lent (now heads) (now own) (now spans) (now tails) (now depths)) (now weights) (now depths) ⌝ }
-    ensures { λ r. ⌜ r ≡ next (algebra measure) (hypergraph (lent (now (heads .entry)) (now (own .entry)) (now (spans .entry)) (now (tails .entry)) (now (depths .entry)))) (cell (now (own .entry))) (cell (now (weights .entry))) (cell (now (depths .entry))) (length (now (heads .entry))) ⌝ }
-{
-    let mut best = Offer::Nothing;
-    let mut i = 0;
-    while i < heads.len() {
-        let v = heads[i] as usize;
-        if depths[v] == 0 {
-            let e = Hyperedge(i as u64);
-            let o = offer(measure, e, own, spans, tails, weights, depths);
-            best = earlier(measure, best, o);
-        }
-        i += 1;
-    }
-    best
-}
-
-// A turn: the head of the next hyperedge gets its candidate as label.
-fn turn(
-    measure: Measure,
-    heads: &[u64],
-    own: &[u64],
-    spans: &[u64],
-    tails: &[u64],
-    weights: &mut [u64],
-    depths: &mut [u64],
-    edges: &mut [u64],
-)
-    requires { ⌜ Turning (lent (now heads) (now own) (now spans) (now tails) (now depths)) (answers (now weights) (now depths) (now edges)) ⌝ }
-    ensures { λ r. ⌜ answers (now (weights .exit)) (now (depths .exit)) (now (edges .exit)) ≡ turn (algebra measure) (hypergraph (lent (now (heads .entry)) (now (own .entry)) (now (spans .entry)) (now (tails .entry)) (now (depths .entry)))) (cell (now (own .entry))) (answers (now (weights .entry)) (now (depths .entry)) (now (edges .entry))) ⌝ }
-{
-    let o = next(measure, heads, own, spans, tails, weights, depths);
-    let Offer::Found(l) = o else {
-        return;
-    };
-    let weight = l.weight;
-    let e = l.edge;
-    let i = e.0 as usize;
-    let v = heads[i] as usize;
-    weights[v] = weight.0;
-    depths[v] = l.depth;
-    edges[v] = e.0;
-}
 
 // Leaves the table's answers in the three answer columns, or refuses and leaves them as they are.
 pub fn settle(
@@ -188,14 +41,10 @@ pub fn settle(
         Answer::Refused(r) => return Answer::Refused(r),
         Answer::Accepted => {}
     }
-    columns::clear(weights);
-    columns::clear(depths);
-    columns::clear(edges);
-    let mut k: u64 = 0;
-    while k < n {
-        turn(measure, heads, own, spans, tails, weights, depths, edges);
-        k += 1;
-    }
+    columns::set_all(weights, 0);
+    columns::set_all(depths, 0);
+    columns::set_all(edges, 0);
+    bestfirst::label_all(measure, heads, own, spans, tails, weights, depths, edges);
     Answer::Accepted
 }
 

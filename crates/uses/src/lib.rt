@@ -34,7 +34,7 @@ fn count(spans: &[u64], tails: &[u64], index: &mut [u64])
     requires { ⌜ (Readable (pairsIn (now index)) (now spans) (now tails)) × (length (now index) ≡ 2 * pairsIn (now index)) ⌝ }
     ensures { λ r. ⌜ now (index .exit) ≡ counted (tailOf (now (spans .entry)) (now (tails .entry))) (pairsIn (now (spans .entry))) (pairsIn (now (index .entry))) ⌝ }
 {
-    columns::clear(index);
+    columns::set_all(index, 0);
     let m = spans.len() / 2;
     let mut i = 0;
     while i < m {

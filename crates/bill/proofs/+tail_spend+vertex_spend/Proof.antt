@@ -9,7 +9,7 @@ use borrow.Author.Needs.{needs}
 use borrow.Fn.Kinds.{In}
 use borrow.Fn.PlainCycle.{Measures, is, falls, and}
 use lib.ListN.{length}
-use Rattle.settle.specs.Lent.{tailOf}
+use Rattle.columns.specs.Columns.{tailOf}
 use Rattle.bill.specs.declared.Budget.{Budget}
 use Rattle.bill.specs.declared.Budget.the-variants.{Left, Spent}
 use Rattle.bill.specs.Walk.{vertexBill, tailBill, AllGrounded, spend}

@@ -4,7 +4,7 @@ use Prim.Native.Nat.{ℕ, _+_, _-_, _*_}
 use native.Mathlib.Omega.{arith}
 use borrow.Author.Needs.{needs}
 use Rattle.columns.specs.Columns.{part}
-use Rattle.settle.specs.Lent.{cell}
+use Rattle.offers.specs.Lent.{cell}
 use Rattle.bill.proofs.tail_of.Statement.{statement}
 use Rattle.bill.proofs.tail_of.Tie as tie
 

@@ -19,32 +19,32 @@ abbrev μ-loop : tie.MeasureT-loop
 μ-loop spans tails index₀ m i₀ index i = m - i
 
 -- the index once it is cleared is as long as it was
-abbrev entry : tie.After-clear Inv-loop μ-loop → tie.Start Inv-loop μ-loop
+abbrev entry : tie.After-set-all Inv-loop μ-loop → tie.Start Inv-loop μ-loop
 entry c = c .before .before .before .before .before
 
-still : (c : tie.After-clear Inv-loop μ-loop) → length (c .clear .last .0) ≡ length (entry c .args .index .now)
-still c = ap length (c .clear .ensures) ∙ length-replicate _ _
+still : (c : tie.After-set-all Inv-loop μ-loop) → length (c .set-all .last .0) ≡ length (entry c .args .index .now)
+still c = ap length (c .set-all .ensures) ∙ length-replicate _ _
 
-pairs-still : (c : tie.After-clear Inv-loop μ-loop) → pairsIn (c .clear .last .0) ≡ pairsIn (entry c .args .index .now)
+pairs-still : (c : tie.After-set-all Inv-loop μ-loop) → pairsIn (c .set-all .last .0) ≡ pairsIn (entry c .args .index .now)
 pairs-still c = ap (λ (z : ℕ). z / 2) (still c)
 
 -- so is the index at the head of the loop
-abbrev cleared : tie.At-loop Inv-loop μ-loop → tie.After-clear Inv-loop μ-loop
+abbrev cleared : tie.At-loop Inv-loop μ-loop → tie.After-set-all Inv-loop μ-loop
 cleared c = c .before .before .before
 
 level : (c : tie.At-loop Inv-loop μ-loop) → length (c .loop .index) ≡ length (entry (cleared c) .args .index .now)
 level c = ap length (c .loop .inv .1) ∙ length-pairs _ _ _ ∙ ap (λ (z : ℕ). 2 * z) (pairs-still (cleared c)) ∙ sym (entry (cleared c) .pre .1)
 
-as-many : (c : tie.At-loop Inv-loop μ-loop) → pairsIn (c .loop .index) ≡ pairsIn (cleared c .clear .last .0)
+as-many : (c : tie.At-loop Inv-loop μ-loop) → pairsIn (c .loop .index) ≡ pairsIn (cleared c .set-all .last .0)
 as-many c = ap (λ (z : ℕ). z / 2) (level c ∙ sym (still (cleared c)))
 
-clear-requires : tie.Need-clear-requires Inv-loop μ-loop
-clear-requires c κs = search needs
+set-all-requires : tie.Need-set-all-requires Inv-loop μ-loop
+set-all-requires c κs = search needs
 
 loop-holds : tie.Need-loop-holds Inv-loop μ-loop
 loop-holds c =
     let d = c .before .before in
-    (omega arith, d .clear .ensures ∙ count-none _ (pairsIn (d .clear .last .0)) (length (entry d .args .index .now)) (entry d .pre .1 ∙ ap (λ (z : ℕ). 2 * z) (sym (pairs-still d))))
+    (omega arith, d .set-all .ensures ∙ count-none _ (pairsIn (d .set-all .last .0)) (length (entry d .args .index .now)) (entry d .pre .1 ∙ ap (λ (z : ℕ). 2 * z) (sym (pairs-still d))))
 
 count-edge-requires : tie.Need-count-edge-requires Inv-loop μ-loop
 count-edge-requires c κs =
@@ -74,7 +74,7 @@ returns c =
     let s = entry (cleared l) .args in
     let e : l .loop .i ≡ pairsIn (s .spans .now) = omega arith in
     l .loop .inv .1
-    ∙ ap (λ (z : ℕ). counted (tailOf (s .spans .now) (s .tails .now)) z (pairsIn (cleared l .clear .last .0))) e
+    ∙ ap (λ (z : ℕ). counted (tailOf (s .spans .now) (s .tails .now)) z (pairsIn (cleared l .set-all .last .0))) e
     ∙ ap (counted (tailOf (s .spans .now) (s .tails .now)) (pairsIn (s .spans .now))) (pairs-still (cleared l))
 
 pub count-spec : {M : Type 1} → statement M
@@ -83,7 +83,7 @@ count-spec =
     (tie.spec
     Inv-loop
     μ-loop
-    clear-requires
+    set-all-requires
     loop-holds
     count-edge-requires
     add-i

@@ -1,0 +1,4 @@
+pub mod Laws
+pub mod Turning
+pub mod Whole
+pub mod Start

@@ -1,0 +1,173 @@
+-- What a turn finds and leaves: the least key tells what is next, and after its head is labelled the queue is that of the new labels. Assumes nothing.
+use mathlib.Core.Path.{_≡_, refl, sym, _∙_, ap, subst}
+use mathlib.Core.Logic.{_≢_}
+use mathlib.Core.List.{List, [], _∷_}
+use Prim.Native.Nat.{ℕ, _+_, _*_, _≤_, _<_}
+use native.Mathlib.Omega.{arith}
+use native.Mathlib.Decide.{ℕ-discrete}
+use lib.ListN.{length, set, length-set}
+use lib.Seq.{getD-set-same, getD-set-other}
+use Rattle.weights.specs.declared.Measure.{Measure}
+use Rattle.weights.specs.declared.Label.{Label}
+use Rattle.weights.specs.declared.Offer.{Offer}
+use Rattle.weights.specs.declared.Offer.the-variants.{Nothing, Found}
+use Rattle.weights.specs.Measures.{Algebra, algebra}
+use Rattle.weights.specs.Laws.{lawful}
+use Rattle.refusal.specs.declared.Answer.the-variants.{Accepted}
+use Rattle.provenance.specs.Hypergraph.{Hypergraph}
+use Rattle.provenance.specs.Labelling.{greatest, candidate}
+use Rattle.provenance.specs.BestFirst.{Answers, labels, put, place, opening, next, turn, Next, next-is}
+use Rattle.columns.specs.Columns.{Columns, headAt, hypergraph}
+use Rattle.columns.specs.Acceptance.{acceptance}
+use Rattle.columns.specs.Accepted.{table-accepted}
+use Rattle.offers.specs.Lent.{cell, Usable}
+use Rattle.offers.specs.Laws.{same-table}
+use Rattle.minima.specs.Minima.{none, keys, size, leastFrom, raised}
+use Rattle.minima.specs.Laws.{raised-length}
+use Rattle.waiting.specs.Keys.{unpacked, Fits, Fitting, keyOf}
+use Rattle.waiting.specs.Waiting.{Queued, offering}
+use Rattle.waiting.specs.Queue.{Fitted, least-next, fitting-next, told-nothing, told-found, relabelled, open-fits}
+use Rattle.bestfirst.specs.Turns.{Offerable, useAt, Edges, Waits, Underway}
+use Rattle.bestfirst.proofs.Laws.{head-key, edge-fits, found-fits}
+
+greatest-at-most : (d : ℕ → ℕ) (k : ℕ) → ((v : ℕ) → d v ≤ k) → (vs : List ℕ) → greatest d vs ≤ k
+unfolding greatest
+greatest-at-most d k f [] = omega arith
+greatest-at-most d k f (v ∷ vs) = omega (arith, f v, greatest-at-most d k f vs)
+
+-- what is found is the candidate of a hyperedge of the table, whose head is unmade
+pub record Told (H : Hypergraph) (d : ℕ → ℕ) (k : ℕ) (l : Label) : Type 0 where
+  pub numbered : l .edge .0 < H .edges
+  pub fresh : d (H .head (l .edge .0)) ≡ 0
+  pub deep : 0 < l .depth
+  pub shallow : l .depth ≤ k + 1
+
+told-next : {A : Algebra} {H : Hypergraph} {own : ℕ → ℕ} (a : Answers) {j k : ℕ} {o : Offer} {l : Label} → ((v : ℕ) → cell (a .depths) v ≤ k) → Next A H own (labels a) j o → Found l ≡ o → Told H (cell (a .depths)) k l
+told-next a f (Next.stuck n) p = absurd (let z : _≡_ {A = ℕ} 0 1 = cc in omega arith)
+told-next {A} {H} {own} a {k = k} {l = l} f (Next.found e o b) p =
+    let q : l ≡ candidate A H own (labels a) e = cc in
+    let e′ : l .edge .0 ≡ e = ap (λ (x : Label). x .edge .0) q in
+    let d : l .depth ≡ greatest (cell (a .depths)) (H .tail e) + 1 = ap (λ (x : Label). x .depth) q in
+    record {
+      numbered = omega (arith, e′, o .ready .stands .numbered);
+      fresh = ap (λ (x : ℕ). cell (a .depths) (H .head x)) e′ ∙ o .fresh;
+      deep = omega arith;
+      shallow = omega (arith, greatest-at-most (cell (a .depths)) k f (H .tail e));
+    }
+
+module _ {m : Measure} {c : Columns} {a : Answers} {index list q : List ℕ} (u : Underway m c a index list q) where
+  abbrev own : ℕ → ℕ
+  own = cell (c .own)
+
+  abbrev H : Hypergraph
+  H = hypergraph c
+
+  abbrev w : ℕ → ℕ
+  w = cell (a .weights)
+
+  abbrev d : ℕ → ℕ
+  d = cell (a .depths)
+
+  abbrev pub here : Offer
+  here = next (algebra m) H own w d (H .edges)
+
+  offerable : Offerable c (a .weights) (a .depths) q
+  offerable = record {
+    usable = u .turning .usable;
+    fitted = record { weight = u .waits .light; depth = λ v. omega (arith, u .turning .usable .shallow v) };
+    sized = u .waits .queued .grouped .sized;
+  }
+
+  fitting : Fitting here
+  fitting = fitting-next m H own w d (λ e h. edge-fits offerable e h m) (H .edges) (omega arith)
+
+  key-is : leastFrom q 0 keys ≡ keyOf here
+  key-is = least-next m H own w d (λ e h. edge-fits offerable e h m) q (λ e h. head-key offerable e h) (u .waits .queued)
+
+  pub stuck : (k : ℕ) → k ≡ leastFrom q 0 keys → k ≡ none → a ≡ turn (algebra m) H own a
+  unfolding turn
+  stuck k p z = ap (place (algebra m) H own a) (told-nothing k fitting (p ∙ key-is) z)
+
+  pub found : {l : Label} (k : ℕ) → k ≡ leastFrom q 0 keys → k ≢ none → l ≡ unpacked k → Found l ≡ here
+  found k p n e = ap Found e ∙ told-found k fitting (p ∙ key-is) n
+
+  module _ {l : Label} (f : Found l ≡ here) where
+    pub turned : put a (H .head (l .edge .0)) l ≡ turn (algebra m) H own a
+    unfolding turn
+    turned = ap (place (algebra m) H own a) f
+
+    pub told : Told H d (u .taken) l
+    told = told-next a (u .shallow) (next-is (algebra m) H own (labels a) (lawful m) (H .edges) (omega arith)) f
+
+    abbrev v : ℕ
+    v = H .head (l .edge .0)
+
+    pub head-below : v < c .vertices
+    head-below = table-accepted c (u .turning .usable .accepted) .each (l .edge .0) (told .numbered) .1 .head
+
+    pub few : v < keys
+    few = head-key offerable (l .edge .0) (told .numbered)
+
+    abbrev ws : List ℕ
+    ws = set (a .weights) v (l .weight .0)
+
+    abbrev ds : List ℕ
+    ds = set (a .depths) v (l .depth)
+
+    there : v < length (a .depths)
+    there = omega (arith, head-below, u .turning .usable .vertices)
+
+    shallow : (x : ℕ) → cell ds x ≤ u .taken + 1
+    shallow x = go (ℕ-discrete x v)
+      where
+        go : Dec (x ≡ v) → cell ds x ≤ u .taken + 1
+        go (yes e) = omega (arith, ap (cell ds) e, getD-set-same (a .depths) v (l .depth) 0 there, told .shallow)
+        go (no n) = omega (arith, getD-set-other (a .depths) v x (l .depth) 0 n, u .shallow x)
+
+    light : (x : ℕ) → cell ws x < 1_099_511_627_776
+    light x = go (ℕ-discrete x v)
+      where
+        go : Dec (x ≡ v) → cell ws x < 1_099_511_627_776
+        go (yes e) = omega (arith, ap (cell ws) e, getD-set-same (a .weights) v (l .weight .0) 0 (omega (arith, there, u .turning .usable .level)), found-fits fitting f .weight)
+        go (no n) = omega (arith, getD-set-other (a .weights) v x (l .weight .0) 0 n, u .waits .light x)
+
+    low : u .taken + 1 ≤ 1024
+    low = omega (arith, u .more, table-accepted c (u .turning .usable .accepted) .few)
+
+    fitted : Fitted (cell ws) (cell ds)
+    fitted = record { weight = light; depth = λ x. omega (arith, shallow x, low) }
+
+    pub offerable-after : (q′ : List ℕ) → length q′ ≡ size → Offerable (same-table c (length ds)) ws ds q′
+    offerable-after q′ s = record {
+      usable = record {
+        accepted = subst (λ (n : ℕ). acceptance (same-table c n) ≡ Accepted) (sym (u .turning .usable .vertices) ∙ sym (length-set (a .depths) v (l .depth))) (u .turning .usable .accepted);
+        level = length-set (a .weights) v (l .weight .0) ∙ u .turning .usable .level ∙ sym (length-set (a .depths) v (l .depth));
+        vertices = refl;
+        shallow = λ x. omega (arith, shallow x, low);
+      };
+      fitted = fitted;
+      sized = s;
+    }
+
+    pub raised-sized : length (raised q v) ≡ size
+    raised-sized = raised-length q v few ∙ u .waits .queued .grouped .sized
+
+    -- where the uses of the new vertex stand
+    pub uses-there : Edges (cell index (2 * v)) (cell index (2 * v + 1)) list (length (c .heads))
+    uses-there = record { inside = u .indexed .inside v head-below; numbered = u .indexed .uses v head-below .sound }
+
+    pub waits-after : {q′ : List ℕ} → q′ ≡ offering (algebra m) (hypergraph (same-table c (length ds))) own (cell ws) (cell ds) (raised q v) (useAt list (cell index (2 * v))) (cell index (2 * v + 1)) → Waits m c ws ds q′
+    waits-after {q′} e = record { light = light; queued = subst (λ (x : List ℕ). Queued (algebra m) H own (cell ws) (cell ds) x) (sym e′) queued }
+      where
+        e′ : q′ ≡ offering (algebra m) H own (cell ws) (cell ds) (raised q v) (useAt list (cell index (2 * v))) (cell index (2 * v + 1))
+        e′ = subst (λ (n : ℕ). q′ ≡ offering (algebra m) (hypergraph (same-table c n)) own (cell ws) (cell ds) (raised q v) (useAt list (cell index (2 * v))) (cell index (2 * v + 1))) (length-set (a .depths) v (l .depth) ∙ u .turning .usable .vertices) e
+
+        queued : Queued (algebra m) H own (cell ws) (cell ds) (offering (algebra m) H own (cell ws) (cell ds) (raised q v) (useAt list (cell index (2 * v))) (cell index (2 * v + 1)))
+        queued = relabelled (algebra m) H own (λ x h. head-key offerable x h) w d (cell ws) (cell ds) v
+            (λ x n. getD-set-other (a .weights) v x (l .weight .0) 0 n) (λ x n. getD-set-other (a .depths) v x (l .depth) 0 n)
+            (told .fresh) (λ z. omega (arith, getD-set-same (a .depths) v (l .depth) 0 there, told .deep))
+            (useAt list (cell index (2 * v))) (cell index (2 * v + 1)) (u .indexed .uses v head-below)
+            q few (λ x h. fits x h) (u .waits .queued)
+          where
+            fits : (x : ℕ) → x < H .edges → Fitting (opening (algebra m) H own (cell ws) (cell ds) x)
+            fits x h = let t = table-accepted c (u .turning .usable .accepted) in open-fits m H own (cell ws) (cell ds) x fitted (omega (arith, t .each x h .1 .own)) (omega (arith, t .edges))

@@ -1,0 +1,60 @@
+-- From a turn to the whole: the laws by which the turns go. Assumes nothing.
+use mathlib.Core.Path.{_≡_, refl, sym, _∙_, ap, subst}
+use mathlib.Core.List.{List}
+use Prim.Native.Nat.{ℕ, _+_, _≤_, _<_}
+use native.Mathlib.Numerals.{add-one}
+use native.Mathlib.Omega.{arith}
+use lib.ListN.{length}
+use Rattle.weights.specs.declared.Measure.{Measure}
+use Rattle.weights.specs.Measures.{algebra}
+use Rattle.weights.specs.Laws.{lawful}
+use Rattle.refusal.specs.declared.Answer.the-variants.{Accepted}
+use Rattle.provenance.specs.BestFirst.{Answers, turn, turns, best-first}
+use Rattle.provenance.specs.Existence.{Sized, After, after}
+use Rattle.columns.specs.Columns.{Columns, columns, ownAt, hypergraph}
+use Rattle.columns.specs.Acceptance.{mostVertices, acceptance}
+use Rattle.columns.specs.Accepted.{table-accepted, well-formed}
+use Rattle.offers.specs.Lent.{cell, Turning}
+use Rattle.offers.specs.Laws.{same-table, turning-columns}
+use Rattle.bestfirst.specs.Turns.{UseIndex, Waits, Underway}
+
+-- k turns on a table
+abbrev pub turnsOf : Measure → Columns → ℕ → Answers
+turnsOf m c = turns (algebra m) (hypergraph c) (ownAt c)
+
+pub all-turns : (m : Measure) (c : Columns) {a : Answers} {k : ℕ} → a ≡ turnsOf m c k → k ≡ c .vertices → a ≡ best-first (algebra m) (hypergraph c) (ownAt c)
+unfolding best-first
+all-turns m c p e = p ∙ ap (turnsOf m c) e
+
+module _ (m : Measure) (c : Columns) (p : acceptance c ≡ Accepted) {a : Answers} (k : ℕ) (q : a ≡ turnsOf m c k) where
+  -- after k turns
+  so-far : After (algebra m) (hypergraph c) (ownAt c) k a
+  so-far = subst (After (algebra m) (hypergraph c) (ownAt c) k) (sym q) (after (lawful m) (ownAt c) (well-formed c p) k)
+
+  pub sizes : Sized (c .vertices) a
+  sizes = so-far .size
+
+  pub turning : k ≤ c .vertices → Turning (same-table c (length (a .depths))) a
+  turning h = turning-columns c a p sizes (λ v. omega (arith, so-far .shallow v, table-accepted c p .few))
+
+  -- before the next turn
+  pub underway : {index list q : List ℕ} → k < c .vertices → UseIndex (hypergraph c) index list → Waits m c (a .weights) (a .depths) q → Underway m (same-table c (length (a .depths))) a index list q
+  underway {index} {list} {q} h i w =
+      subst (λ (n : ℕ). Underway m (same-table c n) a index list q) (sym (sizes .depths)) (record {
+        turning = subst (λ (n : ℕ). Turning (same-table c n) a) (sizes .depths) (turning (omega arith));
+        taken = k;
+        more = h;
+        shallow = so-far .shallow;
+        indexed = i;
+        waits = w;
+      })
+
+  pub waits-on : {ws ds q : List ℕ} → Waits m (same-table c (length (a .depths))) ws ds q → Waits m c ws ds q
+  waits-on {ws} {ds} {q} w = subst (λ (n : ℕ). Waits m (same-table c n) ws ds q) (sizes .depths) w
+
+  -- one turn more
+  pub turns-more : {b : Answers} → b ≡ turn (algebra m) (hypergraph (same-table c (length (a .depths)))) (ownAt c) a → b ≡ turnsOf m c (k + 1)
+  unfolding turns
+  turns-more {b} t =
+      let t′ : b ≡ turn (algebra m) (hypergraph c) (ownAt c) a = subst (λ (n : ℕ). b ≡ turn (algebra m) (hypergraph (same-table c n)) (ownAt c) a) (sizes .depths) t in
+      t′ ∙ rw (add-one, ← q)

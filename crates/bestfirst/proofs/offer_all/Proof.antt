@@ -1,0 +1,59 @@
+-- `bestfirst::offer_all` meets its contract: the invariant: the hyperedges so far were offered. Assumes nothing.
+use Rattle.bestfirst.proofs.offer_all.Statement.{statement}
+use Rattle.bestfirst.proofs.offer_all.Tie as tie
+use mathlib.Core.Path.{_≡_, refl, sym, _∙_, ap}
+use Prim.Native.Nat.{ℕ, _≤_, _<_, _-_}
+use native.Mathlib.Omega.{arith}
+use lib.ListN.{length}
+use Rattle.weights.specs.declared.Offer.the-variants.{Nothing, Found}
+use Rattle.weights.specs.Measures.{algebra}
+use Rattle.provenance.specs.BestFirst.{opening}
+use Rattle.columns.specs.Columns.{Columns, columns, hypergraph}
+use Rattle.offers.specs.Lent.{lent, cell}
+use Rattle.offers.specs.Laws.{head-in, edge-in}
+use Rattle.minima.specs.Minima.{size}
+use Rattle.waiting.specs.Waiting.{offering}
+use Rattle.bestfirst.specs.Turns.{useAt}
+use Rattle.bestfirst.proofs.Laws.{offering-none, offering-more, offered-length, head-key}
+use borrow.Author.Needs.{needs}
+
+abbrev Inv-loop : tie.InvT-loop
+Inv-loop measure heads own spans tails weights depths queue₀ i₀ queue i = (i ≤ length heads) × ((length queue ≡ size) × (queue ≡ offering (algebra measure) (hypergraph (lent heads own spans tails depths)) (cell own) (cell weights) (cell depths) queue₀ (λ i. i) i))
+
+abbrev μ-loop : tie.MeasureT-loop
+μ-loop measure heads own spans tails weights depths queue₀ i₀ queue i = length heads - i
+
+loop-holds : tie.Need-loop-holds Inv-loop μ-loop
+loop-holds c = let a = c .before .before .before .before .before .before .before .args in (omega arith, (c .before .before .before .before .before .before .before .pre .sized, offering-none (algebra (a .measure)) (hypergraph (lent (a .heads .now) (a .own .now) (a .spans .now) (a .tails .now) (a .depths .now))) (cell (a .own .now)) (cell (a .weights .now)) (cell (a .depths .now)) (a .queue .now) (λ i. i)))
+
+offer-edge-requires : tie.Need-offer-edge-requires Inv-loop μ-loop
+offer-edge-requires c κs = (record { usable = c .before .before .before .before .before .before .before .before .before .before .pre .usable; fitted = c .before .before .before .before .before .before .before .before .before .before .pre .fitted; sized = c .before .before .loop .inv .1 .0 }, omega (arith, c .before .loop-test .taken))
+
+add-i : tie.Need-add-i Inv-loop μ-loop
+add-i c = omega (arith, c .before .before .before .before .loop-test .taken)
+
+loop-less : tie.Need-loop-less Inv-loop μ-loop
+loop-less c = search needs
+
+loop-again : tie.Need-loop-again Inv-loop μ-loop
+loop-again c = let a = c .before .before .before .before .before .before .before .before .before .before .before .before .before .args in (omega (arith, c .before .before .before .before .loop-test .taken), (ap length (c .before .before .offer-edge .ensures) ∙ offered-length (c .before .before .before .before .before .loop .queue) (cell (a .heads .now) (c .before .before .before .before .before .loop .i)) (opening (algebra (a .measure)) (hypergraph (lent (a .heads .now) (a .own .now) (a .spans .now) (a .tails .now) (a .depths .now))) (cell (a .own .now)) (cell (a .weights .now)) (cell (a .depths .now)) (c .before .before .before .before .before .loop .i)) (head-key (c .before .before .before .before .before .before .before .before .before .before .before .before .before .pre) _ (c .before .before .before .before .loop-test .taken)) ∙ c .before .before .before .before .before .loop .inv .1 .0, offering-more (algebra (a .measure)) (hypergraph (lent (a .heads .now) (a .own .now) (a .spans .now) (a .tails .now) (a .depths .now))) (cell (a .own .now)) (cell (a .weights .now)) (cell (a .depths .now)) (a .queue .now) (λ i. i) (c .before .before .before .before .before .loop .i) (c .before .before .before .before .before .loop .inv .1 .1) (c .before .before .offer-edge .ensures)))
+
+same-length : tie.Need-same-length Inv-loop μ-loop
+same-length c = c .before .loop .inv .1 .0 ∙ sym (c .before .before .before .before .before .before .before .before .before .pre .sized)
+
+returns : tie.Need-returns Inv-loop μ-loop
+returns c = let a = c .before .before .before .before .before .before .before .before .before .args in let e : c .before .loop .i ≡ length (a .heads .now) = omega (arith, c .before .loop .inv .0, c .loop-test .left) in c .before .loop .inv .1 .1 ∙ ap (offering (algebra (a .measure)) (hypergraph (lent (a .heads .now) (a .own .now) (a .spans .now) (a .tails .now) (a .depths .now))) (cell (a .own .now)) (cell (a .weights .now)) (cell (a .depths .now)) (a .queue .now) (λ i. i)) e
+
+pub offer-all-spec : {M : Type 1} → statement M
+offer-all-spec =
+    tie.close
+    (tie.spec
+    Inv-loop
+    μ-loop
+    loop-holds
+    offer-edge-requires
+    add-i
+    loop-less
+    loop-again
+    same-length
+    returns)

@@ -1,0 +1,66 @@
+-- What holds between the turns of best-first over a table in columns (document 000, Algorithm 1): which hyperedges list a vertex, and which labels wait.
+-- Assumes nothing: these are definitions.
+use mathlib.Core.Path.{_≡_}
+use Prim.Native.Nat.{ℕ, _+_, _*_, _≤_, _<_}
+use mathlib.Core.List.{List}
+use lib.ListN.{length}
+use Rattle.weights.specs.declared.Measure.{Measure}
+use Rattle.weights.specs.Measures.{algebra}
+use Rattle.provenance.specs.Hypergraph.{Hypergraph}
+use Rattle.provenance.specs.BestFirst.{Answers, turns}
+use Rattle.columns.specs.Columns.{Columns, hypergraph}
+use Rattle.columns.specs.Acceptance.{mostVertices, mostListed}
+use Rattle.offers.specs.Lent.{cell, Usable, Turning}
+use Rattle.minima.specs.Minima.{size}
+use Rattle.waiting.specs.Waiting.{Queued, UsesOf}
+use Rattle.waiting.specs.Queue.{Fitted}
+
+-- hyperedges can be offered to their heads
+pub record Offerable (c : Columns) (ws ds q : List ℕ) : Type 0 where
+  pub usable : Usable c ws ds
+  pub fitted : Fitted (cell ws) (cell ds)
+  pub sized : length q ≡ size
+
+-- the hyperedges that stand in a list from a place on
+abbrev pub useAt : List ℕ → (from : ℕ) → ℕ → ℕ
+useAt list from i = cell list (from + i)
+
+pub record Edges (from count : ℕ) (list : List ℕ) (edges : ℕ) : Type 0 where
+  pub inside : from + count ≤ length list
+  pub numbered : (i : ℕ) → i < count → useAt list from i < edges
+
+-- an index of uses: two places for each vertex, offset and length, into the list of the hyperedges that list it
+pub record UseIndex (H : Hypergraph) (index list : List ℕ) : Type 0 where
+  pub places : length index ≡ 2 * H .vertices
+  pub inside : (v : ℕ) → v < H .vertices → cell index (2 * v) + cell index (2 * v + 1) ≤ length list
+  pub uses : (v : ℕ) → v < H .vertices → UsesOf H v (useAt list (cell index (2 * v))) (cell index (2 * v + 1))
+
+-- every unmade vertex has the first of the candidates of its ready hyperedges waiting
+pub record Waits (m : Measure) (c : Columns) (ws ds q : List ℕ) : Type 0 where
+  pub light : (v : ℕ) → cell ws v < 1_099_511_627_776
+  pub queued : Queued (algebra m) (hypergraph c) (cell (c .own)) (cell ws) (cell ds) q
+
+-- between two turns
+pub record Underway (m : Measure) (c : Columns) (a : Answers) (index list q : List ℕ) : Type 0 where
+  pub turning : Turning c a
+  pub taken : ℕ
+  pub more : taken < c .vertices
+  pub shallow : (v : ℕ) → cell (a .depths) v ≤ taken
+  pub indexed : UseIndex (hypergraph c) index list
+  pub waits : Waits m c (a .weights) (a .depths) q
+
+-- before the first turn
+pub record Unmade (m : Measure) (c : Columns) (a : Answers) : Type 0 where
+  pub turning : Turning c a
+  pub blank : a ≡ turns (algebra m) (hypergraph c) (cell (c .own)) 0
+
+pub record Ready (m : Measure) (c : Columns) (a : Answers) (index list q : List ℕ) : Type 0 where
+  pub unmade : Unmade m c a
+  pub indexed : UseIndex (hypergraph c) index list
+  pub waits : Waits m c (a .weights) (a .depths) q
+
+-- columns to work in, for every table
+pub record Room (index list q : List ℕ) : Type 0 where
+  pub pairs : 2 * mostVertices ≤ length index
+  pub uses : mostListed ≤ length list
+  pub sized : length q ≡ size

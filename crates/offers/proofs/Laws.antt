@@ -1,0 +1,59 @@
+-- The laws of the definitions by which the loops of a turn go. Assumes nothing.
+use mathlib.Core.Path.{_≡_, refl, sym, _∙_, ap}
+use mathlib.Core.List.{List, [], _∷_}
+use mathlib.Core.Bool.{Bool, true, false, not}
+use Prim.Native.Nat.{ℕ, suc, _+_, _≤_, _<_, max}
+use native.Mathlib.Numerals.{add-one}
+use native.Mathlib.Omega.{arith}
+use lib.ListN.{length, getD, drop, drop-of-length-le}
+use lib.Seq.{drop-cons}
+use borrow.Author.Tests.{eq-eqb, ne-eqb}
+use Rattle.weights.specs.declared.Label.{Label}
+use Rattle.weights.specs.declared.Offer.{Offer}
+use Rattle.weights.specs.declared.Offer.the-variants.{Nothing, Found}
+use Rattle.weights.specs.Figures.{isStruck}
+use Rattle.weights.specs.Measures.{Algebra, fold, weigh}
+use Rattle.weights.specs.Choice.{pick}
+use Rattle.weights.specs.Labels.{label}
+use Rattle.weights.specs.Laws.{Lawful}
+use Rattle.provenance.specs.Hypergraph.{Hypergraph}
+use Rattle.provenance.specs.Labelling.{weightIn, depthIn, each, greatest, noneZero, offerOf, candidate}
+use Rattle.provenance.specs.BestFirst.{Answers, labels, put, place, offer, opening, next, earlier, turn, Next, next-is}
+use Rattle.columns.specs.Columns.{Columns, answers, headAt, ownAt, hypergraph}
+use Rattle.columns.specs.Accepted.{table-accepted, below-at}
+use Rattle.offers.specs.Lent.{cell, Legible, EdgeIn, Usable}
+
+max-assoc : (a b c : ℕ) → max a (max b c) ≡ max (max a b) c
+max-assoc a b c = omega arith
+
+zero-max : (a : ℕ) → max 0 a ≡ a
+zero-max a = omega arith
+
+max-zero : (a : ℕ) → max a 0 ≡ a
+max-zero a = omega arith
+
+-- what is left of a tail gives, where what went before joins to j and is d deep
+unfoldable pub rest : Algebra → (e own : ℕ) → (weight depth : ℕ → ℕ) → (j d : ℕ) → List ℕ → Offer
+rest A e own w t j d vs = pick (noneZero t vs) (Found (label (A .finish own (fold (A .join) j (each w vs))) (max d (greatest t vs) + 1) e)) Nothing
+
+module _ (A : Algebra) (e own : ℕ) (w t : ℕ → ℕ) (j d : ℕ) (tail : List ℕ) (i : ℕ) where
+  pub rest-more : i < length tail → ¬ (t (getD tail i 0) ≡ 0) → rest A e own w t (A .join j (w (getD tail i 0))) (max d (t (getD tail i 0))) (drop (i + 1) tail) ≡ rest A e own w t j d (drop i tail)
+  unfolding rest noneZero each greatest fold
+  rest-more h n = rw (add-one, drop-cons tail i 0 h, ne-eqb _ _ n, max-assoc)
+
+  pub rest-stop : i < length tail → t (getD tail i 0) ≡ 0 → Nothing ≡ rest A e own w t j d (drop i tail)
+  unfolding rest noneZero
+  rest-stop h n = rw (drop-cons tail i 0 h, eq-eqb _ _ n)
+
+  pub rest-end : length tail ≤ i → Found (label (A .finish own j) (d + 1) e) ≡ rest A e own w t j d (drop i tail)
+  unfolding rest noneZero each greatest fold
+  rest-end h = rw (drop-of-length-le tail h, max-zero)
+
+module _ (A : Algebra) (e own : ℕ) (w t : ℕ → ℕ) (tail : List ℕ) where
+  pub rest-whole : isStruck own ≡ false → rest A e own w t (A .unit) 0 tail ≡ offerOf A (not (isStruck own)) own tail w t e
+  unfolding rest offerOf weigh
+  rest-whole p = rw (p, zero-max)
+
+  pub struck-nothing : isStruck own ≡ true → Nothing ≡ offerOf A (not (isStruck own)) own tail w t e
+  unfolding offerOf
+  struck-nothing p = rw p

@@ -1,0 +1,125 @@
+-- `offers::candidate` meets its contract. The invariant: what is left of the tail gives, from what was joined so far, what the whole tail does. Assumes nothing.
+use mathlib.Core.Path.{_≡_, sym, _∙_}
+use Prim.Native.Nat.{_≤_, _<_, _-_}
+use native.Mathlib.Omega.{arith}
+use borrow.Author.Needs.{needs}
+use lib.ListN.{length, drop}
+use mathlib.Core.Bool.{false}
+use Rattle.weights.specs.Figures.{isStruck}
+use Rattle.weights.specs.Measures.{algebra}
+use Rattle.columns.specs.Acceptance.{mostVertices}
+use Rattle.offers.specs.Lent.{cell}
+use Rattle.offers.proofs.Laws.{rest, rest-more, rest-stop, rest-end, rest-whole, struck-nothing}
+use Rattle.offers.proofs.candidate.Statement.{statement}
+use Rattle.offers.proofs.candidate.Tie as tie
+
+abbrev Inv-loop : tie.InvT-loop
+Inv-loop measure e own tail weights depths joined₀ deepest₀ i₀ joined deepest i =
+    (i ≤ length tail) × (deepest ≤ mostVertices) × (rest (algebra measure) (e .0) (own .0) (cell weights) (cell depths) (joined .0) deepest (drop i tail) ≡ rest (algebra measure) (e .0) (own .0) (cell weights) (cell depths) (algebra measure .unit) 0 tail)
+
+abbrev μ-loop : tie.MeasureT-loop
+μ-loop measure e own tail weights depths joined₀ deepest₀ i₀ joined deepest i = length tail - i
+
+is-struck-requires : tie.Need-is-struck-requires Inv-loop μ-loop
+is-struck-requires c κs = search needs
+
+returns : tie.Need-returns Inv-loop μ-loop
+returns c = struck-nothing _ _ (c .before .before .before .before .before .args .own .0) _ _ _ (sym (c .before .is-struck .ensures) ∙ c .if1 .taken)
+
+unit-requires : tie.Need-unit-requires Inv-loop μ-loop
+unit-requires c κs = search needs
+
+loop-holds : tie.Need-loop-holds Inv-loop μ-loop
+loop-holds c = (omega arith, omega arith, rw (c .unit .ensures))
+
+mul-v : tie.Need-mul-v Inv-loop μ-loop
+mul-v c = search needs
+
+shared-slice-read-v : tie.Need-shared-slice-read-v Inv-loop μ-loop
+shared-slice-read-v c = search needs
+
+-- a vertex of the tail has its place in the columns
+inside : (c : tie.In-loop Inv-loop μ-loop) → let a = c .before .before .before .before .before .before .before .before .args in cell (a .tail .now) (c .before .loop .i) < length (a .depths .now)
+inside c = c .before .before .before .before .before .before .before .before .pre .inside (c .before .loop .i) (c .loop-test .taken)
+
+-- past the first test the hyperedge is not struck
+standing : (c : tie.Else1 Inv-loop μ-loop) → isStruck (c .before .before .before .before .before .args .own .0) ≡ false
+standing c = sym (c .before .is-struck .ensures) ∙ c .if1 .left
+
+mul-depth : tie.Need-mul-depth Inv-loop μ-loop
+mul-depth c = omega (arith, inside (c .before))
+
+shared-slice-read-depth : tie.Need-shared-slice-read-depth Inv-loop μ-loop
+shared-slice-read-depth c = inside (c .before .before)
+
+returns-2 : tie.Need-returns-2 Inv-loop μ-loop
+returns-2 c =
+    rest-stop _ _ _ _ _ _ _ _ _ (c .before .before .before .loop-test .taken) (c .if2 .taken)
+    ∙ c .before .before .before .before .loop .inv .2
+    ∙ rest-whole _ _ _ _ _ _ (standing (c .before .before .before .before .before .before))
+
+mul-weight : tie.Need-mul-weight Inv-loop μ-loop
+mul-weight c = omega (arith, inside (c .before .before .before))
+
+shared-slice-read-weight : tie.Need-shared-slice-read-weight Inv-loop μ-loop
+shared-slice-read-weight c = omega (arith, inside (c .before .before .before .before))
+
+join-requires : tie.Need-join-requires Inv-loop μ-loop
+join-requires c κs = search needs
+
+deeper-requires : tie.Need-deeper-requires Inv-loop μ-loop
+deeper-requires c κs = search needs
+
+add-i : tie.Need-add-i Inv-loop μ-loop
+add-i c = search needs
+
+loop-less : tie.Need-loop-less Inv-loop μ-loop
+loop-less c = search needs
+
+loop-again : tie.Need-loop-again Inv-loop μ-loop
+loop-again c =
+    let s = c .before .before .before .before .before .before .before .before .before .before .before .before .before .before in
+    let l = c .before .before .before .before .before .before .before in (
+      omega arith,
+      omega (arith, s .pre .shallow (cell (s .args .tail .now) (l .loop .i)), c .deeper .ensures),
+      rw (c .before .join .ensures, c .deeper .ensures) (rest-more _ _ _ _ _ _ _ _ _ (c .before .before .before .before .before .before .loop-test .taken) (c .before .before .before .if2 .left) ∙ l .loop .inv .2),
+    )
+
+finish-requires : tie.Need-finish-requires Inv-loop μ-loop
+finish-requires c κs = search needs
+
+add-depth : tie.Need-add-depth Inv-loop μ-loop
+add-depth c = search needs
+
+returns-3 : tie.Need-returns-3 Inv-loop μ-loop
+returns-3 c =
+    rw (c .finish .ensures)
+    (rest-end _ _ _ _ _ _ _ _ _ (c .before .loop-test .left)
+    ∙ c .before .before .loop .inv .2
+    ∙ rest-whole _ _ _ _ _ _ (standing (c .before .before .before .before)))
+
+pub candidate-spec : {M : Type 1} → statement M
+candidate-spec =
+    tie.close
+    (tie.spec
+    Inv-loop
+    μ-loop
+    is-struck-requires
+    returns
+    unit-requires
+    loop-holds
+    mul-v
+    shared-slice-read-v
+    mul-depth
+    shared-slice-read-depth
+    returns-2
+    mul-weight
+    shared-slice-read-weight
+    join-requires
+    deeper-requires
+    add-i
+    loop-less
+    loop-again
+    finish-requires
+    add-depth
+    returns-3)

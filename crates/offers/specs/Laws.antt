@@ -1,0 +1,44 @@
+-- What a usable table says of a hyperedge, and when columns are such a table. Assumes nothing.
+use mathlib.Core.Path.{_≡_, refl, sym, _∙_, subst}
+use mathlib.Core.List.{List}
+use Prim.Native.Nat.{ℕ, _≤_, _<_}
+use native.Mathlib.Omega.{arith}
+use lib.ListN.{length}
+use Rattle.refusal.specs.declared.Answer.the-variants.{Accepted}
+use Rattle.provenance.specs.BestFirst.{Answers}
+use Rattle.provenance.specs.Existence.{Sized}
+use Rattle.columns.specs.Columns.{Columns, columns, headAt}
+use Rattle.columns.specs.Acceptance.{mostVertices, acceptance}
+use Rattle.columns.specs.Accepted.{table-accepted, below-at}
+use Rattle.offers.specs.Lent.{cell, EdgeIn, Usable, Turning}
+
+module _ {c : Columns} {ws ds : List ℕ} (u : Usable c ws ds) (e : ℕ) (h : e < length (c .heads)) where
+  pub head-in : headAt c e < length ds
+  head-in = omega (arith, u .vertices, table-accepted c (u .accepted) .each e h .1 .head)
+
+  pub edge-in : EdgeIn e (c .own) (c .spans) (c .tails) ws ds
+  edge-in =
+      let z = table-accepted c (u .accepted) in
+      let g = z .each e h .1 in
+      record {
+        own = omega (arith, z .own);
+        span = omega (arith, z .spans);
+        within = g .within;
+        legible = record { level = u .level; inside = λ k l. omega (arith, u .vertices, below-at _ _ (g .listed) k l); shallow = u .shallow };
+      }
+
+-- a table of n vertices and the same columns: by the length of a column, it is the table
+abbrev pub same-table : Columns → ℕ → Columns
+same-table c n = columns n (c .heads) (c .own) (c .spans) (c .tails)
+
+pub turning-columns : (c : Columns) (a : Answers) → acceptance c ≡ Accepted → Sized (c .vertices) a → ((v : ℕ) → cell (a .depths) v ≤ mostVertices) → Turning (same-table c (length (a .depths))) a
+turning-columns c a p s shallow =
+    record {
+      usable = record {
+        accepted = subst (λ (n : ℕ). acceptance (same-table c n) ≡ Accepted) (sym (s .depths)) p;
+        level = s .weights ∙ sym (s .depths);
+        vertices = refl;
+        shallow = shallow;
+      };
+      edges = s .edges ∙ sym (s .depths);
+    }

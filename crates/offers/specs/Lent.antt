@@ -1,0 +1,43 @@
+-- What the functions below a call know of the lent columns: the table that they hold, and records of what each may ask of its caller. Assumes nothing: these are
+-- definitions.
+use mathlib.Core.Path.{_≡_}
+use Prim.Native.Nat.{ℕ, _+_, _*_, _≤_, _<_}
+use mathlib.Core.List.{List}
+use lib.ListN.{length, getD}
+use Rattle.refusal.specs.declared.Answer.the-variants.{Accepted}
+use Rattle.provenance.specs.BestFirst.{Answers}
+use Rattle.columns.specs.Columns.{Columns, columns, tailOf}
+use Rattle.columns.specs.Acceptance.{mostVertices, acceptance}
+
+-- a table of as many vertices as the column of depths has places
+abbrev pub lent : (heads own spans tails depths : List ℕ) → Columns
+lent heads own spans tails depths = columns (length depths) heads own spans tails
+
+-- what a column holds for a vertex
+abbrev pub cell : List ℕ → ℕ → ℕ
+cell xs v = getD xs v 0
+
+-- a tail can be read: its vertices have their places, and one more than a depth does not wrap
+pub record Legible (tail ws ds : List ℕ) : Type 0 where
+  pub level : length ws ≡ length ds
+  pub inside : (k : ℕ) → k < length tail → cell tail k < length ds
+  pub shallow : (v : ℕ) → cell ds v ≤ mostVertices
+
+-- so can hyperedge e
+pub record EdgeIn (e : ℕ) (os ss ts ws ds : List ℕ) : Type 0 where
+  pub own : e < length os
+  pub span : 2 * e + 1 < length ss
+  pub within : cell ss (2 * e) + cell ss (2 * e + 1) ≤ length ts
+  pub legible : Legible (tailOf ss ts e) ws ds
+
+-- an accepted table with columns of its length
+pub record Usable (c : Columns) (ws ds : List ℕ) : Type 0 where
+  pub accepted : acceptance c ≡ Accepted
+  pub level : length ws ≡ length ds
+  pub vertices : length ds ≡ c .vertices
+  pub shallow : (v : ℕ) → cell ds v ≤ mostVertices
+
+-- the same, with all three columns
+pub record Turning (c : Columns) (a : Answers) : Type 0 where
+  pub usable : Usable c (a .weights) (a .depths)
+  pub edges : length (a .edges) ≡ length (a .depths)

@@ -1,0 +1,89 @@
+// What a hyperedge offers its head: the candidate that it gives from the labels in the columns.
+use weights::Hyperedge;
+use weights::Label;
+use weights::Measure;
+use weights::Offer;
+use weights::Weight;
+ghost use mathlib.Core.Path.{_≡_};
+ghost use mathlib.Core.Bool.{not};
+ghost use Prim.Native.Nat.{max};
+ghost use Rattle.weights.specs.Figures.{isStruck};
+ghost use Rattle.weights.specs.Measures.{algebra};
+ghost use Rattle.provenance.specs.Labelling.{offerOf};
+ghost use Rattle.columns.specs.Columns.{tailOf};
+ghost use Rattle.offers.specs.Lent.{cell, Legible, EdgeIn};
+
+fn deeper(a: u64, b: u64) -> u64
+    ensures { λ r. ⌜ r ≡ max a b ⌝ }
+{
+    if a < b {
+        return b;
+    }
+    a
+}
+
+// What hyperedge e of this own weight and tail gives from the labels in the columns; nothing where
+// it is struck or a vertex of its tail is unmade.
+fn candidate(
+    measure: Measure,
+    e: Hyperedge,
+    own: Weight,
+    tail: &[u64],
+    weights: &[u64],
+    depths: &[u64],
+) -> Offer
+    requires { ⌜ Legible (now tail) (now weights) (now depths) ⌝ }
+    ensures { λ r. ⌜ r ≡ offerOf (algebra measure) (not (isStruck (own .0))) (own .0) (now (tail .entry)) (cell (now (weights .entry))) (cell (now (depths .entry))) (e .0) ⌝ }
+{
+    if own.is_struck() {
+        return Offer::Nothing;
+    }
+    let mut joined = Weight::unit(measure);
+    let mut deepest: u64 = 0;
+    let mut i = 0;
+    while i < tail.len() {
+        let v = tail[i] as usize;
+        let depth = depths[v];
+        if depth == 0 {
+            return Offer::Nothing;
+        }
+        let weight = weights[v];
+        joined = joined.join(measure, Weight(weight));
+        deepest = deeper(deepest, depth);
+        i += 1;
+    }
+    let weight = own.finish(measure, joined);
+    let depth = deepest + 1;
+    Offer::Found(Label {
+        weight,
+        depth,
+        edge: e,
+    })
+}
+
+// The same for hyperedge e of a table.
+pub fn offer(
+    measure: Measure,
+    e: Hyperedge,
+    own: &[u64],
+    spans: &[u64],
+    tails: &[u64],
+    weights: &[u64],
+    depths: &[u64],
+) -> Offer
+    requires { ⌜ EdgeIn (e .0) (now own) (now spans) (now tails) (now weights) (now depths) ⌝ }
+    ensures { λ r. ⌜ r ≡ offerOf (algebra measure) (not (isStruck (cell (now (own .entry)) (e .0)))) (cell (now (own .entry)) (e .0)) (tailOf (now (spans .entry)) (now (tails .entry)) (e .0)) (cell (now (weights .entry))) (cell (now (depths .entry))) (e .0) ⌝ }
+{
+    let i = e.0 as usize;
+    let from = spans[2 * i] as usize;
+    let to = from + spans[2 * i + 1] as usize;
+    let weight = own[i];
+    candidate(
+        measure,
+        e,
+        Weight(weight),
+        &tails[from..to],
+        weights,
+        depths,
+    )
+}
