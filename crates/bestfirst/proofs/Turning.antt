@@ -27,7 +27,7 @@ use Rattle.minima.specs.Laws.{raised-length}
 use Rattle.waiting.specs.Keys.{unpacked, Fits, Fitting, keyOf}
 use Rattle.waiting.specs.Waiting.{Queued, offering}
 use Rattle.waiting.specs.Queue.{Fitted, least-next, fitting-next, told-nothing, told-found, relabelled, open-fits}
-use Rattle.bestfirst.specs.Turns.{Offerable, useAt, Edges, Waits, Underway}
+use Rattle.bestfirst.specs.Turns.{Offerable, useAt, Listed, Placeable, Waits, Underway}
 use Rattle.bestfirst.proofs.Laws.{head-key, edge-fits, found-fits}
 
 greatest-at-most : (d : ℕ → ℕ) (k : ℕ) → ((v : ℕ) → d v ≤ k) → (vs : List ℕ) → greatest d vs ≤ k
@@ -92,21 +92,29 @@ module _ {m : Measure} {c : Columns} {a : Answers} {index list q : List ℕ} (u 
   found k p n e = ap Found e ∙ told-found k fitting (p ∙ key-is) n
 
   module _ {l : Label} (f : Found l ≡ here) where
-    pub turned : put a (H .head (l .edge .0)) l ≡ turn (algebra m) H own a
+    turned : put a (H .head (l .edge .0)) l ≡ turn (algebra m) H own a
     unfolding turn
     turned = ap (place (algebra m) H own a) f
 
-    pub told : Told H d (u .taken) l
+    told : Told H d (u .taken) l
     told = told-next a (u .shallow) (next-is (algebra m) H own (labels a) (lawful m) (H .edges) (omega arith)) f
 
     abbrev v : ℕ
     v = H .head (l .edge .0)
 
-    pub head-below : v < c .vertices
+    head-below : v < c .vertices
     head-below = table-accepted c (u .turning .usable .accepted) .each (l .edge .0) (told .numbered) .1 .head
 
-    pub few : v < keys
+    few : v < keys
     few = head-key offerable (l .edge .0) (told .numbered)
+
+    pub placeable : Placeable l (c .heads) a
+    placeable = record {
+      numbered = told .numbered;
+      weights = omega (arith, head-below, u .turning .usable .vertices, u .turning .usable .level);
+      depths = omega (arith, head-below, u .turning .usable .vertices);
+      edges = omega (arith, head-below, u .turning .usable .vertices, u .turning .edges);
+    }
 
     abbrev ws : List ℕ
     ws = set (a .weights) v (l .weight .0)
@@ -114,21 +122,18 @@ module _ {m : Measure} {c : Columns} {a : Answers} {index list q : List ℕ} (u 
     abbrev ds : List ℕ
     ds = set (a .depths) v (l .depth)
 
-    there : v < length (a .depths)
-    there = omega (arith, head-below, u .turning .usable .vertices)
-
     shallow : (x : ℕ) → cell ds x ≤ u .taken + 1
     shallow x = go (ℕ-discrete x v)
       where
         go : Dec (x ≡ v) → cell ds x ≤ u .taken + 1
-        go (yes e) = omega (arith, ap (cell ds) e, getD-set-same (a .depths) v (l .depth) 0 there, told .shallow)
+        go (yes e) = omega (arith, ap (cell ds) e, getD-set-same (a .depths) v (l .depth) 0 (placeable .depths), told .shallow)
         go (no n) = omega (arith, getD-set-other (a .depths) v x (l .depth) 0 n, u .shallow x)
 
     light : (x : ℕ) → cell ws x < 1_099_511_627_776
     light x = go (ℕ-discrete x v)
       where
         go : Dec (x ≡ v) → cell ws x < 1_099_511_627_776
-        go (yes e) = omega (arith, ap (cell ws) e, getD-set-same (a .weights) v (l .weight .0) 0 (omega (arith, there, u .turning .usable .level)), found-fits fitting f .weight)
+        go (yes e) = omega (arith, ap (cell ws) e, getD-set-same (a .weights) v (l .weight .0) 0 (placeable .weights), found-fits fitting f .weight)
         go (no n) = omega (arith, getD-set-other (a .weights) v x (l .weight .0) 0 n, u .waits .light x)
 
     low : u .taken + 1 ≤ 1024
@@ -137,7 +142,7 @@ module _ {m : Measure} {c : Columns} {a : Answers} {index list q : List ℕ} (u 
     fitted : Fitted (cell ws) (cell ds)
     fitted = record { weight = light; depth = λ x. omega (arith, shallow x, low) }
 
-    pub offerable-after : (q′ : List ℕ) → length q′ ≡ size → Offerable (same-table c (length ds)) ws ds q′
+    offerable-after : (q′ : List ℕ) → length q′ ≡ size → Offerable (same-table c (length ds)) ws ds q′
     offerable-after q′ s = record {
       usable = record {
         accepted = subst (λ (n : ℕ). acceptance (same-table c n) ≡ Accepted) (sym (u .turning .usable .vertices) ∙ sym (length-set (a .depths) v (l .depth))) (u .turning .usable .accepted);
@@ -149,14 +154,14 @@ module _ {m : Measure} {c : Columns} {a : Answers} {index list q : List ℕ} (u 
       sized = s;
     }
 
-    pub raised-sized : length (raised q v) ≡ size
+    raised-sized : length (raised q v) ≡ size
     raised-sized = raised-length q v few ∙ u .waits .queued .grouped .sized
 
     -- where the uses of the new vertex stand
-    pub uses-there : Edges (cell index (2 * v)) (cell index (2 * v + 1)) list (length (c .heads))
-    uses-there = record { inside = u .indexed .inside v head-below; numbered = u .indexed .uses v head-below .sound }
+    uses-there : Listed v index list (length (c .heads))
+    uses-there = record { placed = omega (arith, head-below, u .indexed .places); inside = u .indexed .inside v head-below; numbered = u .indexed .uses v head-below .sound }
 
-    pub waits-after : {q′ : List ℕ} → q′ ≡ offering (algebra m) (hypergraph (same-table c (length ds))) own (cell ws) (cell ds) (raised q v) (useAt list (cell index (2 * v))) (cell index (2 * v + 1)) → Waits m c ws ds q′
+    waits-after : {q′ : List ℕ} → q′ ≡ offering (algebra m) (hypergraph (same-table c (length ds))) own (cell ws) (cell ds) (raised q v) (useAt list (cell index (2 * v))) (cell index (2 * v + 1)) → Waits m c ws ds q′
     waits-after {q′} e = record { light = light; queued = subst (λ (x : List ℕ). Queued (algebra m) H own (cell ws) (cell ds) x) (sym e′) queued }
       where
         e′ : q′ ≡ offering (algebra m) H own (cell ws) (cell ds) (raised q v) (useAt list (cell index (2 * v))) (cell index (2 * v + 1))
@@ -165,9 +170,32 @@ module _ {m : Measure} {c : Columns} {a : Answers} {index list q : List ℕ} (u 
         queued : Queued (algebra m) H own (cell ws) (cell ds) (offering (algebra m) H own (cell ws) (cell ds) (raised q v) (useAt list (cell index (2 * v))) (cell index (2 * v + 1)))
         queued = relabelled (algebra m) H own (λ x h. head-key offerable x h) w d (cell ws) (cell ds) v
             (λ x n. getD-set-other (a .weights) v x (l .weight .0) 0 n) (λ x n. getD-set-other (a .depths) v x (l .depth) 0 n)
-            (told .fresh) (λ z. omega (arith, getD-set-same (a .depths) v (l .depth) 0 there, told .deep))
+            (told .fresh) (λ z. omega (arith, getD-set-same (a .depths) v (l .depth) 0 (placeable .depths), told .deep))
             (useAt list (cell index (2 * v))) (cell index (2 * v + 1)) (u .indexed .uses v head-below)
             q few (λ x h. fits x h) (u .waits .queued)
           where
             fits : (x : ℕ) → x < H .edges → Fitting (opening (algebra m) H own (cell ws) (cell ds) x)
             fits x h = let t = table-accepted c (u .turning .usable .accepted) in open-fits m H own (cell ws) (cell ds) x fitted (omega (arith, t .each x h .1 .own)) (omega (arith, t .edges))
+
+    -- the same from the columns in which the label was stored, the vertex that got it, and the queue without its key
+    module _ {b : Answers} {x : ℕ} (s : b ≡ put a v l) (h : x ≡ v) where
+      pub stored-turn : b ≡ turn (algebra m) H own a
+      stored-turn = s ∙ turned
+
+      pub raisable : (length q ≡ size) × (x < keys)
+      raisable = (u .waits .queued .grouped .sized, omega (arith, few))
+
+      module _ {q′ : List ℕ} (r : q′ ≡ raised q x) where
+        raised-here : q′ ≡ raised q v
+        raised-here = r ∙ ap (raised q) h
+
+        pub uses-offerable : Offerable (same-table c (length (b .depths))) (b .weights) (b .depths) q′ × Listed x index list (length (c .heads))
+        uses-offerable = (
+          subst (λ (z : Answers). Offerable (same-table c (length (z .depths))) (z .weights) (z .depths) q′) (sym s) (offerable-after q′ (ap length raised-here ∙ raised-sized)),
+          subst (λ (z : ℕ). Listed z index list (length (c .heads))) (sym h) uses-there,
+        )
+
+        pub waits-offered : {q″ : List ℕ} → q″ ≡ offering (algebra m) (hypergraph (same-table c (length (b .depths)))) own (cell (b .weights)) (cell (b .depths)) q′ (useAt list (cell index (2 * x))) (cell index (2 * x + 1)) → Waits m c (b .weights) (b .depths) q″
+        waits-offered {q″} e =
+            subst (λ (z : Answers). Waits m c (z .weights) (z .depths) q″) (sym s)
+            (waits-after (e ∙ (λ i. offering (algebra m) (hypergraph (same-table c (length (s i .depths)))) own (cell (s i .weights)) (cell (s i .depths)) (raised-here i) (useAt list (cell index (2 * h i))) (cell index (2 * h i + 1)))))

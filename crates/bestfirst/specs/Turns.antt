@@ -5,6 +5,7 @@ use Prim.Native.Nat.{ℕ, _+_, _*_, _≤_, _<_}
 use mathlib.Core.List.{List}
 use lib.ListN.{length}
 use Rattle.weights.specs.declared.Measure.{Measure}
+use Rattle.weights.specs.declared.Label.{Label}
 use Rattle.weights.specs.Measures.{algebra}
 use Rattle.provenance.specs.Hypergraph.{Hypergraph}
 use Rattle.provenance.specs.BestFirst.{Answers, turns}
@@ -25,9 +26,18 @@ pub record Offerable (c : Columns) (ws ds q : List ℕ) : Type 0 where
 abbrev pub useAt : List ℕ → (from : ℕ) → ℕ → ℕ
 useAt list from i = cell list (from + i)
 
-pub record Edges (from count : ℕ) (list : List ℕ) (edges : ℕ) : Type 0 where
-  pub inside : from + count ≤ length list
-  pub numbered : (i : ℕ) → i < count → useAt list from i < edges
+-- an index, two places for each vertex, offset and length, tells which of the hyperedges of a list are those of v
+pub record Listed (v : ℕ) (index list : List ℕ) (edges : ℕ) : Type 0 where
+  pub placed : 2 * v + 1 < length index
+  pub inside : cell index (2 * v) + cell index (2 * v + 1) ≤ length list
+  pub numbered : (i : ℕ) → i < cell index (2 * v + 1) → useAt list (cell index (2 * v)) i < edges
+
+-- a label's hyperedge has a head, and that head its place in each column
+pub record Placeable (l : Label) (heads : List ℕ) (a : Answers) : Type 0 where
+  pub numbered : l .edge .0 < length heads
+  pub weights : cell heads (l .edge .0) < length (a .weights)
+  pub depths : cell heads (l .edge .0) < length (a .depths)
+  pub edges : cell heads (l .edge .0) < length (a .edges)
 
 -- an index of uses: two places for each vertex, offset and length, into the list of the hyperedges that list it
 pub record UseIndex (H : Hypergraph) (index list : List ℕ) : Type 0 where

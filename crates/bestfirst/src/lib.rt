@@ -2,17 +2,18 @@
 // offers the hyperedges that list it.
 use offers::offer;
 use weights::Hyperedge;
+use weights::Label;
 use weights::Measure;
 use weights::Offer;
 ghost use mathlib.Core.Path.{_≡_};
-ghost use Prim.Native.Nat.{_<_};
+ghost use Prim.Native.Nat.{_+_, _*_, _<_};
 ghost use lib.ListN.{length};
 ghost use Rattle.weights.specs.Measures.{algebra};
-ghost use Rattle.provenance.specs.BestFirst.{opening, turn, best-first};
+ghost use Rattle.provenance.specs.BestFirst.{put, opening, turn, best-first};
 ghost use Rattle.columns.specs.Columns.{answers, hypergraph};
 ghost use Rattle.offers.specs.Lent.{lent, cell};
 ghost use Rattle.waiting.specs.Waiting.{offered, offering};
-ghost use Rattle.bestfirst.specs.Turns.{Offerable, useAt, Edges, Waits, Underway, Unmade, Ready, Room};
+ghost use Rattle.bestfirst.specs.Turns.{Offerable, useAt, Listed, Placeable, Waits, Underway, Unmade, Ready, Room};
 
 // The candidate of hyperedge e, where it is ready and its head is unmade, is offered to that head.
 fn offer_edge(
@@ -64,11 +65,11 @@ fn offer_all(
     }
 }
 
-// The hyperedges of a part of a list are offered.
+// The hyperedges that list v are offered.
 fn offer_uses(
     measure: Measure,
-    from: usize,
-    count: usize,
+    v: usize,
+    index: &[u64],
     list: &[u64],
     heads: &[u64],
     own: &[u64],
@@ -78,9 +79,11 @@ fn offer_uses(
     depths: &[u64],
     queue: &mut [u64],
 )
-    requires { ⌜ (Offerable (lent (now heads) (now own) (now spans) (now tails) (now depths)) (now weights) (now depths) (now queue)) × Edges from count (now list) (length (now heads)) ⌝ }
-    ensures { λ r. ⌜ now (queue .exit) ≡ offering (algebra measure) (hypergraph (lent (now (heads .entry)) (now (own .entry)) (now (spans .entry)) (now (tails .entry)) (now (depths .entry)))) (cell (now (own .entry))) (cell (now (weights .entry))) (cell (now (depths .entry))) (now (queue .entry)) (useAt (now (list .entry)) from) count ⌝ }
+    requires { ⌜ (Offerable (lent (now heads) (now own) (now spans) (now tails) (now depths)) (now weights) (now depths) (now queue)) × Listed v (now index) (now list) (length (now heads)) ⌝ }
+    ensures { λ r. ⌜ now (queue .exit) ≡ offering (algebra measure) (hypergraph (lent (now (heads .entry)) (now (own .entry)) (now (spans .entry)) (now (tails .entry)) (now (depths .entry)))) (cell (now (own .entry))) (cell (now (weights .entry))) (cell (now (depths .entry))) (now (queue .entry)) (useAt (now (list .entry)) (cell (now (index .entry)) (2 * v))) (cell (now (index .entry)) (2 * v + 1)) ⌝ }
 {
+    let from = index[2 * v] as usize;
+    let count = index[2 * v + 1] as usize;
     let mut i: usize = 0;
     while i < count {
         let e = list[from + i];
@@ -97,6 +100,28 @@ fn offer_uses(
         );
         i += 1;
     }
+}
+
+// The head of a label's hyperedge gets the label; gives that head.
+fn store(
+    l: Label,
+    heads: &[u64],
+    weights: &mut [u64],
+    depths: &mut [u64],
+    edges: &mut [u64],
+) -> usize
+    requires { ⌜ Placeable l (now heads) (answers (now weights) (now depths) (now edges)) ⌝ }
+    ensures head { λ r. ⌜ r ≡ cell (now (heads .entry)) (l .edge .0) ⌝ }
+    ensures stored { λ r. ⌜ answers (now (weights .exit)) (now (depths .exit)) (now (edges .exit)) ≡ put (answers (now (weights .entry)) (now (depths .entry)) (now (edges .entry))) (cell (now (heads .entry)) (l .edge .0)) l ⌝ }
+{
+    let weight = l.weight;
+    let e = l.edge;
+    let i = e.0 as usize;
+    let v = heads[i] as usize;
+    weights[v] = weight.0;
+    depths[v] = l.depth;
+    edges[v] = e.0;
+    v
 }
 
 // A turn: the head of the next hyperedge gets its candidate as label, and what lists that head is
@@ -123,20 +148,12 @@ fn turn(
         return;
     }
     let l = waiting::unpack(key);
-    let weight = l.weight;
-    let e = l.edge;
-    let i = e.0 as usize;
-    let v = heads[i] as usize;
-    weights[v] = weight.0;
-    depths[v] = l.depth;
-    edges[v] = e.0;
+    let v = store(l, heads, weights, depths, edges);
     minima::raise(queue, v);
-    let from = index[2 * v] as usize;
-    let count = index[2 * v + 1] as usize;
     offer_uses(
         measure,
-        from,
-        count,
+        v,
+        index,
         list,
         heads,
         own,

@@ -24,7 +24,7 @@ use Rattle.offers.specs.Lent.{cell}
 use Rattle.bill.specs.declared.Budget.{Budget}
 use Rattle.bill.specs.declared.Budget.the-variants.{Left, Spent}
 use Rattle.bill.specs.Walk.{lists, choices, vertexBill, Each, Grounded, VertexFits, Written, spend}
-use Rattle.bill.specs.Billing.{billOf, partAcceptance, billAcceptance, billed}
+use Rattle.bill.specs.Billing.{billOf, partAcceptance, billAcceptance, printed, billed}
 use Rattle.bill.specs.Bills.{AcceptedPart, part-accepted}
 use Rattle.bill.proofs.Walks.{is-spent, is-left}
 
@@ -35,12 +35,9 @@ module _ (c : Columns) (a : Answers) where
   read-bill zero v = refl
   read-bill (suc depth) v = ap (λ (f : ℕ → List ℕ). cell (a .edges) v ∷ bills f (tailAt c (cell (a .edges) v))) (fun-ext (read-bill depth))
 
-  abbrev pub printed : ℕ → List ℕ
-  printed v = vertexBill (c .spans) (c .tails) (a .edges) (labels a v .depth) v
-
-  printed-is : (v : ℕ) → billOf c a v ≡ printed v
+  lines-are : (v : ℕ) → billOf c a v ≡ vertexBill (c .spans) (c .tails) (a .edges) (labels a v .depth) v
   unfolding billOf
-  printed-is v = read-bill (labels a v .depth) v
+  lines-are v = read-bill (labels a v .depth) v
 
 -- at a fixpoint of an accepted table every made part is grounded
 module _ (m : Measure) (c : Columns) (a : Answers) (l : AcceptedColumns c a) (fix : Fixpoint (algebra m) (hypergraph c) (ownAt c) (labels a)) where
@@ -61,10 +58,28 @@ module _ (m : Measure) (c : Columns) (a : Answers) (l : AcceptedColumns c a) (fi
       let d : labels a v .depth ≡ deepest (labels a) (tailAt c (cell (a .edges) v)) + 1 = ap (λ (x : Label). x .depth) (g .given) in
       (omega (arith, l .sized .edges), record { span = omega (arith, t .spans, g .ready .stands .numbered); short = e .short; within = e .within }, all-grounded (grounded-within k) (g .ready .tails) (e .listed) (omega arith))
 
-module _ (m : Measure) (c : Columns) (a : Answers) (v : ℕ) (room : List ℕ) where
-  pub bill-refused : {r : Refusal} → partAcceptance m c a v ≡ answer.Refused r → record { result = Refused r; left = room } ≡ billed m c a v room
+-- printing what the walks read
+module _ (spans tails edges : List ℕ) (depth v : ℕ) (room : List ℕ) where
+  abbrev lines : List ℕ
+  lines = vertexBill spans tails edges depth v
+
+  -- the budget was spent: nothing is written
+  pub print-short : spend (length room) (length lines) ≡ Spent → record { result = Refused BillRoom; left = room } ≡ printed lines room
+  print-short q = rw (lt-leb (length lines) (length room) (is-spent (length room) (length lines) q))
+
+  module _ {rest : ℕ} (q : spend (length room) (length lines) ≡ Left rest) where
+    pub print-fits : Grounded spans tails edges depth v → VertexFits spans tails edges depth v room
+    print-fits g = record { grounded = g; fits = is-left (length room) (length lines) q .0 }
+
+    pub print-written : {to : ℕ} {left : List ℕ} → Written 0 lines room to left → record { result = Length to; left = left } ≡ printed lines room
+    print-written {to} {left} w =
+        let e : to ≡ length lines = omega (arith, w .filled) in
+        rw (le-leb (length lines) (length room) (is-left (length room) (length lines) q .0), e, w .content)
+
+module _ (m : Measure) (c : Columns) (a : Answers) (v : ℕ) where
+  pub bill-refused : (room : List ℕ) {r : Refusal} → partAcceptance m c a v ≡ answer.Refused r → record { result = Refused r; left = room } ≡ billed m c a v room
   unfolding billed billAcceptance
-  bill-refused p = rw p
+  bill-refused room p = rw p
 
   module _ (p : partAcceptance m c a v ≡ answer.Accepted) where
     accepted : AcceptedPart m c a v
@@ -76,17 +91,6 @@ module _ (m : Measure) (c : Columns) (a : Answers) (v : ℕ) (room : List ℕ) w
     pub bill-grounded : Grounded (c .spans) (c .tails) (a .edges) (labels a v .depth) v
     bill-grounded = grounded-within m c a (accepted .columns) (accepted .fixed) (labels a v .depth) v (accepted .vertex) (accepted .made) (omega arith)
 
-    -- the budget was spent: nothing is written
-    pub bill-short : spend (length room) (length (printed c a v)) ≡ Spent → record { result = Refused BillRoom; left = room } ≡ billed m c a v room
+    pub bill-printed : (room : List ℕ) → printed (vertexBill (c .spans) (c .tails) (a .edges) (labels a v .depth) v) room ≡ billed m c a v room
     unfolding billed billAcceptance
-    bill-short q = rw (p, lt-leb (length (billOf c a v)) (length room) (omega (arith, is-spent (length room) (length (printed c a v)) q, ap length (printed-is c a v))))
-
-    module _ {rest : ℕ} (q : spend (length room) (length (printed c a v)) ≡ Left rest) where
-      pub bill-fits : VertexFits (c .spans) (c .tails) (a .edges) (labels a v .depth) v room
-      bill-fits = record { grounded = bill-grounded; fits = is-left (length room) (length (printed c a v)) q .0 }
-
-      pub bill-written : {to : ℕ} {left : List ℕ} → Written 0 (printed c a v) room to left → record { result = Length to; left = left } ≡ billed m c a v room
-      unfolding billed billAcceptance
-      bill-written {to} {left} w =
-          let e : to ≡ length (printed c a v) = omega (arith, w .filled) in
-          rw (p, printed-is c a v, le-leb (length (printed c a v)) (length room) (bill-fits .fits), e, w .content)
+    bill-printed room = rw (p, lines-are c a v)

@@ -30,9 +30,13 @@ partAcceptance m c a v =
     (test (ltb 0 (labels a v .depth)) Underivable
     answer.Accepted)))
 
--- then 13: the bill is longer than the room
+-- 13: a bill longer than the room
+abbrev pub roomAcceptance : (bill : List ℕ) → (places : ℕ) → Answer
+roomAcceptance bill places = test (leb (length bill) places) BillRoom answer.Accepted
+
+-- 1 to 7, 11, 8 and 12, then 13
 unfoldable pub billAcceptance : Measure → Columns → Answers → (v places : ℕ) → Answer
-billAcceptance m c a v places = andThen (partAcceptance m c a v) (test (leb (length (billOf c a v)) places) BillRoom answer.Accepted)
+billAcceptance m c a v places = andThen (partAcceptance m c a v) (roomAcceptance (billOf c a v) places)
 
 -- what the call returns, and the room as it leaves it
 pub record Outcome : Type 0 where
@@ -43,6 +47,10 @@ pub record Outcome : Type 0 where
 abbrev pub outcome : Answer → (bill room : List ℕ) → Outcome
 outcome answer.Accepted bill room = record { result = Length (length bill); left = bill ++ drop (length bill) room }
 outcome (answer.Refused r) bill room = record { result = Refused r; left = room }
+
+-- printing a bill into the room at entry
+abbrev pub printed : (bill room : List ℕ) → Outcome
+printed bill room = outcome (roomAcceptance bill (length room)) bill room
 
 -- printing the bill of v, from the columns, the answers and the room at entry
 unfoldable pub billed : Measure → Columns → Answers → (v : ℕ) → List ℕ → Outcome

@@ -10,7 +10,7 @@ use weights::Vertex;
 ghost use mathlib.Core.Path.{_≡_};
 ghost use lib.ListN.{length};
 ghost use Rattle.columns.specs.Columns.{columns, answers, tailOf};
-ghost use Rattle.bill.specs.Billing.{partAcceptance, billed};
+ghost use Rattle.bill.specs.Billing.{partAcceptance, printed, billed};
 ghost use Rattle.bill.specs.Walk.{vertexBill, tailBill, Placed, Grounded, AllGrounded, VertexFits, TailFits, Written, spend};
 
 // What is left of the room that a bill may take.
@@ -140,24 +140,14 @@ fn check_part(
 ) -> Answer
     ensures { λ r. ⌜ r ≡ partAcceptance measure (columns n (now (heads .entry)) (now (own .entry)) (now (spans .entry)) (now (tails .entry))) (answers (now (weights .entry)) (now (depths .entry)) (now (edges .entry))) (part .0) ⌝ }
 {
-    let verdict = settle::check_answers(
-        measure,
-        n,
-        heads,
-        own,
-        spans,
-        tails,
-        weights,
-        depths,
-        edges,
-    );
-    if let Verdict::Refused(r) = verdict {
+    let v = settle::check_answers(measure, n, heads, own, spans, tails, weights, depths, edges);
+    if let Verdict::Refused(r) = v {
         return Answer::Refused(r);
     }
     if part.0 >= n {
         return Answer::Refused(Refusal::NoSuchVertex);
     }
-    if let Verdict::No = verdict {
+    if let Verdict::No = v {
         return Answer::Refused(Refusal::WrongAnswers);
     }
     let i = part.0 as usize;
@@ -167,8 +157,29 @@ fn check_part(
     Answer::Accepted
 }
 
-// Prints the bill of a part from the start of the room, and gives its length. Nothing is written
-// before the whole bill is known to fit.
+// Prints the bill of v, which is at most `depth` deep. Nothing is written before the whole bill is
+// known to fit: 13.
+fn print(
+    depth: u64,
+    v: Vertex,
+    spans: &[u64],
+    tails: &[u64],
+    edges: &[u64],
+    room: &mut [u64],
+) -> Extent
+    requires { ⌜ Grounded (now spans) (now tails) (now edges) depth (v .0) ⌝ }
+    ensures { λ r. ⌜ record { result = r; left = now (room .exit) } ≡ printed (vertexBill (now (spans .entry)) (now (tails .entry)) (now (edges .entry)) depth (v .0)) (now (room .entry)) ⌝ }
+{
+    let budget = vertex_spend(depth, v, spans, tails, edges, room.len());
+    match budget {
+        Budget::Spent => return Extent::Refused(Refusal::BillRoom),
+        Budget::Left(_) => {}
+    }
+    let length = vertex_bill(depth, v, spans, tails, edges, room);
+    Extent::Length(length as u64)
+}
+
+// Prints the bill of a part from the start of the room, and gives its length.
 pub fn bill(
     measure: Measure,
     n: u64,
@@ -202,11 +213,5 @@ pub fn bill(
     }
     let i = part.0 as usize;
     let depth = depths[i];
-    let budget = vertex_spend(depth, part, spans, tails, edges, room.len());
-    match budget {
-        Budget::Spent => return Extent::Refused(Refusal::BillRoom),
-        Budget::Left(_) => {}
-    }
-    let length = vertex_bill(depth, part, spans, tails, edges, room);
-    Extent::Length(length as u64)
+    print(depth, part, spans, tails, edges, room)
 }

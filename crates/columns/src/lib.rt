@@ -7,9 +7,10 @@ use weights::Hyperedge;
 use weights::Vertex;
 use weights::Weight;
 ghost use mathlib.Core.Path.{_≡_};
+ghost use Prim.Native.Nat.{_*_};
 ghost use lib.ListN.{length, replicate};
 ghost use Rattle.columns.specs.Columns.{columns, answers};
-ghost use Rattle.columns.specs.Acceptance.{allBelow, edgeAcceptance, acceptance, lentAcceptance};
+ghost use Rattle.columns.specs.Acceptance.{allBelow, edgeAcceptance, edgesAcceptance, acceptance, lentAcceptance};
 
 // The greatest numbers of vertices, of hyperedges, of listed vertices in all and of one hyperedge.
 pub const MOST_VERTICES: u64 = 1024;
@@ -77,25 +78,11 @@ fn check_edge(
     }
 }
 
-// Whether the table of n vertices is accepted, or the first refusal.
-pub fn check_table(n: u64, heads: &[u64], own: &[u64], spans: &[u64], tails: &[u64]) -> Answer
-    ensures { λ r. ⌜ r ≡ acceptance (columns n (now (heads .entry)) (now (own .entry)) (now (spans .entry)) (now (tails .entry))) ⌝ }
+// Whether every hyperedge is accepted, or the first refusal.
+fn check_edges(n: u64, heads: &[u64], own: &[u64], spans: &[u64], tails: &[u64]) -> Answer
+    requires { ⌜ (length (now own) ≡ length (now heads)) × (length (now spans) ≡ 2 * length (now heads)) ⌝ }
+    ensures { λ r. ⌜ r ≡ edgesAcceptance (columns n (now (heads .entry)) (now (own .entry)) (now (spans .entry)) (now (tails .entry))) (length (now (heads .entry))) 0 0 ⌝ }
 {
-    if n > MOST_VERTICES {
-        return Answer::Refused(Refusal::TooManyVertices);
-    }
-    if own.len() != heads.len() {
-        return Answer::Refused(Refusal::Lengths);
-    }
-    if heads.len() > MOST_EDGES {
-        return Answer::Refused(Refusal::Lengths);
-    }
-    if spans.len() != 2 * heads.len() {
-        return Answer::Refused(Refusal::Lengths);
-    }
-    if tails.len() > MOST_LISTED {
-        return Answer::Refused(Refusal::Lengths);
-    }
     let mut end: u64 = 0;
     let mut i = 0;
     while i < heads.len() {
@@ -121,6 +108,28 @@ pub fn check_table(n: u64, heads: &[u64], own: &[u64], spans: &[u64], tails: &[u
         i += 1;
     }
     Answer::Accepted
+}
+
+// Whether the table of n vertices is accepted, or the first refusal.
+pub fn check_table(n: u64, heads: &[u64], own: &[u64], spans: &[u64], tails: &[u64]) -> Answer
+    ensures { λ r. ⌜ r ≡ acceptance (columns n (now (heads .entry)) (now (own .entry)) (now (spans .entry)) (now (tails .entry))) ⌝ }
+{
+    if n > MOST_VERTICES {
+        return Answer::Refused(Refusal::TooManyVertices);
+    }
+    if own.len() != heads.len() {
+        return Answer::Refused(Refusal::Lengths);
+    }
+    if heads.len() > MOST_EDGES {
+        return Answer::Refused(Refusal::Lengths);
+    }
+    if spans.len() != 2 * heads.len() {
+        return Answer::Refused(Refusal::Lengths);
+    }
+    if tails.len() > MOST_LISTED {
+        return Answer::Refused(Refusal::Lengths);
+    }
+    check_edges(n, heads, own, spans, tails)
 }
 
 // The same with three answer columns, each of which must be n long.

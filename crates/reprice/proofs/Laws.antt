@@ -18,7 +18,7 @@ use Rattle.refusal.specs.declared.Verdict.{Verdict}
 use Rattle.refusal.specs.declared.Verdict.the-variants as verdict
 use Rattle.provenance.specs.BestFirst.{Answers}
 use Rattle.columns.specs.Columns.{Columns, ownAt, withOwn}
-use Rattle.columns.specs.Acceptance.{test, andThen, lentAcceptance}
+use Rattle.columns.specs.Acceptance.{mostEdges, test, andThen, lentAcceptance}
 use Rattle.columns.specs.Accepted.{test-passed, both-accepted, columns-accepted, table-accepted}
 use Rattle.columns.specs.Repriced.{lent-kept}
 use Rattle.columns.specs.Same.{same}
@@ -26,7 +26,6 @@ use Rattle.settle.specs.Settling.{Outcome, answersOf, settled}
 use Rattle.settle.specs.Checking as checking
 use Rattle.settle.specs.Checking.{checked}
 use Rattle.settle.specs.Demands.{settled-left, settled-result}
-use Rattle.reprice.specs.Storing.{Storable}
 use Rattle.reprice.specs.Repricing.{stands, lineAcceptance, answersAcceptance, repriceAcceptance, strikeAcceptance, Change, changed, repriced, stricken}
 
 -- what the answer check said, as an answer
@@ -54,8 +53,23 @@ module _ (c : Columns) (a : Answers) (e : ℕ) (p : lineAcceptance c a e ≡ Acc
   unfolding lineAcceptance
   line-stands = test-passed (stands c e) NoSuchEdge Accepted (both-accepted (lentAcceptance c a) _ p .1) .0
 
-  pub storable : (w : ℕ) → w ≤ struck → Storable c a e w
-  storable w h = record { accepted = line-lent; numbered = ltb-true _ _ (both-true {a = ltb e (length (c .heads))} {b = not (isStruck (ownAt c e))} line-stands .0); low = h }
+  line-numbered : e < length (c .heads)
+  line-numbered = ltb-true _ _ (both-true {a = ltb e (length (c .heads))} {b = not (isStruck (ownAt c e))} line-stands .0)
+
+  -- it has an own figure
+  pub line-placed : e < length (c .own)
+  line-placed = omega (arith, line-numbered, table-accepted c (columns-accepted c a line-lent .table) .own)
+
+  pub line-few : e < mostEdges
+  line-few = omega (arith, line-numbered, table-accepted c (columns-accepted c a line-lent .table) .edges)
+
+  -- what settling leaves once another figure is stored
+  pub stored : (m : Measure) (w : ℕ) → w ≤ struck → {x : Answer} {b : Answers} → record { result = x; left = b } ≡ settled m (withOwn c e w) a → record { result = x; own = set (c .own) e w; left = b } ≡ changed m c a e w Accepted
+  stored m w h {x} {b} q =
+      let k = lent-kept c e w line-placed h a line-lent in
+      let r : x ≡ Accepted = ap (λ (o : Outcome). o .result) q ∙ settled-result m (withOwn c e w) a ∙ k in
+      let l : b ≡ answersOf m (withOwn c e w) = ap (λ (o : Outcome). o .left) q ∙ settled-left m (withOwn c e w) a k in
+      λ i. record { result = r i; own = set (c .own) e w; left = l i }
 
   -- where the line was accepted, the answer check's own refusals do not arise
   pub right-alone : (m : Measure) {x : Answer} → x ≡ andThen (lentAcceptance c a) (answersAcceptance m c a) → x ≡ answersAcceptance m c a
@@ -94,12 +108,3 @@ module _ (m : Measure) (c : Columns) (a : Answers) (e : ℕ) where
     pub strike-answers : {x : Answer} → x ≡ answersAcceptance m c a → x ≡ strikeAcceptance m c a e
     unfolding strikeAcceptance
     strike-answers q = q ∙ rw p
-
--- what settling leaves once the figure is stored
-pub stored : (m : Measure) (c : Columns) (a : Answers) (e w : ℕ) (s : Storable c a e w) {x : Answer} {b : Answers} → record { result = x; left = b } ≡ settled m (withOwn c e w) a → record { result = x; own = set (c .own) e w; left = b } ≡ changed m c a e w Accepted
-stored m c a e w s {x} {b} q =
-    let t = table-accepted c (columns-accepted c a (s .accepted) .table) in
-    let k = lent-kept c e w (omega (arith, t .own, s .numbered)) (s .low) a (s .accepted) in
-    let p : x ≡ Accepted = ap (λ (o : Outcome). o .result) q ∙ settled-result m (withOwn c e w) a ∙ k in
-    let l : b ≡ answersOf m (withOwn c e w) = ap (λ (o : Outcome). o .left) q ∙ settled-left m (withOwn c e w) a k in
-    λ i. record { result = p i; own = set (c .own) e w; left = l i }

@@ -1,3 +1,2 @@
 pub mod Repricing
-pub mod Storing
 pub mod Demand3

@@ -7,11 +7,9 @@ use weights::Hyperedge;
 use weights::Measure;
 use weights::Weight;
 ghost use mathlib.Core.Path.{_≡_};
-ghost use Rattle.refusal.specs.declared.Answer.the-variants.{Accepted};
 ghost use Rattle.columns.specs.Columns.{columns, answers};
 ghost use Rattle.columns.specs.Acceptance.{andThen, lentAcceptance};
-ghost use Rattle.reprice.specs.Repricing.{lineAcceptance, answersAcceptance, changed, repriced, stricken};
-ghost use Rattle.reprice.specs.Storing.{Storable};
+ghost use Rattle.reprice.specs.Repricing.{lineAcceptance, answersAcceptance, repriced, stricken};
 
 // Whether table, answer columns and line are accepted: 1 to 6, 7, 9.
 fn check_line(
@@ -66,28 +64,6 @@ fn check_right(
     }
 }
 
-// The figure is stored, and the table settled.
-fn store(
-    measure: Measure,
-    n: u64,
-    heads: &[u64],
-    own: &mut [u64],
-    spans: &[u64],
-    tails: &[u64],
-    weights: &mut [u64],
-    depths: &mut [u64],
-    edges: &mut [u64],
-    line: Hyperedge,
-    figure: Weight,
-) -> Answer
-    requires { ⌜ Storable (columns n (now heads) (now own) (now spans) (now tails)) (answers (now weights) (now depths) (now edges)) (line .0) (figure .0) ⌝ }
-    ensures { λ r. ⌜ record { result = r; own = now (own .exit); left = answers (now (weights .exit)) (now (depths .exit)) (now (edges .exit)) } ≡ changed measure (columns n (now (heads .entry)) (now (own .entry)) (now (spans .entry)) (now (tails .entry))) (answers (now (weights .entry)) (now (depths .entry)) (now (edges .entry))) (line .0) (figure .0) Accepted ⌝ }
-{
-    let i = line.0 as usize;
-    own[i] = figure.0;
-    settle::settle(measure, n, heads, own, spans, tails, weights, depths, edges)
-}
-
 // The line's own figure becomes this one, and the answers those of the table as it then is; or a
 // refusal, and nothing has changed.
 pub fn reprice(
@@ -118,19 +94,9 @@ pub fn reprice(
         Answer::Refused(r) => return Answer::Refused(r),
         Answer::Accepted => {}
     }
-    store(
-        measure,
-        n,
-        heads,
-        own,
-        spans,
-        tails,
-        weights,
-        depths,
-        edges,
-        line,
-        figure,
-    )
+    let i = line.0 as usize;
+    own[i] = figure.0;
+    settle::settle(measure, n, heads, own, spans, tails, weights, depths, edges)
 }
 
 // The line is struck, and the answers become those of the table as it then is; or a refusal, and
@@ -159,17 +125,7 @@ pub fn strike(
         Answer::Refused(r) => return Answer::Refused(r),
         Answer::Accepted => {}
     }
-    store(
-        measure,
-        n,
-        heads,
-        own,
-        spans,
-        tails,
-        weights,
-        depths,
-        edges,
-        line,
-        Weight::STRUCK,
-    )
+    let i = line.0 as usize;
+    own[i] = Weight::STRUCK.0;
+    settle::settle(measure, n, heads, own, spans, tails, weights, depths, edges)
 }

@@ -8,11 +8,11 @@ use Rattle.bill.proofs.check_part.Tie as tie
 check-answers-requires : tie.Need-check-answers-requires
 check-answers-requires c κs = search needs
 
-enum-known-verdict : tie.Need-enum-known-verdict
-enum-known-verdict c = search needs
+enum-known-v : tie.Need-enum-known-v
+enum-known-v c = search needs
 
 returns : tie.Need-returns
-returns c = part-refused _ _ _ _ (c .before .before .before .check-answers .ensures) (c .before .verdict .given .1)
+returns c = part-refused _ _ _ _ (c .before .before .before .check-answers .ensures) (c .before .v .given .1)
 
 returns-2 : tie.Need-returns-2
 returns-2 c = part-absent _ _ _ _ (c .before .before .before .check-answers .ensures) (c .before .before .match .keys2) (c .if1 .taken)
@@ -40,7 +40,7 @@ check-part-spec =
     tie.close
     (tie.spec
     check-answers-requires
-    enum-known-verdict
+    enum-known-v
     returns
     returns-2
     enum-told

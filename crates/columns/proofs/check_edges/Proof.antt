@@ -1,0 +1,126 @@
+-- `columns::check_edges` meets its contract. The invariant: what is left of the table, from hyperedge i on, has the answer of all its hyperedges. Assumes nothing.
+use Rattle.columns.proofs.check_edges.Statement.{statement}
+use Rattle.columns.proofs.check_edges.Tie as tie
+use mathlib.Core.Path.{_≡_, sym, _∙_}
+use Prim.Native.Nat.{ℕ, _+_, _*_, _-_, _≤_}
+use native.Mathlib.Nat.{sub-zero}
+use native.Mathlib.Omega.{arith}
+use borrow.Author.Needs.{needs}
+use lib.ListN.{length}
+use Rattle.refusal.specs.declared.Answer.the-variants.{Accepted}
+use Rattle.columns.specs.Columns.{Columns, columns}
+use Rattle.columns.specs.Acceptance.{edgeAt, edgesAcceptance}
+use Rattle.columns.specs.Accepted.{edge-accepted}
+use Rattle.columns.proofs.Laws.{edges-step, edges-stop, edges-end}
+
+abbrev Inv-loop : tie.InvT-loop
+Inv-loop n heads own spans tails end₀ i₀ end i =
+    (i ≤ length heads) × (edgesAcceptance (columns n heads own spans tails) (length heads - i) i end ≡ edgesAcceptance (columns n heads own spans tails) (length heads) 0 0)
+
+abbrev μ-loop : tie.MeasureT-loop
+μ-loop n heads own spans tails end₀ i₀ end i = length heads - i
+
+-- the columns, seen from the loop
+abbrev table : tie.At-loop Inv-loop μ-loop → Columns
+table c =
+    let a = c .before .before .before .before .before .args in
+    columns (a .n) (a .heads .now) (a .own .now) (a .spans .now) (a .tails .now)
+
+loop-holds : tie.Need-loop-holds Inv-loop μ-loop
+loop-holds c = (omega arith, rw sub-zero)
+
+mul-offset : tie.Need-mul-offset Inv-loop μ-loop
+mul-offset c = search needs
+
+shared-slice-read-offset : tie.Need-shared-slice-read-offset Inv-loop μ-loop
+shared-slice-read-offset c = search needs
+
+mul-offset-2 : tie.Need-mul-offset-2 Inv-loop μ-loop
+mul-offset-2 c = search needs
+
+shared-slice-read-offset-2 : tie.Need-shared-slice-read-offset-2 Inv-loop μ-loop
+shared-slice-read-offset-2 c = search needs
+
+mul-offset-3 : tie.Need-mul-offset-3 Inv-loop μ-loop
+mul-offset-3 c = search needs
+
+mul-offset-4 : tie.Need-mul-offset-4 Inv-loop μ-loop
+mul-offset-4 c = search needs
+
+shared-slice-read-offset-3 : tie.Need-shared-slice-read-offset-3 Inv-loop μ-loop
+shared-slice-read-offset-3 c = search needs
+
+mul-size : tie.Need-mul-size Inv-loop μ-loop
+mul-size c = search needs
+
+add-size : tie.Need-add-size Inv-loop μ-loop
+add-size c = search needs
+
+mul-size-2 : tie.Need-mul-size-2 Inv-loop μ-loop
+mul-size-2 c = search needs
+
+shared-slice-read-size : tie.Need-shared-slice-read-size Inv-loop μ-loop
+shared-slice-read-size c = search needs
+
+check-edge-requires : tie.Need-check-edge-requires Inv-loop μ-loop
+check-edge-requires c κs = search needs
+
+enum-known-a : tie.Need-enum-known-a Inv-loop μ-loop
+enum-known-a c = search needs
+
+returns : tie.Need-returns Inv-loop μ-loop
+returns c =
+    let l = c .before .before .before .before .before .before .before .before .before in
+    edges-stop (table l) _ _ _ _ (c .before .before .before .before .before .before .before .before .loop-test .taken) (sym (c .before .before .before .check-edge .ensures) ∙ c .before .a .given .1) ∙ l .loop .inv .1
+
+enum-told : tie.Need-enum-told Inv-loop μ-loop
+enum-told c = search needs
+
+-- in the other arm the hyperedge is accepted
+passed : (c : tie.After-enum-told Inv-loop μ-loop) → let l = c .before .before .before .before .before .before .before .before in edgeAt (table l) (l .loop .i) (l .loop .end) ≡ Accepted
+passed c = sym (c .before .before .check-edge .ensures) ∙ c .enum-told .given .1
+
+add-end : tie.Need-add-end Inv-loop μ-loop
+add-end c = omega (arith, edge-accepted _ _ _ _ _ _ _ _ (passed c) .within)
+
+add-i : tie.Need-add-i Inv-loop μ-loop
+add-i c = search needs
+
+loop-less : tie.Need-loop-less Inv-loop μ-loop
+loop-less c = search needs
+
+loop-again : tie.Need-loop-again Inv-loop μ-loop
+loop-again c =
+    let l = c .before .before .before .before .before .before .before .before in
+    (omega arith, edges-step (table l) _ _ _ (c .before .before .before .before .before .before .before .loop-test .taken) (passed c) ∙ l .loop .inv .1)
+
+returns-2 : tie.Need-returns-2 Inv-loop μ-loop
+returns-2 c = edges-end (table (c .before)) _ _ _ (c .loop-test .left) ∙ c .before .loop .inv .1
+
+pub check-edges-spec : {M : Type 1} → statement M
+check-edges-spec =
+    tie.close
+    (tie.spec
+    Inv-loop
+    μ-loop
+    loop-holds
+    mul-offset
+    shared-slice-read-offset
+    mul-offset-2
+    shared-slice-read-offset-2
+    mul-offset-3
+    mul-offset-4
+    shared-slice-read-offset-3
+    mul-size
+    add-size
+    mul-size-2
+    shared-slice-read-size
+    check-edge-requires
+    enum-known-a
+    returns
+    enum-told
+    add-end
+    add-i
+    loop-less
+    loop-again
+    returns-2)
