@@ -1,6 +1,7 @@
 -- What a turn finds and leaves: the least key tells what is next, and after its head is labelled the queue is that of the new labels. Assumes nothing.
 use mathlib.Core.Path.{_≡_, refl, sym, _∙_, ap, subst}
 use mathlib.Core.Logic.{_≢_}
+use mathlib.Core.Bool.{Bool, true, false}
 use mathlib.Core.List.{List, [], _∷_}
 use Prim.Native.Nat.{ℕ, _+_, _*_, _≤_, _<_}
 use native.Mathlib.Omega.{arith}
@@ -10,24 +11,27 @@ use lib.Seq.{getD-set-same, getD-set-other}
 use Rattle.weights.specs.declared.Measure.{Measure}
 use Rattle.weights.specs.declared.Label.{Label}
 use Rattle.weights.specs.declared.Offer.{Offer}
-use Rattle.weights.specs.declared.Offer.the-variants.{Nothing, Found}
+use Rattle.weights.specs.declared.Offer.the-variants.{Found}
+use Rattle.weights.specs.Choice.{apart}
 use Rattle.weights.specs.Measures.{Algebra, algebra}
 use Rattle.weights.specs.Laws.{lawful}
 use Rattle.refusal.specs.declared.Answer.the-variants.{Accepted}
 use Rattle.provenance.specs.Hypergraph.{Hypergraph}
 use Rattle.provenance.specs.Labelling.{greatest, candidate}
 use Rattle.provenance.specs.BestFirst.{Answers, labels, put, place, opening, next, turn, Next, next-is}
-use Rattle.columns.specs.Columns.{Columns, headAt, hypergraph}
+use Rattle.columns.specs.Columns.{Columns, hypergraph}
 use Rattle.columns.specs.Acceptance.{acceptance}
 use Rattle.columns.specs.Accepted.{table-accepted}
-use Rattle.offers.specs.Lent.{cell, Usable}
+use Rattle.uses.specs.Uses.{member}
+use Rattle.offers.specs.Lent.{cell}
 use Rattle.offers.specs.Laws.{same-table}
 use Rattle.minima.specs.Minima.{none, keys, size, leastFrom, raised}
 use Rattle.minima.specs.Laws.{raised-length}
-use Rattle.waiting.specs.Keys.{unpacked, Fits, Fitting, keyOf}
-use Rattle.waiting.specs.Waiting.{Queued, offering}
+use Rattle.waiting.specs.Keys.{unpacked, Fitting, keyOf}
+use Rattle.waiting.specs.Waiting.{Queued, offering, UsesOf}
 use Rattle.waiting.specs.Queue.{Fitted, least-next, fitting-next, told-nothing, told-found, relabelled, open-fits}
-use Rattle.bestfirst.specs.Turns.{Offerable, useAt, Listed, Placeable, Waits, Underway}
+use Rattle.waiting.specs.Missing.{missingIn, missing-shut, missing-less, missing-same, lessened, lessened-length, lessened-other, lessened-named}
+use Rattle.bestfirst.specs.Turns.{Offerable, useAt, Due, Arrivals, Placeable, Waits, Underway}
 use Rattle.bestfirst.proofs.Laws.{head-key, edge-fits, found-fits}
 
 greatest-at-most : (d : ℕ → ℕ) (k : ℕ) → ((v : ℕ) → d v ≤ k) → (vs : List ℕ) → greatest d vs ≤ k
@@ -55,7 +59,7 @@ told-next {A} {H} {own} a {k = k} {l = l} f (Next.found e o b) p =
       shallow = omega (arith, greatest-at-most (cell (a .depths)) k f (H .tail e));
     }
 
-module _ {m : Measure} {c : Columns} {a : Answers} {index list q : List ℕ} (u : Underway m c a index list q) where
+module _ {m : Measure} {c : Columns} {a : Answers} {index list ms q : List ℕ} (u : Underway m c a index list ms q) where
   abbrev own : ℕ → ℕ
   own = cell (c .own)
 
@@ -157,12 +161,64 @@ module _ {m : Measure} {c : Columns} {a : Answers} {index list q : List ℕ} (u 
     raised-sized : length (raised q v) ≡ size
     raised-sized = raised-length q v few ∙ u .waits .queued .grouped .sized
 
-    -- where the uses of the new vertex stand
-    uses-there : Listed v index list (length (c .heads))
-    uses-there = record { placed = omega (arith, head-below, u .indexed .places); inside = u .indexed .inside v head-below; numbered = u .indexed .uses v head-below .sound }
+    -- the hyperedges that list the new vertex
+    abbrev nth : ℕ → ℕ
+    nth = useAt list (cell index (2 * v))
 
-    waits-after : {q′ : List ℕ} → q′ ≡ offering (algebra m) (hypergraph (same-table c (length ds))) own (cell ws) (cell ds) (raised q v) (useAt list (cell index (2 * v))) (cell index (2 * v + 1)) → Waits m c ws ds q′
-    waits-after {q′} e = record { light = light; queued = subst (λ (x : List ℕ). Queued (algebra m) H own (cell ws) (cell ds) x) (sym e′) queued }
+    abbrev count : ℕ
+    count = cell index (2 * v + 1)
+
+    abbrev uses : UsesOf H v nth count
+    uses = u .indexed .uses v head-below
+
+    placed : (e : ℕ) → e < H .edges → e < length ms
+    placed e h = omega (arith, u .waits .level, table-accepted c (u .turning .usable .accepted) .edges)
+
+    depths-same : (x : ℕ) → x ≢ v → cell ds x ≡ d x
+    depths-same x n = getD-set-other (a .depths) v x (l .depth) 0 n
+
+    made : cell ds v ≢ 0
+    made z = omega (arith, getD-set-same (a .depths) v (l .depth) 0 (placeable .depths), told .deep)
+
+    -- one vertex less is missing in the tail of each
+    fewer : (e : ℕ) → e < H .edges → member v (H .tail e) ≡ true → cell ms e ≡ missingIn (cell ds) (H .tail e) (c .vertices) + 1
+    fewer e h z = u .waits .missing e h ∙ missing-less d (cell ds) v depths-same (told .fresh) made (H .tail e) (c .vertices) head-below z
+
+    due : (i : ℕ) → i < count → Due m (same-table c (length ds)) ws ds ms (nth i)
+    due i h =
+        let p = fewer (nth i) (uses .sound i h) (uses .lists i h) in
+        record {
+          numbered = uses .sound i h;
+          placed = placed (nth i) (uses .sound i h);
+          some = omega arith;
+          shut = λ n. missing-shut (algebra m) (hypergraph (same-table c (length ds))) own (cell ws) (cell ds) (nth i) (c .vertices) (λ z. n (omega arith));
+        }
+
+    arrivals : Arrivals m (same-table c (length ds)) ws ds ms v index list
+    arrivals = record { placed = omega (arith, head-below, u .indexed .places); inside = u .indexed .inside v head-below; ascending = uses .ascending; due = due }
+
+    not-listed : (e : ℕ) → member v (H .tail e) ≡ false → (i : ℕ) → i < count → nth i ≢ e
+    not-listed e z i h p = apart (sym z ∙ ap (λ (x : ℕ). member v (H .tail x)) (sym p) ∙ uses .lists i h)
+
+    missing-after : (e : ℕ) → e < H .edges → cell (lessened ms nth count) e ≡ missingIn (cell ds) (H .tail e) (c .vertices)
+    missing-after e h = go (member v (H .tail e)) refl
+      where
+        go : (b : Bool) → member v (H .tail e) ≡ b → cell (lessened ms nth count) e ≡ missingIn (cell ds) (H .tail e) (c .vertices)
+        go true z =
+            let i = uses .complete e h z in
+            let q = lessened-named ms nth count (i .0) (i .1 .0) (λ j k. placed (nth j) (uses .sound j k)) (uses .ascending) in
+            let r = ap (cell (lessened ms nth count)) (i .1 .1) in
+            let s = ap (cell ms) (i .1 .1) in
+            omega (arith, q, r, s, fewer e h z)
+        go false z = lessened-other ms nth count e (not-listed e z) ∙ u .waits .missing e h ∙ sym (missing-same d (cell ds) v depths-same (told .fresh) made (H .tail e) (c .vertices) z)
+
+    waits-after : {q′ : List ℕ} → q′ ≡ offering (algebra m) (hypergraph (same-table c (length ds))) own (cell ws) (cell ds) (raised q v) (useAt list (cell index (2 * v))) (cell index (2 * v + 1)) → {ns : List ℕ} → ns ≡ lessened ms nth count → Waits m c ws ds ns q′
+    waits-after {q′} e {ns} f = record {
+      light = light;
+      level = ap length f ∙ lessened-length ms nth count ∙ u .waits .level;
+      missing = λ x h. ap (λ (z : List ℕ). cell z x) f ∙ missing-after x h;
+      queued = subst (λ (x : List ℕ). Queued (algebra m) H own (cell ws) (cell ds) x) (sym e′) queued;
+    }
       where
         e′ : q′ ≡ offering (algebra m) H own (cell ws) (cell ds) (raised q v) (useAt list (cell index (2 * v))) (cell index (2 * v + 1))
         e′ = subst (λ (n : ℕ). q′ ≡ offering (algebra m) (hypergraph (same-table c n)) own (cell ws) (cell ds) (raised q v) (useAt list (cell index (2 * v))) (cell index (2 * v + 1))) (length-set (a .depths) v (l .depth) ∙ u .turning .usable .vertices) e
@@ -189,13 +245,14 @@ module _ {m : Measure} {c : Columns} {a : Answers} {index list q : List ℕ} (u 
         raised-here : q′ ≡ raised q v
         raised-here = r ∙ ap (raised q) h
 
-        pub uses-offerable : Offerable (same-table c (length (b .depths))) (b .weights) (b .depths) q′ × Listed x index list (length (c .heads))
+        pub uses-offerable : Offerable (same-table c (length (b .depths))) (b .weights) (b .depths) q′ × Arrivals m (same-table c (length (b .depths))) (b .weights) (b .depths) ms x index list
         uses-offerable = (
           subst (λ (z : Answers). Offerable (same-table c (length (z .depths))) (z .weights) (z .depths) q′) (sym s) (offerable-after q′ (ap length raised-here ∙ raised-sized)),
-          subst (λ (z : ℕ). Listed z index list (length (c .heads))) (sym h) uses-there,
+          subst (λ (z : Answers). Arrivals m (same-table c (length (z .depths))) (z .weights) (z .depths) ms x index list) (sym s) (subst (λ (z : ℕ). Arrivals m (same-table c (length ds)) ws ds ms z index list) (sym h) arrivals),
         )
 
-        pub waits-offered : {q″ : List ℕ} → q″ ≡ offering (algebra m) (hypergraph (same-table c (length (b .depths)))) own (cell (b .weights)) (cell (b .depths)) q′ (useAt list (cell index (2 * x))) (cell index (2 * x + 1)) → Waits m c (b .weights) (b .depths) q″
-        waits-offered {q″} e =
-            subst (λ (z : Answers). Waits m c (z .weights) (z .depths) q″) (sym s)
-            (waits-after (e ∙ (λ i. offering (algebra m) (hypergraph (same-table c (length (s i .depths)))) own (cell (s i .weights)) (cell (s i .depths)) (raised-here i) (useAt list (cell index (2 * h i))) (cell index (2 * h i + 1)))))
+        pub waits-offered : {q″ : List ℕ} → q″ ≡ offering (algebra m) (hypergraph (same-table c (length (b .depths)))) own (cell (b .weights)) (cell (b .depths)) q′ (useAt list (cell index (2 * x))) (cell index (2 * x + 1)) → {ns : List ℕ} → ns ≡ lessened ms (useAt list (cell index (2 * x))) (cell index (2 * x + 1)) → Waits m c (b .weights) (b .depths) ns q″
+        waits-offered {q″} e {ns} f =
+            subst (λ (z : Answers). Waits m c (z .weights) (z .depths) ns q″) (sym s)
+            (waits-after (e ∙ (λ i. offering (algebra m) (hypergraph (same-table c (length (s i .depths)))) own (cell (s i .weights)) (cell (s i .depths)) (raised-here i) (useAt list (cell index (2 * h i))) (cell index (2 * h i + 1))))
+            (f ∙ ap (λ (z : ℕ). lessened ms (useAt list (cell index (2 * z))) (cell index (2 * z + 1))) h))

@@ -1,5 +1,5 @@
 -- From a turn to the whole: the laws by which the turns go. Assumes nothing.
-use mathlib.Core.Path.{_≡_, refl, sym, _∙_, ap, subst}
+use mathlib.Core.Path.{_≡_, sym, _∙_, ap, subst}
 use mathlib.Core.List.{List}
 use Prim.Native.Nat.{ℕ, _+_, _≤_, _<_}
 use native.Mathlib.Numerals.{add-one}
@@ -11,10 +11,10 @@ use Rattle.weights.specs.Laws.{lawful}
 use Rattle.refusal.specs.declared.Answer.the-variants.{Accepted}
 use Rattle.provenance.specs.BestFirst.{Answers, turn, turns, best-first}
 use Rattle.provenance.specs.Existence.{Sized, After, after}
-use Rattle.columns.specs.Columns.{Columns, columns, ownAt, hypergraph}
-use Rattle.columns.specs.Acceptance.{mostVertices, acceptance}
+use Rattle.columns.specs.Columns.{Columns, ownAt, hypergraph}
+use Rattle.columns.specs.Acceptance.{acceptance}
 use Rattle.columns.specs.Accepted.{table-accepted, well-formed}
-use Rattle.offers.specs.Lent.{cell, Turning}
+use Rattle.offers.specs.Lent.{Turning}
 use Rattle.offers.specs.Laws.{same-table, turning-columns}
 use Rattle.bestfirst.specs.Turns.{UseIndex, Waits, Underway}
 
@@ -38,9 +38,9 @@ module _ (m : Measure) (c : Columns) (p : acceptance c ≡ Accepted) {a : Answer
   turning h = turning-columns c a p sizes (λ v. omega (arith, so-far .shallow v, table-accepted c p .few))
 
   -- before the next turn
-  pub underway : {index list q : List ℕ} → k < c .vertices → UseIndex (hypergraph c) index list → Waits m c (a .weights) (a .depths) q → Underway m (same-table c (length (a .depths))) a index list q
-  underway {index} {list} {q} h i w =
-      subst (λ (n : ℕ). Underway m (same-table c n) a index list q) (sym (sizes .depths)) (record {
+  pub underway : {index list ms q : List ℕ} → k < c .vertices → UseIndex (hypergraph c) index list → Waits m c (a .weights) (a .depths) ms q → Underway m (same-table c (length (a .depths))) a index list ms q
+  underway {index} {list} {ms} {q} h i w =
+      subst (λ (n : ℕ). Underway m (same-table c n) a index list ms q) (sym (sizes .depths)) (record {
         turning = subst (λ (n : ℕ). Turning (same-table c n) a) (sizes .depths) (turning (omega arith));
         taken = k;
         more = h;
@@ -49,8 +49,8 @@ module _ (m : Measure) (c : Columns) (p : acceptance c ≡ Accepted) {a : Answer
         waits = w;
       })
 
-  pub waits-on : {ws ds q : List ℕ} → Waits m (same-table c (length (a .depths))) ws ds q → Waits m c ws ds q
-  waits-on {ws} {ds} {q} w = subst (λ (n : ℕ). Waits m (same-table c n) ws ds q) (sizes .depths) w
+  pub waits-on : {ws ds ms q : List ℕ} → Waits m (same-table c (length (a .depths))) ws ds ms q → Waits m c ws ds ms q
+  waits-on {ws} {ds} {ms} {q} w = subst (λ (n : ℕ). Waits m (same-table c n) ws ds ms q) (sizes .depths) w
 
   -- one turn more
   pub turns-more : {b : Answers} → b ≡ turn (algebra m) (hypergraph (same-table c (length (a .depths)))) (ownAt c) a → b ≡ turnsOf m c (k + 1)

@@ -6,14 +6,15 @@ use weights::Label;
 use weights::Measure;
 use weights::Offer;
 ghost use mathlib.Core.Path.{_≡_};
-ghost use Prim.Native.Nat.{_+_, _*_, _<_};
-ghost use lib.ListN.{length};
+ghost use Prim.Native.Nat.{_+_, _*_, _-_, _<_};
+ghost use lib.ListN.{length, set};
 ghost use Rattle.weights.specs.Measures.{algebra};
 ghost use Rattle.provenance.specs.BestFirst.{put, opening, turn, best-first};
 ghost use Rattle.columns.specs.Columns.{answers, hypergraph};
 ghost use Rattle.offers.specs.Lent.{lent, cell};
 ghost use Rattle.waiting.specs.Waiting.{offered, offering};
-ghost use Rattle.bestfirst.specs.Turns.{Offerable, useAt, Listed, Placeable, Waits, Underway, Unmade, Ready, Room};
+ghost use Rattle.waiting.specs.Missing.{counted, lessened};
+ghost use Rattle.bestfirst.specs.Turns.{Offerable, useAt, Countable, Due, Arrivals, Placeable, Waits, Underway, Unmade, Ready, Room};
 
 // The candidate of hyperedge e, where it is ready and its head is unmade, is offered to that head.
 fn offer_edge(
@@ -65,8 +66,49 @@ fn offer_all(
     }
 }
 
-// The hyperedges that list v are offered.
-fn offer_uses(
+// How many vertices of each tail are missing while every vertex is unmade, from the uses in a list.
+fn count_missing(total: usize, list: &[u64], missing: &mut [u64])
+    requires { ⌜ Countable total (now list) (now missing) ⌝ }
+    ensures { λ r. ⌜ now (missing .exit) ≡ counted (now (missing .entry)) (cell (now (list .entry))) total ⌝ }
+{
+    let mut i: usize = 0;
+    while i < total {
+        let e = list[i] as usize;
+        let count = missing[e];
+        missing[e] = count + 1;
+        i += 1;
+    }
+}
+
+// A vertex that hyperedge e lists is made: one less is missing, and where none is, e is offered.
+fn arrive(
+    measure: Measure,
+    e: Hyperedge,
+    heads: &[u64],
+    own: &[u64],
+    spans: &[u64],
+    tails: &[u64],
+    weights: &[u64],
+    depths: &[u64],
+    missing: &mut [u64],
+    queue: &mut [u64],
+)
+    requires { ⌜ (Offerable (lent (now heads) (now own) (now spans) (now tails) (now depths)) (now weights) (now depths) (now queue)) × Due measure (lent (now heads) (now own) (now spans) (now tails) (now depths)) (now weights) (now depths) (now missing) (e .0) ⌝ }
+    ensures fewer { λ r. ⌜ now (missing .exit) ≡ set (now (missing .entry)) (e .0) (cell (now (missing .entry)) (e .0) - 1) ⌝ }
+    ensures heard { λ r. ⌜ now (queue .exit) ≡ offered (now (queue .entry)) (cell (now (heads .entry)) (e .0)) (opening (algebra measure) (hypergraph (lent (now (heads .entry)) (now (own .entry)) (now (spans .entry)) (now (tails .entry)) (now (depths .entry)))) (cell (now (own .entry))) (cell (now (weights .entry))) (cell (now (depths .entry))) (e .0)) ⌝ }
+{
+    let i = e.0 as usize;
+    let count = missing[i];
+    let left = count - 1;
+    missing[i] = left;
+    if left != 0 {
+        return;
+    }
+    offer_edge(measure, e, heads, own, spans, tails, weights, depths, queue);
+}
+
+// Vertex v is made: what lists it misses one vertex less.
+fn arrive_all(
     measure: Measure,
     v: usize,
     index: &[u64],
@@ -77,25 +119,29 @@ fn offer_uses(
     tails: &[u64],
     weights: &[u64],
     depths: &[u64],
+    missing: &mut [u64],
     queue: &mut [u64],
 )
-    requires { ⌜ (Offerable (lent (now heads) (now own) (now spans) (now tails) (now depths)) (now weights) (now depths) (now queue)) × Listed v (now index) (now list) (length (now heads)) ⌝ }
-    ensures { λ r. ⌜ now (queue .exit) ≡ offering (algebra measure) (hypergraph (lent (now (heads .entry)) (now (own .entry)) (now (spans .entry)) (now (tails .entry)) (now (depths .entry)))) (cell (now (own .entry))) (cell (now (weights .entry))) (cell (now (depths .entry))) (now (queue .entry)) (useAt (now (list .entry)) (cell (now (index .entry)) (2 * v))) (cell (now (index .entry)) (2 * v + 1)) ⌝ }
+    requires { ⌜ (Offerable (lent (now heads) (now own) (now spans) (now tails) (now depths)) (now weights) (now depths) (now queue)) × Arrivals measure (lent (now heads) (now own) (now spans) (now tails) (now depths)) (now weights) (now depths) (now missing) v (now index) (now list) ⌝ }
+    ensures fewer { λ r. ⌜ now (missing .exit) ≡ lessened (now (missing .entry)) (useAt (now (list .entry)) (cell (now (index .entry)) (2 * v))) (cell (now (index .entry)) (2 * v + 1)) ⌝ }
+    ensures heard { λ r. ⌜ now (queue .exit) ≡ offering (algebra measure) (hypergraph (lent (now (heads .entry)) (now (own .entry)) (now (spans .entry)) (now (tails .entry)) (now (depths .entry)))) (cell (now (own .entry))) (cell (now (weights .entry))) (cell (now (depths .entry))) (now (queue .entry)) (useAt (now (list .entry)) (cell (now (index .entry)) (2 * v))) (cell (now (index .entry)) (2 * v + 1)) ⌝ }
 {
     let from = index[2 * v] as usize;
     let count = index[2 * v + 1] as usize;
     let mut i: usize = 0;
     while i < count {
-        let e = list[from + i];
-        offer_edge(
+        let number = list[from + i];
+        let e = Hyperedge(number);
+        arrive(
             measure,
-            Hyperedge(e),
+            e,
             heads,
             own,
             spans,
             tails,
             weights,
             depths,
+            missing,
             queue,
         );
         i += 1;
@@ -137,11 +183,11 @@ fn turn(
     weights: &mut [u64],
     depths: &mut [u64],
     edges: &mut [u64],
+    missing: &mut [u64],
     queue: &mut [u64],
 )
-    requires { ⌜ Underway measure (lent (now heads) (now own) (now spans) (now tails) (now depths)) (answers (now weights) (now depths) (now edges)) (now index) (now list) (now queue) ⌝ }
-    ensures turned { λ r. ⌜ answers (now (weights .exit)) (now (depths .exit)) (now (edges .exit)) ≡ turn (algebra measure) (hypergraph (lent (now (heads .entry)) (now (own .entry)) (now (spans .entry)) (now (tails .entry)) (now (depths .entry)))) (cell (now (own .entry))) (answers (now (weights .entry)) (now (depths .entry)) (now (edges .entry))) ⌝ }
-    ensures waits { λ r. ⌜ Waits measure (lent (now (heads .entry)) (now (own .entry)) (now (spans .entry)) (now (tails .entry)) (now (depths .entry))) (now (weights .exit)) (now (depths .exit)) (now (queue .exit)) ⌝ }
+    requires { ⌜ Underway measure (lent (now heads) (now own) (now spans) (now tails) (now depths)) (answers (now weights) (now depths) (now edges)) (now index) (now list) (now missing) (now queue) ⌝ }
+    ensures { λ r. ⌜ (answers (now (weights .exit)) (now (depths .exit)) (now (edges .exit)) ≡ turn (algebra measure) (hypergraph (lent (now (heads .entry)) (now (own .entry)) (now (spans .entry)) (now (tails .entry)) (now (depths .entry)))) (cell (now (own .entry))) (answers (now (weights .entry)) (now (depths .entry)) (now (edges .entry)))) × Waits measure (lent (now (heads .entry)) (now (own .entry)) (now (spans .entry)) (now (tails .entry)) (now (depths .entry))) (now (weights .exit)) (now (depths .exit)) (now (missing .exit)) (now (queue .exit)) ⌝ }
 {
     let key = minima::least(queue);
     if key == minima::NONE {
@@ -150,7 +196,7 @@ fn turn(
     let l = waiting::unpack(key);
     let v = store(l, heads, weights, depths, edges);
     minima::raise(queue, v);
-    offer_uses(
+    arrive_all(
         measure,
         v,
         index,
@@ -161,6 +207,7 @@ fn turn(
         tails,
         weights,
         depths,
+        missing,
         queue,
     );
 }
@@ -177,9 +224,10 @@ fn turns(
     weights: &mut [u64],
     depths: &mut [u64],
     edges: &mut [u64],
+    missing: &mut [u64],
     queue: &mut [u64],
 )
-    requires { ⌜ Ready measure (lent (now heads) (now own) (now spans) (now tails) (now depths)) (answers (now weights) (now depths) (now edges)) (now index) (now list) (now queue) ⌝ }
+    requires { ⌜ Ready measure (lent (now heads) (now own) (now spans) (now tails) (now depths)) (answers (now weights) (now depths) (now edges)) (now index) (now list) (now missing) (now queue) ⌝ }
     ensures { λ r. ⌜ answers (now (weights .exit)) (now (depths .exit)) (now (edges .exit)) ≡ best-first (algebra measure) (hypergraph (lent (now (heads .entry)) (now (own .entry)) (now (spans .entry)) (now (tails .entry)) (now (depths .entry)))) (cell (now (own .entry))) ⌝ }
 {
     let mut k = 0;
@@ -195,6 +243,7 @@ fn turns(
             weights,
             depths,
             edges,
+            missing,
             queue,
         );
         k += 1;
@@ -213,14 +262,17 @@ fn label_with(
     edges: &mut [u64],
     index: &mut [u64],
     list: &mut [u64],
+    missing: &mut [u64],
     queue: &mut [u64],
 )
-    requires { ⌜ (Unmade measure (lent (now heads) (now own) (now spans) (now tails) (now depths)) (answers (now weights) (now depths) (now edges))) × Room (now index) (now list) (now queue) ⌝ }
+    requires { ⌜ (Unmade measure (lent (now heads) (now own) (now spans) (now tails) (now depths)) (answers (now weights) (now depths) (now edges))) × Room (now index) (now list) (now missing) (now queue) ⌝ }
     ensures { λ r. ⌜ answers (now (weights .exit)) (now (depths .exit)) (now (edges .exit)) ≡ best-first (algebra measure) (hypergraph (lent (now (heads .entry)) (now (own .entry)) (now (spans .entry)) (now (tails .entry)) (now (depths .entry)))) (cell (now (own .entry))) ⌝ }
 {
     let places = 2 * depths.len();
     let used = &mut index[..places];
-    uses::index_uses(spans, tails, used, list);
+    let total = uses::index_uses(spans, tails, used, list);
+    columns::set_all(missing, 0);
+    count_missing(total as usize, list, missing);
     columns::set_all(queue, minima::NONE);
     offer_all(measure, heads, own, spans, tails, weights, depths, queue);
     turns(
@@ -234,6 +286,7 @@ fn label_with(
         weights,
         depths,
         edges,
+        missing,
         queue,
     );
 }
@@ -254,6 +307,7 @@ pub fn label_all(
 {
     let mut index = [0u64; 2048];
     let mut list = [0u64; 16384];
+    let mut missing = [0u64; 4096];
     let mut queue = [0u64; 1168];
     label_with(
         measure,
@@ -266,6 +320,7 @@ pub fn label_all(
         edges,
         &mut index,
         &mut list,
+        &mut missing,
         &mut queue,
     );
 }

@@ -1,27 +1,20 @@
 -- The laws of the definitions by which the loops of a turn go. Assumes nothing.
-use mathlib.Core.Path.{_≡_, refl, sym, _∙_, ap}
-use mathlib.Core.List.{List, [], _∷_}
-use mathlib.Core.Bool.{Bool, true, false, not}
-use Prim.Native.Nat.{ℕ, suc, _+_, _≤_, _<_, max}
+use mathlib.Core.Path.{_≡_}
+use mathlib.Core.List.{List, []}
+use mathlib.Core.Bool.{true, false, not}
+use Prim.Native.Nat.{ℕ, _+_, _≤_, _<_, max}
 use native.Mathlib.Numerals.{add-one}
 use native.Mathlib.Omega.{arith}
 use lib.ListN.{length, getD, drop, drop-of-length-le}
 use lib.Seq.{drop-cons}
 use borrow.Author.Tests.{eq-eqb, ne-eqb}
-use Rattle.weights.specs.declared.Label.{Label}
 use Rattle.weights.specs.declared.Offer.{Offer}
 use Rattle.weights.specs.declared.Offer.the-variants.{Nothing, Found}
 use Rattle.weights.specs.Figures.{isStruck}
 use Rattle.weights.specs.Measures.{Algebra, fold, weigh}
 use Rattle.weights.specs.Choice.{pick}
 use Rattle.weights.specs.Labels.{label}
-use Rattle.weights.specs.Laws.{Lawful}
-use Rattle.provenance.specs.Hypergraph.{Hypergraph}
-use Rattle.provenance.specs.Labelling.{weightIn, depthIn, each, greatest, noneZero, offerOf, candidate}
-use Rattle.provenance.specs.BestFirst.{Answers, labels, put, place, offer, opening, next, earlier, turn, Next, next-is}
-use Rattle.columns.specs.Columns.{Columns, answers, headAt, ownAt, hypergraph}
-use Rattle.columns.specs.Accepted.{table-accepted, below-at}
-use Rattle.offers.specs.Lent.{cell, Legible, EdgeIn, Usable}
+use Rattle.provenance.specs.Labelling.{each, greatest, noneZero, offerOf}
 
 max-assoc : (a b c : ℕ) → max a (max b c) ≡ max (max a b) c
 max-assoc a b c = omega arith

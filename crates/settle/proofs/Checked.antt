@@ -1,5 +1,5 @@
 -- The laws by which `check_answers` goes: where every test passes the answers are the table's, and where one fails they are not. Assumes nothing.
-use mathlib.Core.Path.{_≡_, refl, sym, _∙_, ap, subst}
+use mathlib.Core.Path.{_≡_, sym, _∙_, ap, subst}
 use mathlib.Core.Bool.{Bool, true, false}
 use Prim.Native.Nat.{ℕ, _+_, _≤_, _<_}
 use native.Mathlib.Omega.{arith}
@@ -15,8 +15,8 @@ use Rattle.refusal.specs.declared.Verdict.the-variants as verdict
 use Rattle.provenance.specs.BestFirst.{Answers, labels}
 use Rattle.provenance.specs.Existence.{exists-shallow}
 use Rattle.provenance.specs.Local.{every, vertexRight, edgeRight, all-right, not-fixpoint, vertex-fails, edge-fails}
-use Rattle.columns.specs.Columns.{Columns, columns, ownAt, hypergraph}
-use Rattle.columns.specs.Acceptance.{mostVertices, acceptance, lentAcceptance, allBelow}
+use Rattle.columns.specs.Columns.{Columns, ownAt, hypergraph}
+use Rattle.columns.specs.Acceptance.{mostVertices, lentAcceptance, allBelow}
 use Rattle.columns.specs.Accepted.{AcceptedColumns, table-accepted, well-formed, below-at, below-all}
 use Rattle.columns.specs.Same.{same, same-refl, same-not}
 use Rattle.offers.specs.Lent.{Turning}

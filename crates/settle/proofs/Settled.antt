@@ -1,5 +1,5 @@
 -- From best-first to the whole call: the laws by which `settle` goes. Assumes nothing.
-use mathlib.Core.Path.{_≡_, refl, sym, _∙_, ap, subst}
+use mathlib.Core.Path.{_≡_, sym, _∙_, ap, subst}
 use mathlib.Core.List.{List}
 use Prim.Native.Nat.{ℕ, _≤_}
 use native.Mathlib.Omega.{arith}
@@ -9,8 +9,8 @@ use Rattle.weights.specs.Measures.{algebra}
 use Rattle.refusal.specs.declared.Refusal.{Refusal}
 use Rattle.refusal.specs.declared.Answer.the-variants.{Accepted, Refused}
 use Rattle.provenance.specs.BestFirst.{Answers, turns, best-first}
-use Rattle.provenance.specs.Existence.{Sized, zeros}
-use Rattle.columns.specs.Columns.{Columns, columns, answers, ownAt, hypergraph}
+use Rattle.provenance.specs.Existence.{zeros}
+use Rattle.columns.specs.Columns.{Columns, answers, ownAt, hypergraph}
 use Rattle.columns.specs.Acceptance.{lentAcceptance}
 use Rattle.columns.specs.Accepted.{AcceptedColumns}
 use Rattle.offers.specs.Laws.{same-table, turning-columns}

@@ -1,5 +1,5 @@
 -- What the answers of a table mean: demand 2, of what settling leaves, and the rule of the answer check. Assumes nothing.
-use mathlib.Core.Path.{_≡_, refl, sym, _∙_, ap, subst}
+use mathlib.Core.Path.{_≡_, refl, sym, _∙_, subst}
 use mathlib.Core.Bool.{Bool, true, false}
 use Prim.Native.Nat.{ℕ, _≤_}
 use native.Mathlib.Omega.{arith}
@@ -22,7 +22,7 @@ use Rattle.provenance.specs.Semirings.{computes}
 use Rattle.provenance.specs.Provenance.{HasProvenance, provenance}
 use Rattle.columns.specs.Columns.{Columns, ownAt, hypergraph}
 use Rattle.columns.specs.Acceptance.{acceptance, lentAcceptance}
-use Rattle.columns.specs.Accepted.{refused, columns-accepted, well-formed}
+use Rattle.columns.specs.Accepted.{columns-accepted, well-formed}
 use Rattle.columns.specs.Same.{same, same-refl, same-true}
 use Rattle.settle.specs.Settling.{answersOf, outcome, settled}
 use Rattle.settle.specs.Checking.{verdict, checked}

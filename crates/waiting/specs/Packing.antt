@@ -1,6 +1,6 @@
 -- The order of keys is the order of labels, and a key tells its label. Assumes nothing.
-use Prim.Native.Nat.{ℕ, _+_, _*_, _/_, _%_, _≤_, _<_, min}
-use mathlib.Core.Path.{_≡_, refl, sym, _∙_, ap}
+use Prim.Native.Nat.{ℕ, _/_, _%_, _≤_, _<_, min}
+use mathlib.Core.Path.{_≡_, refl, sym}
 use mathlib.Core.Bool.{Bool, true, false}
 use native.Mathlib.Omega.{arith}
 use native.Mathlib.Decide.{decLe}
@@ -10,7 +10,7 @@ use Rattle.weights.specs.declared.Measure.{Measure}
 use Rattle.weights.specs.declared.Measure.the-variants.{Cost, Days}
 use Rattle.weights.specs.declared.Label.{Label}
 use Rattle.weights.specs.declared.Offer.{Offer}
-use Rattle.weights.specs.declared.Offer.the-variants.{Nothing, Found}
+use Rattle.weights.specs.declared.Offer.the-variants.{Found}
 use Rattle.weights.specs.Measures.{algebra}
 use Rattle.weights.specs.Choice.{pick}
 use Rattle.weights.specs.Labels.{aheadOf}

@@ -1,7 +1,7 @@
 -- The laws of the waiting labels: the least key of a queue is the key of what is next; a queue is made by offering every hyperedge; and when the vertex of the
 -- least key is labelled, taking its key out and offering the hyperedges that list it leaves the queue of the new labels. Assumes nothing.
 use Prim.Native.Nat.{ℕ, zero, suc, _+_, _≤_, _<_, min, max}
-use mathlib.Core.Path.{_≡_, refl, sym, _∙_, ap, ap₂, subst}
+use mathlib.Core.Path.{_≡_, refl, sym, _∙_, ap, ap₂}
 use mathlib.Core.Logic.{_≢_}
 use mathlib.Core.Bool.{Bool, true, false}
 use mathlib.Core.List.{List, [], _∷_}
@@ -211,7 +211,7 @@ module _ (A : Algebra) (H : Hypergraph) (own w d w′ d′ : ℕ → ℕ) (v : �
       )
 
 -- a hyperedge offers nothing where a vertex of its tail is unmade, or its head is made
-open-unmade : (A : Algebra) (H : Hypergraph) (own w d : ℕ → ℕ) (v e : ℕ) → d v ≡ 0 → member v (H .tail e) ≡ true → opening A H own w d e ≡ Nothing
+pub open-unmade : (A : Algebra) (H : Hypergraph) (own w d : ℕ → ℕ) (v e : ℕ) → d v ≡ 0 → member v (H .tail e) ≡ true → opening A H own w d e ≡ Nothing
 unfolding opening offerOf
 open-unmade A H own w d v e z m = rw (zero-stops (d) v (H .tail e) z m) (none-of (eqb (d (H .head e)) 0) (H .live e))
   where

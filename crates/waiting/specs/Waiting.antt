@@ -41,7 +41,9 @@ module _ (A : Algebra) (H : Hypergraph) (own weight depth : ℕ → ℕ) where
   offering q edge zero = q
   offering q edge (suc k) = offered (offering q edge k) (H .head (edge k)) (opening A H own weight depth (edge k))
 
--- `edge 0`, `edge 1`, … below k are hyperedges, and all those that list v are among them
+-- `edge 0`, `edge 1`, … below k are the hyperedges that list v, ascending
 pub record UsesOf (H : Hypergraph) (v : ℕ) (edge : ℕ → ℕ) (k : ℕ) : Type 0 where
   pub sound : (i : ℕ) → i < k → edge i < H .edges
+  pub lists : (i : ℕ) → i < k → member v (H .tail (edge i)) ≡ true
   pub complete : (e : ℕ) → e < H .edges → member v (H .tail e) ≡ true → (i : ℕ) × ((i < k) × (edge i ≡ e))
+  pub ascending : (i j : ℕ) → i < j → j < k → edge i < edge j

@@ -1,19 +1,16 @@
 -- `bestfirst::offer_all` meets its contract: the invariant: the hyperedges so far were offered. Assumes nothing.
 use Rattle.bestfirst.proofs.offer_all.Statement.{statement}
 use Rattle.bestfirst.proofs.offer_all.Tie as tie
-use mathlib.Core.Path.{_≡_, refl, sym, _∙_, ap}
-use Prim.Native.Nat.{ℕ, _≤_, _<_, _-_}
+use mathlib.Core.Path.{_≡_, sym, _∙_, ap}
+use Prim.Native.Nat.{_≤_, _-_}
 use native.Mathlib.Omega.{arith}
 use lib.ListN.{length}
-use Rattle.weights.specs.declared.Offer.the-variants.{Nothing, Found}
 use Rattle.weights.specs.Measures.{algebra}
 use Rattle.provenance.specs.BestFirst.{opening}
-use Rattle.columns.specs.Columns.{Columns, columns, hypergraph}
+use Rattle.columns.specs.Columns.{hypergraph}
 use Rattle.offers.specs.Lent.{lent, cell}
-use Rattle.offers.specs.Laws.{head-in, edge-in}
 use Rattle.minima.specs.Minima.{size}
 use Rattle.waiting.specs.Waiting.{offering}
-use Rattle.bestfirst.specs.Turns.{useAt}
 use Rattle.bestfirst.proofs.Laws.{offering-none, offering-more, offered-length, head-key}
 use borrow.Author.Needs.{needs}
 

@@ -2,14 +2,13 @@
 use borrow.Author.Needs.{needs}
 use Rattle.bestfirst.proofs.offer_edge.Statement.{statement}
 use Rattle.bestfirst.proofs.offer_edge.Tie as tie
-use mathlib.Core.Path.{_≡_, refl, sym, _∙_, ap}
-use Prim.Native.Nat.{ℕ, _≤_, _<_, _-_}
+use mathlib.Core.Path.{_≡_, sym, _∙_, ap}
+use Prim.Native.Nat.{ℕ, _≤_}
 use native.Mathlib.Omega.{arith}
-use lib.ListN.{length}
-use Rattle.weights.specs.declared.Offer.the-variants.{Nothing, Found}
+use Rattle.weights.specs.declared.Offer.the-variants.{Found}
 use Rattle.weights.specs.Measures.{algebra}
 use Rattle.provenance.specs.BestFirst.{opening}
-use Rattle.columns.specs.Columns.{Columns, columns, hypergraph}
+use Rattle.columns.specs.Columns.{hypergraph}
 use Rattle.offers.specs.Lent.{lent, cell}
 use Rattle.offers.specs.Laws.{head-in, edge-in}
 use Rattle.minima.specs.Minima.{lowered}

@@ -1,57 +1,60 @@
--- `bestfirst::turns` meets its contract: the invariant: after k turns the columns are `turnsOf k`, and the queue is that of their labels. Assumes nothing.
+-- `bestfirst::turns` meets its contract: the invariant: after k turns the columns are `turnsOf k`, and the queue and the counts are those of their labels.
+-- Assumes nothing.
 use Rattle.bestfirst.proofs.turns.Statement.{statement}
 use Rattle.bestfirst.proofs.turns.Tie as tie
-use mathlib.Core.Path.{_≡_, refl, sym, _∙_, ap}
-use Prim.Native.Nat.{ℕ, _+_, _*_, _-_, _≤_, _<_}
+use mathlib.Core.Path.{_≡_, sym, _∙_}
+use Prim.Native.Nat.{_-_, _≤_, _<_}
 use native.Mathlib.Omega.{arith}
 use lib.ListN.{length}
 use Rattle.columns.specs.Columns.{columns, answers}
 use Rattle.columns.specs.Accepted.{table-accepted}
-use Rattle.minima.specs.Minima.{size}
 use Rattle.bestfirst.specs.Turns.{Waits}
 use Rattle.bestfirst.proofs.Whole.{turnsOf, all-turns, sizes, underway, waits-on, turns-more}
 
 abbrev Inv-loop : tie.InvT-loop
-Inv-loop measure heads own spans tails index list weights₀ depths₀ edges₀ queue₀ k₀ weights depths edges queue k = (k ≤ length depths₀) × ((answers weights depths edges ≡ turnsOf measure (columns (length depths₀) heads own spans tails) k) × ((length queue ≡ size) × Waits measure (columns (length depths₀) heads own spans tails) weights depths queue))
+Inv-loop measure heads own spans tails index list weights₀ depths₀ edges₀ missing₀ queue₀ k₀ weights depths edges missing queue k = (k ≤ length depths₀) × ((answers weights depths edges ≡ turnsOf measure (columns (length depths₀) heads own spans tails) k) × Waits measure (columns (length depths₀) heads own spans tails) weights depths missing queue)
 
 abbrev μ-loop : tie.MeasureT-loop
-μ-loop measure heads own spans tails index list weights₀ depths₀ edges₀ queue₀ k₀ weights depths edges queue k = length depths₀ - k
+μ-loop measure heads own spans tails index list weights₀ depths₀ edges₀ missing₀ queue₀ k₀ weights depths edges missing queue k = length depths₀ - k
 
 loop-holds : tie.Need-loop-holds Inv-loop μ-loop
-loop-holds c = (omega arith, (c .before .before .before .before .before .before .before .before .before .before .pre .unmade .blank, (c .before .before .before .before .before .before .before .before .before .before .pre .waits .queued .grouped .sized, c .before .before .before .before .before .before .before .before .before .before .pre .waits)))
+loop-holds c = (omega arith, (c .before .before .before .before .before .before .before .before .before .before .before .pre .unmade .blank, c .before .before .before .before .before .before .before .before .before .before .before .pre .waits))
 
 -- there is a turn for each vertex
-below : (c : tie.In-loop Inv-loop μ-loop) → c .before .loop .k < length (c .before .before .before .before .before .before .before .before .before .before .before .before .args .depths .now)
-below c = omega (arith, c .loop-test .taken, sizes (c .before .before .before .before .before .before .before .before .before .before .before .before .args .measure) (let a = c .before .before .before .before .before .before .before .before .before .before .before .before .args in columns (length (a .depths .now)) (a .heads .now) (a .own .now) (a .spans .now) (a .tails .now)) (c .before .before .before .before .before .before .before .before .before .before .before .before .pre .unmade .turning .usable .accepted) (c .before .loop .k) (c .before .loop .inv .1 .0) .depths)
+below : (c : tie.In-loop Inv-loop μ-loop) → c .before .loop .k < length (c .before .before .before .before .before .before .before .before .before .before .before .before .before .args .depths .now)
+below c = omega (arith, c .loop-test .taken, sizes (c .before .before .before .before .before .before .before .before .before .before .before .before .before .args .measure) (let a = c .before .before .before .before .before .before .before .before .before .before .before .before .before .args in columns (length (a .depths .now)) (a .heads .now) (a .own .now) (a .spans .now) (a .tails .now)) (c .before .before .before .before .before .before .before .before .before .before .before .before .before .pre .unmade .turning .usable .accepted) (c .before .loop .k) (c .before .loop .inv .1 .0) .depths)
 
 turn-requires : tie.Need-turn-requires Inv-loop μ-loop
-turn-requires c κs = underway (c .before .before .before .before .before .before .before .before .before .before .before .before .before .before .before .before .args .measure) (let a = c .before .before .before .before .before .before .before .before .before .before .before .before .before .before .before .before .args in columns (length (a .depths .now)) (a .heads .now) (a .own .now) (a .spans .now) (a .tails .now)) (c .before .before .before .before .before .before .before .before .before .before .before .before .before .before .before .before .pre .unmade .turning .usable .accepted) (c .before .before .before .before .before .loop .k) (c .before .before .before .before .before .loop .inv .1 .0) (below (c .before .before .before .before)) (c .before .before .before .before .before .before .before .before .before .before .before .before .before .before .before .before .pre .indexed) (c .before .before .before .before .before .loop .inv .1 .1 .1)
+turn-requires c κs = underway (c .before .before .before .before .before .before .before .before .before .before .before .before .before .before .before .before .before .before .args .measure) (let a = c .before .before .before .before .before .before .before .before .before .before .before .before .before .before .before .before .before .before .args in columns (length (a .depths .now)) (a .heads .now) (a .own .now) (a .spans .now) (a .tails .now)) (c .before .before .before .before .before .before .before .before .before .before .before .before .before .before .before .before .before .before .pre .unmade .turning .usable .accepted) (c .before .before .before .before .before .before .loop .k) (c .before .before .before .before .before .before .loop .inv .1 .0) (below (c .before .before .before .before .before)) (c .before .before .before .before .before .before .before .before .before .before .before .before .before .before .before .before .before .before .pre .indexed) (c .before .before .before .before .before .before .loop .inv .1 .1)
 
 add-k : tie.Need-add-k Inv-loop μ-loop
-add-k c = omega (arith, (below (c .before .before .before .before .before .before .before .before .before .before .before .before .before)), table-accepted (let a = c .before .before .before .before .before .before .before .before .before .before .before .before .before .before .before .before .before .before .before .before .before .before .before .before .before .args in columns (length (a .depths .now)) (a .heads .now) (a .own .now) (a .spans .now) (a .tails .now)) (c .before .before .before .before .before .before .before .before .before .before .before .before .before .before .before .before .before .before .before .before .before .before .before .before .before .pre .unmade .turning .usable .accepted) .few)
+add-k c = omega (arith, (below (c .before .before .before .before .before .before .before .before .before .before .before .before .before .before .before .before)), table-accepted (let a = c .before .before .before .before .before .before .before .before .before .before .before .before .before .before .before .before .before .before .before .before .before .before .before .before .before .before .before .before .before .args in columns (length (a .depths .now)) (a .heads .now) (a .own .now) (a .spans .now) (a .tails .now)) (c .before .before .before .before .before .before .before .before .before .before .before .before .before .before .before .before .before .before .before .before .before .before .before .before .before .before .before .before .before .pre .unmade .turning .usable .accepted) .few)
 
 loop-less : tie.Need-loop-less Inv-loop μ-loop
-loop-less c = omega (arith, (below (c .before .before .before .before .before .before .before .before .before .before .before .before .before)))
+loop-less c = omega (arith, (below (c .before .before .before .before .before .before .before .before .before .before .before .before .before .before .before .before)))
 
 loop-again : tie.Need-loop-again Inv-loop μ-loop
 loop-again c =
-    let w = waits-on (c .before .before .before .before .before .before .before .before .before .before .before .before .before .before .before .before .before .before .before .before .before .before .before .before .before .args .measure) (let a = c .before .before .before .before .before .before .before .before .before .before .before .before .before .before .before .before .before .before .before .before .before .before .before .before .before .args in columns (length (a .depths .now)) (a .heads .now) (a .own .now) (a .spans .now) (a .tails .now)) (c .before .before .before .before .before .before .before .before .before .before .before .before .before .before .before .before .before .before .before .before .before .before .before .before .before .pre .unmade .turning .usable .accepted) (c .before .before .before .before .before .before .before .before .before .before .before .before .before .before .loop .k) (c .before .before .before .before .before .before .before .before .before .before .before .before .before .before .loop .inv .1 .0) (c .before .before .before .before .before .before .before .before .turn .ensures .1) in
-    (omega (arith, (below (c .before .before .before .before .before .before .before .before .before .before .before .before .before))), (turns-more (c .before .before .before .before .before .before .before .before .before .before .before .before .before .before .before .before .before .before .before .before .before .before .before .before .before .args .measure) (let a = c .before .before .before .before .before .before .before .before .before .before .before .before .before .before .before .before .before .before .before .before .before .before .before .before .before .args in columns (length (a .depths .now)) (a .heads .now) (a .own .now) (a .spans .now) (a .tails .now)) (c .before .before .before .before .before .before .before .before .before .before .before .before .before .before .before .before .before .before .before .before .before .before .before .before .before .pre .unmade .turning .usable .accepted) (c .before .before .before .before .before .before .before .before .before .before .before .before .before .before .loop .k) (c .before .before .before .before .before .before .before .before .before .before .before .before .before .before .loop .inv .1 .0) (c .before .before .before .before .before .before .before .before .turn .ensures .0), (w .queued .grouped .sized, w)))
+    let w = waits-on (c .before .before .before .before .before .before .before .before .before .before .before .before .before .before .before .before .before .before .before .before .before .before .before .before .before .before .before .before .before .args .measure) (let a = c .before .before .before .before .before .before .before .before .before .before .before .before .before .before .before .before .before .before .before .before .before .before .before .before .before .before .before .before .before .args in columns (length (a .depths .now)) (a .heads .now) (a .own .now) (a .spans .now) (a .tails .now)) (c .before .before .before .before .before .before .before .before .before .before .before .before .before .before .before .before .before .before .before .before .before .before .before .before .before .before .before .before .before .pre .unmade .turning .usable .accepted) (c .before .before .before .before .before .before .before .before .before .before .before .before .before .before .before .before .before .loop .k) (c .before .before .before .before .before .before .before .before .before .before .before .before .before .before .before .before .before .loop .inv .1 .0) (c .before .before .before .before .before .before .before .before .before .before .turn .ensures .1) in
+    (omega (arith, (below (c .before .before .before .before .before .before .before .before .before .before .before .before .before .before .before .before))), (turns-more (c .before .before .before .before .before .before .before .before .before .before .before .before .before .before .before .before .before .before .before .before .before .before .before .before .before .before .before .before .before .args .measure) (let a = c .before .before .before .before .before .before .before .before .before .before .before .before .before .before .before .before .before .before .before .before .before .before .before .before .before .before .before .before .before .args in columns (length (a .depths .now)) (a .heads .now) (a .own .now) (a .spans .now) (a .tails .now)) (c .before .before .before .before .before .before .before .before .before .before .before .before .before .before .before .before .before .before .before .before .before .before .before .before .before .before .before .before .before .pre .unmade .turning .usable .accepted) (c .before .before .before .before .before .before .before .before .before .before .before .before .before .before .before .before .before .loop .k) (c .before .before .before .before .before .before .before .before .before .before .before .before .before .before .before .before .before .loop .inv .1 .0) (c .before .before .before .before .before .before .before .before .before .before .turn .ensures .0), w))
 
 same-length : tie.Need-same-length Inv-loop μ-loop
-same-length c = sizes (c .before .before .before .before .before .before .before .before .before .before .before .before .args .measure) (let a = c .before .before .before .before .before .before .before .before .before .before .before .before .args in columns (length (a .depths .now)) (a .heads .now) (a .own .now) (a .spans .now) (a .tails .now)) (c .before .before .before .before .before .before .before .before .before .before .before .before .pre .unmade .turning .usable .accepted) (c .before .loop .k) (c .before .loop .inv .1 .0) .weights ∙ sym (c .before .before .before .before .before .before .before .before .before .before .before .before .pre .unmade .turning .usable .level)
+same-length c = sizes (c .before .before .before .before .before .before .before .before .before .before .before .before .before .args .measure) (let a = c .before .before .before .before .before .before .before .before .before .before .before .before .before .args in columns (length (a .depths .now)) (a .heads .now) (a .own .now) (a .spans .now) (a .tails .now)) (c .before .before .before .before .before .before .before .before .before .before .before .before .before .pre .unmade .turning .usable .accepted) (c .before .loop .k) (c .before .loop .inv .1 .0) .weights ∙ sym (c .before .before .before .before .before .before .before .before .before .before .before .before .before .pre .unmade .turning .usable .level)
 
 same-length-2 : tie.Need-same-length-2 Inv-loop μ-loop
-same-length-2 c = sizes (c .before .before .before .before .before .before .before .before .before .before .before .before .args .measure) (let a = c .before .before .before .before .before .before .before .before .before .before .before .before .args in columns (length (a .depths .now)) (a .heads .now) (a .own .now) (a .spans .now) (a .tails .now)) (c .before .before .before .before .before .before .before .before .before .before .before .before .pre .unmade .turning .usable .accepted) (c .before .loop .k) (c .before .loop .inv .1 .0) .depths
+same-length-2 c = sizes (c .before .before .before .before .before .before .before .before .before .before .before .before .before .args .measure) (let a = c .before .before .before .before .before .before .before .before .before .before .before .before .before .args in columns (length (a .depths .now)) (a .heads .now) (a .own .now) (a .spans .now) (a .tails .now)) (c .before .before .before .before .before .before .before .before .before .before .before .before .before .pre .unmade .turning .usable .accepted) (c .before .loop .k) (c .before .loop .inv .1 .0) .depths
 
 same-length-3 : tie.Need-same-length-3 Inv-loop μ-loop
-same-length-3 c = sizes (c .before .before .before .before .before .before .before .before .before .before .before .before .args .measure) (let a = c .before .before .before .before .before .before .before .before .before .before .before .before .args in columns (length (a .depths .now)) (a .heads .now) (a .own .now) (a .spans .now) (a .tails .now)) (c .before .before .before .before .before .before .before .before .before .before .before .before .pre .unmade .turning .usable .accepted) (c .before .loop .k) (c .before .loop .inv .1 .0) .edges ∙ sym (c .before .before .before .before .before .before .before .before .before .before .before .before .pre .unmade .turning .edges)
+same-length-3 c = sizes (c .before .before .before .before .before .before .before .before .before .before .before .before .before .args .measure) (let a = c .before .before .before .before .before .before .before .before .before .before .before .before .before .args in columns (length (a .depths .now)) (a .heads .now) (a .own .now) (a .spans .now) (a .tails .now)) (c .before .before .before .before .before .before .before .before .before .before .before .before .before .pre .unmade .turning .usable .accepted) (c .before .loop .k) (c .before .loop .inv .1 .0) .edges ∙ sym (c .before .before .before .before .before .before .before .before .before .before .before .before .before .pre .unmade .turning .edges)
 
 same-length-4 : tie.Need-same-length-4 Inv-loop μ-loop
-same-length-4 c = c .before .loop .inv .1 .1 .0 ∙ sym (c .before .before .before .before .before .before .before .before .before .before .before .before .pre .waits .queued .grouped .sized)
+same-length-4 c = c .before .loop .inv .1 .1 .level ∙ sym (c .before .before .before .before .before .before .before .before .before .before .before .before .before .pre .waits .level)
+
+same-length-5 : tie.Need-same-length-5 Inv-loop μ-loop
+same-length-5 c = c .before .loop .inv .1 .1 .queued .grouped .sized ∙ sym (c .before .before .before .before .before .before .before .before .before .before .before .before .before .pre .waits .queued .grouped .sized)
 
 returns : tie.Need-returns Inv-loop μ-loop
-returns c = all-turns (c .before .before .before .before .before .before .before .before .before .before .before .before .args .measure) (let a = c .before .before .before .before .before .before .before .before .before .before .before .before .args in columns (length (a .depths .now)) (a .heads .now) (a .own .now) (a .spans .now) (a .tails .now)) (c .before .loop .inv .1 .0) (omega (arith, c .before .loop .inv .0, c .loop-test .left, sizes (c .before .before .before .before .before .before .before .before .before .before .before .before .args .measure) (let a = c .before .before .before .before .before .before .before .before .before .before .before .before .args in columns (length (a .depths .now)) (a .heads .now) (a .own .now) (a .spans .now) (a .tails .now)) (c .before .before .before .before .before .before .before .before .before .before .before .before .pre .unmade .turning .usable .accepted) (c .before .loop .k) (c .before .loop .inv .1 .0) .depths))
+returns c = all-turns (c .before .before .before .before .before .before .before .before .before .before .before .before .before .args .measure) (let a = c .before .before .before .before .before .before .before .before .before .before .before .before .before .args in columns (length (a .depths .now)) (a .heads .now) (a .own .now) (a .spans .now) (a .tails .now)) (c .before .loop .inv .1 .0) (omega (arith, c .before .loop .inv .0, c .loop-test .left, sizes (c .before .before .before .before .before .before .before .before .before .before .before .before .before .args .measure) (let a = c .before .before .before .before .before .before .before .before .before .before .before .before .before .args in columns (length (a .depths .now)) (a .heads .now) (a .own .now) (a .spans .now) (a .tails .now)) (c .before .before .before .before .before .before .before .before .before .before .before .before .before .pre .unmade .turning .usable .accepted) (c .before .loop .k) (c .before .loop .inv .1 .0) .depths))
 
 pub turns-spec : {M : Type 1} → statement M
 turns-spec =
@@ -68,4 +71,5 @@ turns-spec =
     same-length-2
     same-length-3
     same-length-4
+    same-length-5
     returns)

@@ -2,10 +2,7 @@
 use borrow.Author.Needs.{needs}
 use Rattle.minima.proofs.least.Statement.{statement}
 use Rattle.minima.proofs.least.Tie as tie
-use mathlib.Core.Path.{_≡_, refl, sym, _∙_, ap}
-use Prim.Native.Nat.{ℕ}
-use native.Mathlib.Omega.{arith}
-use lib.ListN.{length, length-set, set}
+use mathlib.Core.Path.{_∙_}
 use Rattle.minima.specs.Laws.{least-key}
 
 add-least-from : tie.Need-add-least-from

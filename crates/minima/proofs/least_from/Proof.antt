@@ -1,11 +1,9 @@
 -- `minima::least_from` meets its contract: the invariant: the least of the places so far. Assumes nothing.
 use Rattle.minima.proofs.least_from.Statement.{statement}
 use Rattle.minima.proofs.least_from.Tie as tie
-use mathlib.Core.Path.{_≡_, refl, sym, _∙_, ap, ap₂}
-use Prim.Native.Nat.{ℕ, _+_, _≤_, _<_, _-_, min}
+use mathlib.Core.Path.{_≡_, _∙_, ap}
+use Prim.Native.Nat.{_≤_, _-_}
 use native.Mathlib.Omega.{arith}
-use native.Mathlib.Numerals.{add-one}
-use lib.ListN.{length, length-set, set}
 use borrow.Author.Needs.{needs}
 use Rattle.minima.specs.Minima.{leastFrom}
 use Rattle.minima.specs.Laws.{least-start, least-more}

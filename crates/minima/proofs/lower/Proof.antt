@@ -3,11 +3,7 @@ use borrow.Author.Needs.{needs}
 use Rattle.minima.specs.Laws.{lowered-is}
 use Rattle.minima.proofs.lower.Statement.{statement}
 use Rattle.minima.proofs.lower.Tie as tie
-use mathlib.Core.Path.{_≡_, refl, sym, _∙_, ap, ap₂}
-use Prim.Native.Nat.{ℕ, _+_, _≤_, _<_, _-_, min}
-use native.Mathlib.Omega.{arith}
-use native.Mathlib.Numerals.{add-one}
-use lib.ListN.{length, length-set, set}
+use Prim.Native.Nat.{_≤_}
 
 lower-at-requires : tie.Need-lower-at-requires
 lower-at-requires c κs = search needs

@@ -2,11 +2,9 @@
 use borrow.Author.Needs.{needs}
 use Rattle.minima.proofs.lower_at.Statement.{statement}
 use Rattle.minima.proofs.lower_at.Tie as tie
-use mathlib.Core.Path.{_≡_, refl, sym, _∙_, ap, ap₂}
-use Prim.Native.Nat.{ℕ, _+_, _≤_, _<_, _-_, min}
-use native.Mathlib.Omega.{arith}
-use native.Mathlib.Numerals.{add-one}
-use lib.ListN.{length, length-set, set}
+use mathlib.Core.Path.{ap}
+use Prim.Native.Nat.{ℕ, _≤_}
+use lib.ListN.{set}
 
 mul-key : tie.Need-mul-key
 mul-key c = search needs

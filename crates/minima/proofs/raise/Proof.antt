@@ -2,11 +2,8 @@
 use borrow.Author.Needs.{needs}
 use Rattle.minima.proofs.raise.Statement.{statement}
 use Rattle.minima.proofs.raise.Tie as tie
-use mathlib.Core.Path.{_≡_, refl, sym, _∙_, ap}
-use Prim.Native.Nat.{ℕ}
 use native.Mathlib.Omega.{arith}
-use lib.ListN.{length, length-set, set}
-use Rattle.minima.specs.Minima.{eightOf}
+use lib.ListN.{length-set}
 use Rattle.minima.specs.Laws.{raised-is}
 
 mul-q : tie.Need-mul-q

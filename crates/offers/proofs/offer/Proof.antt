@@ -1,8 +1,7 @@
 -- `offers::offer` meets its contract: the part of the column that is lent is the tail of the hyperedge. Assumes nothing.
 use mathlib.Core.Path.{_≡_}
-use Prim.Native.Nat.{ℕ, _+_, _*_, _-_}
+use Prim.Native.Nat.{ℕ, _+_, _-_}
 use native.Mathlib.Omega.{arith}
-use lib.ListN.{getD}
 use borrow.Author.Needs.{needs}
 use Rattle.offers.proofs.offer.Statement.{statement}
 use Rattle.offers.proofs.offer.Tie as tie
