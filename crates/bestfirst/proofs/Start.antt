@@ -19,6 +19,7 @@ use Rattle.uses.specs.Laws.{index-length, uses-within, use-sound, use-complete,
 use Rattle.uses.specs.Room.{list-fits, table-indexable, table-indexed}
 use Rattle.offers.specs.Lent.{cell}
 use Rattle.minima.specs.Minima.{none, size}
+use Rattle.waiting.specs.Keys.{heavy}
 use Rattle.waiting.specs.Waiting.{Queued, offering}
 use Rattle.waiting.specs.Queue.{all-offered}
 use Rattle.waiting.specs.Missing.{missingIn, hits, counted, counted-length, counted-is, hits-agree, all-missing, use-below}
@@ -52,7 +53,7 @@ module _ {m : Measure} {c : Columns} {a : Answers} (u : Unmade m c a) where
           uses = λ v h. record { sound = λ i k. use-sound y v i h k .0; lists = λ i k. use-sound y v i h k .1; complete = λ e k z. use-complete y v e h k z; ascending = λ i j k l. use-ascend y v i j h k l };
         }
 
-  light : (v : ℕ) → cell (a .weights) v < 1_099_511_627_776
+  light : (v : ℕ) → cell (a .weights) v < heavy
   unfolding turns
   light v = omega (arith, ap (λ (b : Answers). cell (b .weights) v) (u .blank), zeros (c .vertices) v)
 

@@ -27,7 +27,7 @@ use Rattle.offers.specs.Lent.{cell}
 use Rattle.offers.specs.Laws.{same-table}
 use Rattle.minima.specs.Minima.{none, keys, size, leastFrom, raised}
 use Rattle.minima.specs.Laws.{raised-length}
-use Rattle.waiting.specs.Keys.{unpacked, Fitting, keyOf}
+use Rattle.waiting.specs.Keys.{heavy, unpacked, Fitting, keyOf}
 use Rattle.waiting.specs.Waiting.{Queued, offering, UsesOf}
 use Rattle.waiting.specs.Queue.{Fitted, least-next, fitting-next, told-nothing, told-found, relabelled, open-fits}
 use Rattle.waiting.specs.Missing.{missingIn, missing-shut, missing-less, missing-same, lessened, lessened-length, lessened-other, lessened-named}
@@ -133,10 +133,10 @@ module _ {m : Measure} {c : Columns} {a : Answers} {index list ms q : List ℕ} 
         go (yes e) = omega (arith, ap (cell ds) e, getD-set-same (a .depths) v (l .depth) 0 (placeable .depths), told .shallow)
         go (no n) = omega (arith, getD-set-other (a .depths) v x (l .depth) 0 n, u .shallow x)
 
-    light : (x : ℕ) → cell ws x < 1_099_511_627_776
+    light : (x : ℕ) → cell ws x < heavy
     light x = go (ℕ-discrete x v)
       where
-        go : Dec (x ≡ v) → cell ws x < 1_099_511_627_776
+        go : Dec (x ≡ v) → cell ws x < heavy
         go (yes e) = omega (arith, ap (cell ws) e, getD-set-same (a .weights) v (l .weight .0) 0 (placeable .weights), found-fits fitting f .weight)
         go (no n) = omega (arith, getD-set-other (a .weights) v x (l .weight .0) 0 n, u .waits .light x)
 

@@ -14,6 +14,7 @@ use Rattle.columns.specs.Columns.{Columns, tailAt, hypergraph}
 use Rattle.columns.specs.Acceptance.{mostVertices, mostEdges, mostListed}
 use Rattle.offers.specs.Lent.{cell, Usable, Turning}
 use Rattle.minima.specs.Minima.{size}
+use Rattle.waiting.specs.Keys.{heavy}
 use Rattle.waiting.specs.Waiting.{Queued, UsesOf}
 use Rattle.waiting.specs.Queue.{Fitted}
 use Rattle.waiting.specs.Missing.{missingIn}
@@ -64,7 +65,7 @@ pub record UseIndex (H : Hypergraph) (index list : List ℕ) : Type 0 where
 
 -- every unmade vertex has the first of the candidates of its ready hyperedges waiting, and every hyperedge the number of vertices that it misses
 pub record Waits (m : Measure) (c : Columns) (ws ds ms q : List ℕ) : Type 0 where
-  pub light : (v : ℕ) → cell ws v < 1_099_511_627_776
+  pub light : (v : ℕ) → cell ws v < heavy
   pub level : length ms ≡ mostEdges
   pub missing : (e : ℕ) → e < length (c .heads) → cell ms e ≡ missingIn (cell ds) (tailAt c e) (c .vertices)
   pub queued : Queued (algebra m) (hypergraph c) (cell (c .own)) (cell ws) (cell ds) q

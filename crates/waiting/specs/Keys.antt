@@ -1,4 +1,4 @@
--- A label as one number, its key: the weight, 11 bits of depth and 12 bits of hyperedge, so that keys are compared where labels would be. An offer of nothing has
+-- A label as one number, its key: 40 bits of weight, 11 of depth and 12 of hyperedge, so that keys are compared where labels would be. An offer of nothing has
 -- the key of none. Assumes nothing: these are definitions.
 use Prim.Native.Nat.{ℕ, _+_, _*_, _/_, _%_, _<_}
 use Rattle.weights.specs.declared.Label.{Label}
@@ -6,6 +6,10 @@ use Rattle.weights.specs.declared.Offer.{Offer}
 use Rattle.weights.specs.declared.Offer.the-variants.{Nothing, Found}
 use Rattle.weights.specs.Labels.{label}
 use Rattle.minima.specs.Minima.{none}
+
+-- weights below it have room in a key
+abbrev pub heavy : ℕ
+heavy = 1_099_511_627_776
 
 abbrev pub packed : Label → ℕ
 packed l = l .weight .0 * 8388608 + l .depth * 4096 + l .edge .0
@@ -15,7 +19,7 @@ unpacked k = label (k / 8388608) (k / 4096 % 2048) (k % 4096)
 
 -- a label whose numbers have room in a key
 pub record Fits (l : Label) : Type 0 where
-  pub weight : l .weight .0 < 1_099_511_627_776
+  pub weight : l .weight .0 < heavy
   pub depth : l .depth < 2048
   pub edge : l .edge .0 < 4096
 

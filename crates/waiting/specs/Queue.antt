@@ -22,7 +22,7 @@ use Rattle.provenance.specs.BestFirst.{opening, next}
 use Rattle.uses.specs.Uses.{member}
 use Rattle.minima.specs.Minima.{none, keys, size, leastFrom, Grouped, lowered, raised}
 use Rattle.minima.specs.Laws.{least-at-most, least-lower, least-greatest, lowered-same, lowered-other, lowered-grouped, raised-same, raised-other, raised-grouped, no-keys, no-keys-grouped}
-use Rattle.waiting.specs.Keys.{packed, unpacked, Fits, Fitting, nothing, found, keyOf}
+use Rattle.waiting.specs.Keys.{heavy, packed, unpacked, Fits, Fitting, nothing, found, keyOf}
 use Rattle.waiting.specs.Packing.{unpacked-packed, below-none, key-earlier, fitting-earlier}
 use Rattle.waiting.specs.Waiting.{leastWith, offered, keyAt, Queued, offering, UsesOf}
 
@@ -301,16 +301,16 @@ module _ (A : Algebra) (H : Hypergraph) (own : ℕ → ℕ) (heads : (e : ℕ) �
 
 -- labels of which every candidate fits in a key
 pub record Fitted (w d : ℕ → ℕ) : Type 0 where
-  pub weight : (v : ℕ) → w v < 1_099_511_627_776
+  pub weight : (v : ℕ) → w v < heavy
   pub depth : (v : ℕ) → d v < 2047
 
-fold-below : (m : Measure) (w : ℕ → ℕ) → ((v : ℕ) → w v < 1_099_511_627_776) → (j : ℕ) (vs : List ℕ) → j < 1_099_511_627_776 → fold (algebra m .join) j (each w vs) < 1_099_511_627_776
+fold-below : (m : Measure) (w : ℕ → ℕ) → ((v : ℕ) → w v < heavy) → (j : ℕ) (vs : List ℕ) → j < heavy → fold (algebra m .join) j (each w vs) < heavy
 unfolding fold each
 fold-below m w f j [] h = h
 fold-below Cost w f j (v ∷ vs) h = fold-below Cost w f _ vs (omega arith)
 fold-below Days w f j (v ∷ vs) h = fold-below Days w f _ vs (omega (arith, f v))
 
-weigh-below : (m : Measure) (w : ℕ → ℕ) → ((v : ℕ) → w v < 1_099_511_627_776) → (own : ℕ) (vs : List ℕ) → own < 1_099_511_627_776 → weigh (algebra m) own (each w vs) < 1_099_511_627_776
+weigh-below : (m : Measure) (w : ℕ → ℕ) → ((v : ℕ) → w v < heavy) → (own : ℕ) (vs : List ℕ) → own < heavy → weigh (algebra m) own (each w vs) < heavy
 unfolding weigh
 weigh-below Cost w f own vs h = omega (arith, fold-below Cost w f 0 vs (omega arith))
 weigh-below Days w f own vs h = omega (arith, fold-below Days w f 0 vs (omega arith))
@@ -320,7 +320,7 @@ unfolding greatest
 greatest-below d f [] = omega arith
 greatest-below d f (v ∷ vs) = omega (arith, f v, greatest-below d f vs)
 
-pub open-fits : (m : Measure) (H : Hypergraph) (own w d : ℕ → ℕ) (e : ℕ) → Fitted w d → own e < 1_099_511_627_776 → e < 4096 → Fitting (opening (algebra m) H own w d e)
+pub open-fits : (m : Measure) (H : Hypergraph) (own w d : ℕ → ℕ) (e : ℕ) → Fitted w d → own e < heavy → e < 4096 → Fitting (opening (algebra m) H own w d e)
 unfolding opening offerOf
 open-fits m H own w d e f o h = go (eqb (d (H .head e)) 0) (H .live e) (noneZero (d) (H .tail e))
   where

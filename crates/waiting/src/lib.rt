@@ -1,4 +1,5 @@
-// The key of a label: one number, so that comparing two labels is comparing two numbers.
+// The key of a label: one number, 40 bits of weight, 11 of depth and 12 of hyperedge, so that
+// comparing two labels is comparing two numbers.
 use weights::Hyperedge;
 use weights::Label;
 use weights::Weight;
