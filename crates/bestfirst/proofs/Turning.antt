@@ -19,6 +19,7 @@ use Rattle.refusal.specs.declared.Answer.the-variants.{Accepted}
 use Rattle.provenance.specs.Hypergraph.{Hypergraph}
 use Rattle.provenance.specs.Labelling.{greatest, candidate}
 use Rattle.provenance.specs.BestFirst.{Answers, labels, put, place, opening, next, turn, Next, next-is}
+use Rattle.provenance.specs.Existence.{greatest-at-most}
 use Rattle.columns.specs.Columns.{Columns, hypergraph}
 use Rattle.columns.specs.Acceptance.{acceptance}
 use Rattle.columns.specs.Accepted.{table-accepted}
@@ -33,11 +34,6 @@ use Rattle.waiting.specs.Queue.{Fitted, least-next, fitting-next, told-nothing,
 use Rattle.waiting.specs.Missing.{missingIn, missing-shut, missing-less, missing-same, lessened, lessened-length, lessened-other, lessened-named}
 use Rattle.bestfirst.specs.Turns.{Offerable, useAt, Due, Arrivals, Placeable, Waits, Underway}
 use Rattle.bestfirst.proofs.Laws.{head-key, edge-fits, found-fits}
-
-greatest-at-most : (d : ℕ → ℕ) (k : ℕ) → ((v : ℕ) → d v ≤ k) → (vs : List ℕ) → greatest d vs ≤ k
-unfolding greatest
-greatest-at-most d k f [] = omega arith
-greatest-at-most d k f (v ∷ vs) = omega (arith, f v, greatest-at-most d k f vs)
 
 -- what is found is the candidate of a hyperedge of the table, whose head is unmade
 pub record Told (H : Hypergraph) (d : ℕ → ℕ) (k : ℕ) (l : Label) : Type 0 where

@@ -16,7 +16,7 @@ use Rattle.weights.specs.Laws.{Within, Lawful}
 use Rattle.weights.specs.Weighing.{superior, weigh-within}
 use Rattle.weights.specs.Order.{Ahead, ahead-refl, ahead-trans}
 use Rattle.provenance.specs.Hypergraph.{Hypergraph, Stands, WellFormed}
-use Rattle.provenance.specs.Labelling.{Made, AllMade, each, greatest, tail-weights, deepest, Ready, candidate, Chosen, Fixpoint}
+use Rattle.provenance.specs.Labelling.{Made, AllMade, depthIn, each, greatest, tail-weights, deepest, Ready, candidate, Chosen, Fixpoint}
 use Rattle.provenance.specs.Meaning.{unique}
 use Rattle.provenance.specs.BestFirst.{Open, Next, stuck, found, next, next-is, Answers, labels, put, blank, place, turn, turns, best-first}
 
@@ -184,10 +184,11 @@ zeros (suc n) (suc v) = zeros n v
 at-blank : (n v : ℕ) → labels (blank n) v ≡ unmade
 at-blank n v = λ i. record { weight = record { 0 = zeros n v i }; depth = zeros n v i; edge = record { 0 = zeros n v i } }
 
-deepest-le : (f : ℕ → Label) {k : ℕ} → ((v : ℕ) → f v .depth ≤ k) → (vs : List ℕ) → deepest f vs ≤ k
+-- no depth of a tail passes what none passes
+pub greatest-at-most : (d : ℕ → ℕ) (k : ℕ) → ((v : ℕ) → d v ≤ k) → (vs : List ℕ) → greatest d vs ≤ k
 unfolding greatest
-deepest-le f h [] = omega arith
-deepest-le f h (v ∷ vs) = omega (arith, h v, deepest-le f h vs)
+greatest-at-most d k h [] = omega arith
+greatest-at-most d k h (v ∷ vs) = omega (arith, h v, greatest-at-most d k h vs)
 
 -- the three columns are n long
 pub record Sized (n : ℕ) (a : Answers) : Type 0 where
@@ -251,7 +252,7 @@ module _ {A : Algebra} (L : Lawful A) {H : Hypergraph} (own : ℕ → ℕ) (wf :
         s = record { open-edge = o; first = λ e′ q. first e′ (q .ready .stands .numbered) q; here = put-here ls (H .head e) l (a .size) fits; elsewhere = λ v n. put-elsewhere ls (H .head e) l v n }
 
         shallow : (v : ℕ) → Dec (v ≡ H .head e) → labels (put ls (H .head e) l) v .depth ≤ suc k
-        shallow v (yes q) = omega (arith, ap (λ x. labels (put ls (H .head e) l) x .depth) q, ap (λ x. x .depth) (s .here), deepest-le (labels ls) (a .shallow) (H .tail e))
+        shallow v (yes q) = omega (arith, ap (λ x. labels (put ls (H .head e) l) x .depth) q, ap (λ x. x .depth) (s .here), greatest-at-most (depthIn (labels ls)) k (a .shallow) (H .tail e))
         shallow v (no n) = omega (arith, ap (λ x. x .depth) (s .elsewhere v n), a .shallow v)
 
         go : (gaps (ls .depths) + k ≤ H .vertices) ⊎ ((e : ℕ) → e < H .edges → ¬ Open H (labels ls) e) → (gaps (set (ls .depths) (H .head e) (l .depth)) + suc k ≤ H .vertices) ⊎ ((e′ : ℕ) → e′ < H .edges → ¬ Open H (labels (put ls (H .head e) l)) e′)

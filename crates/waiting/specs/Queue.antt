@@ -19,6 +19,7 @@ use Rattle.weights.specs.Measures.{Algebra, algebra, fold, weigh}
 use Rattle.provenance.specs.Hypergraph.{Hypergraph}
 use Rattle.provenance.specs.Labelling.{each, greatest, noneZero, yield, offerOf}
 use Rattle.provenance.specs.BestFirst.{opening, next}
+use Rattle.provenance.specs.Existence.{greatest-at-most}
 use Rattle.uses.specs.Uses.{member}
 use Rattle.minima.specs.Minima.{none, keys, size, leastFrom, Grouped, lowered, raised}
 use Rattle.minima.specs.Laws.{least-at-most, least-lower, least-greatest, lowered-same, lowered-other, lowered-grouped, raised-same, raised-other, raised-grouped, no-keys, no-keys-grouped}
@@ -205,15 +206,15 @@ module _ (A : Algebra) (H : Hypergraph) (own w d w′ d′ : ℕ → ℕ) (v : �
   open-same e n m =
       rw (
         depths-same (H .head e) n,
-        noneZero-same v (d) (d′) depths-same (H .tail e) m,
-        each-same v (w) (w′) weights-same (H .tail e) m,
-        greatest-same v (d) (d′) depths-same (H .tail e) m,
+        noneZero-same v d d′ depths-same (H .tail e) m,
+        each-same v w w′ weights-same (H .tail e) m,
+        greatest-same v d d′ depths-same (H .tail e) m,
       )
 
 -- a hyperedge offers nothing where a vertex of its tail is unmade, or its head is made
 pub open-unmade : (A : Algebra) (H : Hypergraph) (own w d : ℕ → ℕ) (v e : ℕ) → d v ≡ 0 → member v (H .tail e) ≡ true → opening A H own w d e ≡ Nothing
 unfolding opening offerOf
-open-unmade A H own w d v e z m = rw (zero-stops (d) v (H .tail e) z m) (none-of (eqb (d (H .head e)) 0) (H .live e))
+open-unmade A H own w d v e z m = rw (zero-stops d v (H .tail e) z m) (none-of (eqb (d (H .head e)) 0) (H .live e))
   where
     none-of : (p q : Bool) → pick {A = Offer} p (pick q Nothing Nothing) Nothing ≡ Nothing
     none-of true true = refl
@@ -302,7 +303,7 @@ module _ (A : Algebra) (H : Hypergraph) (own : ℕ → ℕ) (heads : (e : ℕ) �
 -- labels of which every candidate fits in a key
 pub record Fitted (w d : ℕ → ℕ) : Type 0 where
   pub weight : (v : ℕ) → w v < heavy
-  pub depth : (v : ℕ) → d v < 2047
+  pub depth : (v : ℕ) → d v ≤ 2046
 
 fold-below : (m : Measure) (w : ℕ → ℕ) → ((v : ℕ) → w v < heavy) → (j : ℕ) (vs : List ℕ) → j < heavy → fold (algebra m .join) j (each w vs) < heavy
 unfolding fold each
@@ -315,19 +316,14 @@ unfolding weigh
 weigh-below Cost w f own vs h = omega (arith, fold-below Cost w f 0 vs (omega arith))
 weigh-below Days w f own vs h = omega (arith, fold-below Days w f 0 vs (omega arith))
 
-greatest-below : (d : ℕ → ℕ) → ((v : ℕ) → d v < 2047) → (vs : List ℕ) → greatest d vs < 2047
-unfolding greatest
-greatest-below d f [] = omega arith
-greatest-below d f (v ∷ vs) = omega (arith, f v, greatest-below d f vs)
-
 pub open-fits : (m : Measure) (H : Hypergraph) (own w d : ℕ → ℕ) (e : ℕ) → Fitted w d → own e < heavy → e < 4096 → Fitting (opening (algebra m) H own w d e)
 unfolding opening offerOf
-open-fits m H own w d e f o h = go (eqb (d (H .head e)) 0) (H .live e) (noneZero (d) (H .tail e))
+open-fits m H own w d e f o h = go (eqb (d (H .head e)) 0) (H .live e) (noneZero d (H .tail e))
   where
-    fits : Fits (yield (algebra m) (own e) (H .tail e) (w) (d) e)
-    fits = record { weight = weigh-below m (w) (f .weight) (own e) (H .tail e) o; depth = omega (arith, greatest-below (d) (f .depth) (H .tail e)); edge = h }
+    fits : Fits (yield (algebra m) (own e) (H .tail e) w d e)
+    fits = record { weight = weigh-below m w (f .weight) (own e) (H .tail e) o; depth = omega (arith, greatest-at-most d 2046 (f .depth) (H .tail e)); edge = h }
 
-    go : (p q r : Bool) → Fitting (pick p (pick q (pick r (Found (yield (algebra m) (own e) (H .tail e) (w) (d) e)) Nothing) Nothing) Nothing)
+    go : (p q r : Bool) → Fitting (pick p (pick q (pick r (Found (yield (algebra m) (own e) (H .tail e) w d e)) Nothing) Nothing) Nothing)
     go false q r = nothing
     go true false r = nothing
     go true true false = nothing
