@@ -13,9 +13,9 @@ use Rattle.columns.specs.Columns.{Columns, tailAt, hypergraph}
 use Rattle.columns.specs.Acceptance.{acceptance}
 use Rattle.columns.specs.Accepted.{table-accepted}
 use Rattle.columns.specs.Filled.{filled, length-filled}
-use Rattle.uses.specs.Uses.{useList, pairsIn, Indexed}
+use Rattle.uses.specs.Uses.{useList, pairsIn}
 use Rattle.uses.specs.Indexable.{Indexable}
-use Rattle.uses.specs.Laws.{index-length, uses-within, use-sound, use-complete, use-ascend}
+use Rattle.uses.specs.Laws.{Indexed, index-length, uses-within, use-sound, use-complete, use-ascend}
 use Rattle.uses.specs.Room.{list-fits, table-indexable, table-indexed}
 use Rattle.offers.specs.Lent.{cell}
 use Rattle.minima.specs.Minima.{none, size}

@@ -5,7 +5,7 @@ use Prim.Native.Nat.{ℕ, _*_, _/_, _≤_}
 use native.Mathlib.Omega.{arith}
 use lib.ListN.{length}
 use Rattle.columns.specs.Columns.{tailOf}
-use Rattle.uses.specs.Uses.{useList, pairs, pairsIn, useOffset, Indexed}
+use Rattle.uses.specs.Uses.{useList, pairs, pairsIn, useOffset, indexed}
 use Rattle.uses.specs.Indexable.{Readable, Indexable, counted, running, Placeable, placed, FilledTo, Offset}
 use Rattle.uses.specs.Pairs.{length-pairs}
 use Rattle.uses.proofs.Placing.{running-offset, placed-offsets}
@@ -39,7 +39,10 @@ module _ {spans tails index list : List ℕ} (a : Indexable spans tails index li
       offsets = placed-is ∙ ap (pairs (useOffset (tailOf spans tails) (pairsIn spans)) (λ v. 0)) (sym placed-pairs);
     }
 
-    pub indexed : {total : ℕ} {ix₃ list₃ : List ℕ} → total ≡ running ix (pairsIn ix) → FilledTo (tailOf spans tails) (pairsIn spans) (pairsIn ix₂) (pairsIn spans) ix₃ list₃ list → Indexed (tailOf spans tails) (pairsIn spans) (pairsIn index) list total ix₃ list₃
-    indexed {ix₃ = ix₃} {list₃} t f =
+    pub all-indexed : {total : ℕ} {ix₃ list₃ : List ℕ} → total ≡ running ix (pairsIn ix) → FilledTo (tailOf spans tails) (pairsIn spans) (pairsIn ix₂) (pairsIn spans) ix₃ list₃ list → record { total = total; index = ix₃; list = list₃ } ≡ indexed (tailOf spans tails) (pairsIn spans) (pairsIn index) list
+    unfolding indexed
+    all-indexed {ix₃ = ix₃} {list₃} t f =
         let f′ = subst (λ (z : ℕ). FilledTo (tailOf spans tails) (pairsIn spans) z (pairsIn spans) ix₃ list₃ list) placed-pairs f in
-        record { total-is = t ∙ sum-is; index-is = f′ .lengths; list-is = filled-all (tailOf spans tails) (pairsIn spans) (pairsIn index) (f′ .laid) (a .room) }
+        let s = t ∙ sum-is in
+        let l = filled-all (tailOf spans tails) (pairsIn spans) (pairsIn index) (f′ .laid) (a .room) in
+        λ i. record { total = s i; index = f′ .lengths i; list = l i }

@@ -11,7 +11,7 @@ use lib.Dec.{eqb}
 use borrow.Author.Tests.{eqb-true}
 use Rattle.weights.specs.Choice.{pick, apart}
 use Rattle.columns.specs.Filled.{filled, length-filled}
-use Rattle.uses.specs.Uses.{member, usesBelow, useList, useOffset, useCount, Indexed}
+use Rattle.uses.specs.Uses.{member, usesBelow, useList, useOffset, useCount, usePairs, Index, indexed}
 use Rattle.uses.specs.Pairs.{length-pairs, pairs-first, pairs-second}
 use Rattle.uses.specs.Lists.{uses-sound, uses-complete, uses-ascend, offset-next, offset-end, uses-at}
 
@@ -24,6 +24,16 @@ member-found v (u ∷ us) p = go (eqb v u) refl p (member-found v us)
     go : (b : Bool) → eqb v u ≡ b → pick b true (member v us) ≡ true → (member v us ≡ true → (i : ℕ) × ((i < length us) × (getD us i 0 ≡ v))) → (i : ℕ) × ((i < length (u ∷ us)) × (getD (u ∷ us) i 0 ≡ v))
     go true e q f = (0, (omega arith, sym (eqb-true v u e)))
     go false e q f = let s = f q in (suc (s .0), (omega (arith, s .1 .0), s .1 .1))
+
+-- the three parts of what indexing leaves
+pub record Indexed (tail : ℕ → List ℕ) (m n : ℕ) (old : List ℕ) (total : ℕ) (index list : List ℕ) : Type 0 where
+  pub total-is : total ≡ length (useList tail m n)
+  pub index-is : index ≡ usePairs tail m n
+  pub list-is : list ≡ filled (useList tail m n) old
+
+pub parts-of : {tail : ℕ → List ℕ} {m n : ℕ} {old : List ℕ} {total : ℕ} {index list : List ℕ} → record { total = total; index = index; list = list } ≡ indexed tail m n old → Indexed tail m n old total index list
+unfolding indexed
+parts-of e = record { total-is = ap (λ (x : Index). x .total) e; index-is = ap (λ (x : Index). x .index) e; list-is = ap (λ (x : Index). x .list) e }
 
 module _ {tail : ℕ → List ℕ} {m n : ℕ} {old : List ℕ} {total : ℕ} {index list : List ℕ} (x : Indexed tail m n old total index list) where
   -- two places for each vertex: its offset and its length

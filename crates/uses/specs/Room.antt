@@ -13,7 +13,8 @@ use Rattle.weights.specs.Choice.{pick}
 use Rattle.columns.specs.Columns.{Columns, offsetAt, lengthAt, tailAt}
 use Rattle.columns.specs.Acceptance.{allBelow, edgeAt, edgesAcceptance, acceptance}
 use Rattle.columns.specs.Accepted.{below-at, below-all, both-accepted, edge-accepted, table-accepted}
-use Rattle.uses.specs.Uses.{member, usesBelow, useList, pairsIn, Indexed}
+use Rattle.uses.specs.Uses.{member, usesBelow, useList, pairsIn}
+use Rattle.uses.specs.Laws.{Indexed}
 use Rattle.uses.specs.Indexable.{Indexable}
 use Rattle.uses.specs.Pairs.{same-or-not}
 use Rattle.uses.specs.Lists.{true-or-false, uses-same, more-length, offset-next}

@@ -44,7 +44,10 @@ abbrev pub usePairs : (tail : ℕ → List ℕ) → (m n : ℕ) → List ℕ
 usePairs tail m n = pairs (useOffset tail m) (useCount tail m) n
 
 -- what indexing returns and leaves: the length of the list, the pairs, and the list at the start of a lent column
-pub record Indexed (tail : ℕ → List ℕ) (m n : ℕ) (old : List ℕ) (total : ℕ) (index list : List ℕ) : Type 0 where
-  pub total-is : total ≡ length (useList tail m n)
-  pub index-is : index ≡ usePairs tail m n
-  pub list-is : list ≡ filled (useList tail m n) old
+pub record Index : Type 0 where
+  pub total : ℕ
+  pub index : List ℕ
+  pub list : List ℕ
+
+unfoldable pub indexed : (tail : ℕ → List ℕ) → (m n : ℕ) → (old : List ℕ) → Index
+indexed tail m n old = record { total = length (useList tail m n); index = usePairs tail m n; list = filled (useList tail m n) old }

@@ -4,7 +4,7 @@ ghost use mathlib.Core.Path.{_≡_};
 ghost use Prim.Native.Nat.{_+_, _*_, _≤_};
 ghost use lib.ListN.{length};
 ghost use Rattle.columns.specs.Columns.{tailOf};
-ghost use Rattle.uses.specs.Uses.{pairsIn, Indexed};
+ghost use Rattle.uses.specs.Uses.{pairsIn, indexed};
 ghost use Rattle.uses.specs.Indexable.{Readable, Indexable, counted, Counting, running, Placeable, placed, endsIn, FilledTo, Filling, Offset};
 
 // Counts hyperedge e as a use of each vertex that it lists. The first place of a vertex is a mark
@@ -111,7 +111,7 @@ fn fill(spans: &[u64], tails: &[u64], index: &mut [u64], list: &mut [u64])
 // keeps what stands behind it; returns the length of the list.
 pub fn index_uses(spans: &[u64], tails: &[u64], index: &mut [u64], list: &mut [u64]) -> u64
     requires { ⌜ Indexable (now spans) (now tails) (now index) (now list) ⌝ }
-    ensures { λ r. ⌜ Indexed (tailOf (now (spans .entry)) (now (tails .entry))) (pairsIn (now (spans .entry))) (pairsIn (now (index .entry))) (now (list .entry)) r (now (index .exit)) (now (list .exit)) ⌝ }
+    ensures { λ r. ⌜ record { total = r; index = now (index .exit); list = now (list .exit) } ≡ indexed (tailOf (now (spans .entry)) (now (tails .entry))) (pairsIn (now (spans .entry))) (pairsIn (now (index .entry))) (now (list .entry)) ⌝ }
 {
     count(spans, tails, index);
     let total = place(index);

@@ -3,7 +3,7 @@ use Rattle.uses.proofs.index_uses.Statement.{statement}
 use Rattle.uses.proofs.index_uses.Tie as tie
 use native.Mathlib.Omega.{arith}
 use borrow.Author.Needs.{needs}
-use Rattle.uses.proofs.Whole.{placeable, offset, indexed}
+use Rattle.uses.proofs.Whole.{placeable, offset, all-indexed}
 
 count-requires : tie.Need-count-requires
 count-requires c κs = search needs
@@ -25,7 +25,7 @@ returns c =
     let f = c .before .before .before .before in
     let d = f .before .before .before .before .before in
     let e = d .before .before .before .before in
-    indexed (e .before .before .before .before .before .before .pre) (e .count .ensures) (d .place .ensures .1) (d .place .ensures .0) (f .fill .ensures)
+    all-indexed (e .before .before .before .before .before .before .pre) (e .count .ensures) (d .place .ensures .1) (d .place .ensures .0) (f .fill .ensures)
 
 pub index-uses-spec : {M : Type 1} → statement M
 index-uses-spec =
