@@ -1,6 +1,7 @@
 //! Differential tests of the library's calls. Arguments: [seed] [count] [test].
 //! The last line is 'N passed, M failed'; the exit status is 1 if a test failed.
 
+mod agreement;
 mod answers;
 mod bills;
 mod bindings;
@@ -48,6 +49,7 @@ const TESTS: &[&[Test]] = &[
     entries::TESTS,
     bills::TESTS,
     refusals::TESTS,
+    agreement::TESTS,
     repricing::TESTS,
     repricing_refusals::TESTS,
     stale_answers::TESTS,

@@ -11,8 +11,10 @@
 
 static const struct test *const lists[] = { answer_tests, refusal_tests, room_tests };
 
+enum { PASSED, FAILED, SKIPPED };
+
 /* A library that crashes fails one test, and the rest still run. */
-static int passes(const struct test *test)
+static int outcome(const struct test *test)
 {
     int status = -1;
     pid_t child;
@@ -22,9 +24,9 @@ static int passes(const struct test *test)
     if (child == 0) {
         test->run();
         fflush(stdout);
-        _exit(failures > 0);
+        _exit(failures > 0 ? FAILED : skipped ? SKIPPED : PASSED);
     }
-    return child > 0 && waitpid(child, &status, 0) == child && status == 0;
+    return child > 0 && waitpid(child, &status, 0) == child && WIFEXITED(status) ? WEXITSTATUS(status) : FAILED;
 }
 
 int main(int count, char **given)
@@ -37,9 +39,10 @@ int main(int count, char **given)
         for (test = lists[i]; test->name != NULL; test++) {
             if (count > 1 ? strcmp(given[1], test->name) != 0 : test->slow)
                 continue;
-            if (passes(test)) {
-                passed++;
-            } else {
+            switch (outcome(test)) {
+            case PASSED: passed++; break;
+            case SKIPPED: printf("skipped %s\n", test->name); break;
+            default:
                 printf("failed %s\n", test->name);
                 failed++;
             }

@@ -7,6 +7,7 @@
 static const char *const call_names[CALLS] = { "settle", "reprice", "bill" };
 
 int failures;
+int skipped;
 
 void check(int holds, const char *what)
 {

@@ -21,6 +21,9 @@ struct table {
 /* How many checks of the running test have failed; the first that does says what. */
 extern int failures;
 
+/* Whether a test could not be made here. */
+extern int skipped;
+
 void check(int holds, const char *what);
 void expect(enum call call, const char *what, uint64_t got, uint64_t number, uint64_t place);
 
