@@ -1,10 +1,10 @@
 -- The laws by which `bill` goes: a part that is accepted has a grounded bill, which the walks read from three columns; and what the call leaves. Assumes nothing.
-use mathlib.Core.Path.{_≡_, refl, sym, _∙_, ap, subst, fun-ext}
+use mathlib.Core.Path.{_≡_, refl, ap, fun-ext}
 use mathlib.Core.Bool.{true}
-use mathlib.Core.List.{List, [], _∷_, _++_}
-use Prim.Native.Nat.{ℕ, zero, suc, _+_, _*_, _≤_, _<_}
+use mathlib.Core.List.{List, _∷_}
+use Prim.Native.Nat.{ℕ, zero, suc, _+_, _≤_, _<_}
 use native.Mathlib.Omega.{arith}
-use lib.ListN.{length, getD}
+use lib.ListN.{length}
 use borrow.Author.Tests.{ltb-true, le-leb, lt-leb}
 use Rattle.weights.specs.declared.Measure.{Measure}
 use Rattle.weights.specs.declared.Label.{Label}
@@ -18,12 +18,11 @@ use Rattle.provenance.specs.Labelling.{Made, AllMade, greatest, deepest, Fixpoi
 use Rattle.provenance.specs.BestFirst.{Answers, labels}
 use Rattle.provenance.specs.Support.{bills, bill}
 use Rattle.columns.specs.Columns.{Columns, ownAt, tailAt, hypergraph}
-use Rattle.columns.specs.Acceptance.{acceptance, allBelow}
-use Rattle.columns.specs.Accepted.{AcceptedColumns, AcceptedTable, table-accepted}
+use Rattle.columns.specs.Acceptance.{allBelow}
+use Rattle.columns.specs.Accepted.{AcceptedColumns, table-accepted}
 use Rattle.offers.specs.Lent.{cell}
-use Rattle.bill.specs.declared.Budget.{Budget}
 use Rattle.bill.specs.declared.Budget.the-variants.{Left, Spent}
-use Rattle.bill.specs.Walk.{lists, choices, vertexBill, Each, Grounded, VertexFits, Written, spend}
+use Rattle.bill.specs.Walk.{vertexBill, Each, Grounded, VertexFits, Written, spend}
 use Rattle.bill.specs.Billing.{billOf, partAcceptance, billAcceptance, printed, billed}
 use Rattle.bill.specs.Bills.{AcceptedPart, part-accepted}
 use Rattle.bill.proofs.Walks.{is-spent, is-left}

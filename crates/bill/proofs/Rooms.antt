@@ -1,15 +1,15 @@
 -- The laws by which a room is filled: nothing more is written, the root is, or a part of the room is lent for the first bill of a tail and the rest is filled behind
 -- it. Assumes nothing.
-use mathlib.Core.Path.{_≡_, refl, sym, _∙_, ap, ap₂, subst}
+use mathlib.Core.Path.{_≡_, sym, _∙_, ap, ap₂}
 use mathlib.Core.List.{List, [], _∷_, _++_, append-assoc, append-nil}
-use Prim.Native.Nat.{ℕ, zero, suc, _+_, _-_, _≤_, _<_}
+use Prim.Native.Nat.{ℕ, _+_, _-_, _≤_, _<_}
 use native.Mathlib.Omega.{arith}
 use lib.ListN.{length, getD, take, drop, set, length-set, length-append, length-take, length-drop, take-append-drop, drop-of-length-le}
 use lib.Seq.{take-all, take-at, drop-at, drop-drop}
 use borrow.Rule.Slice.PartMut.{putMid}
 use Rattle.columns.specs.Columns.{tailOf}
 use Rattle.offers.specs.Lent.{cell}
-use Rattle.bill.specs.Walk.{vertexBill, tailBill, AllGrounded, VertexFits, TailFits, written, Written}
+use Rattle.bill.specs.Walk.{vertexBill, tailBill, VertexFits, TailFits, written, Written}
 use Rattle.bill.proofs.Walks.{Below, grounded, each-first, each-rest, rest, bills-none, bills-more, bills-length}
 
 -- a room from a place on, as it is lent; and the room once that part has come back as ys

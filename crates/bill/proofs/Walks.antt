@@ -1,21 +1,20 @@
 -- The laws by which the walks of a bill go. Assumes nothing.
 use mathlib.Core.Path.{_≡_, refl, sym, _∙_, ap, subst}
-use mathlib.Core.List.{List, [], _∷_, _++_, append-assoc, append-nil}
-use Prim.Native.Nat.{ℕ, zero, suc, _+_, _-_, _*_, _^_, _≤_, _<_}
+use mathlib.Core.List.{List, [], _∷_, _++_}
+use Prim.Native.Nat.{ℕ, zero, suc, _+_, _-_, _*_, _≤_, _<_}
 use native.Mathlib.Nat.{sub-zero}
 use native.Mathlib.Omega.{arith}
 use native.Mathlib.Decide.{decLe}
 use lib.ListN.{length, getD, take, drop, length-append, length-take, length-drop}
 use lib.Seq.{take-all}
 use borrow.Author.Tests.{le-leb, lt-leb}
-use Rattle.weights.specs.Choice.{pick}
 use Rattle.provenance.specs.Support.{bills, bill}
 use Rattle.columns.specs.Acceptance.{longestTail}
 use Rattle.columns.specs.Columns.{tailOf}
 use Rattle.offers.specs.Lent.{cell}
 use Rattle.bill.specs.declared.Budget.{Budget}
 use Rattle.bill.specs.declared.Budget.the-variants.{Left, Spent}
-use Rattle.bill.specs.Walk.{lists, choices, vertexBill, tailBill, Placed, Each, Grounded, AllGrounded, VertexFits, TailFits, written, Written, spend}
+use Rattle.bill.specs.Walk.{vertexBill, tailBill, Placed, Each, Grounded, AllGrounded, spend}
 
 -- the measure: depth, then the listed parts left; a list of 16 parts and its end are fewer than 18
 abbrev pub μ : (depth left : ℕ) → ℕ

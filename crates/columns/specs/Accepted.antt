@@ -1,6 +1,6 @@
 -- What holds of an accepted table: its lengths and limits, of each line its head, own figure, span and listed parts; so its hypergraph is well formed.
 -- Assumes nothing.
-use mathlib.Core.Path.{_≡_, refl, sym, subst}
+use mathlib.Core.Path.{_≡_, refl, subst}
 use mathlib.Core.List.{List, [], _∷_}
 use mathlib.Core.Bool.{Bool, true, false}
 use mathlib.Core.Logic.{⊎-elim}
@@ -19,7 +19,7 @@ use Rattle.refusal.specs.declared.Answer.the-variants.{Accepted, Refused}
 use Rattle.provenance.specs.Hypergraph.{WellFormed}
 use Rattle.provenance.specs.BestFirst.{Answers}
 use Rattle.provenance.specs.Existence.{Sized}
-use Rattle.columns.specs.Columns.{Columns, headAt, ownAt, offsetAt, lengthAt, part, tailAt, hypergraph}
+use Rattle.columns.specs.Columns.{Columns, headAt, ownAt, offsetAt, lengthAt, part, hypergraph}
 use Rattle.columns.specs.Acceptance.{mostVertices, mostEdges, mostListed, longestTail, test, andThen, allBelow, edgeAcceptance, edgeAt, edgesAcceptance, acceptance, lentAcceptance}
 
 pub refused : {r : Refusal} → Refused r ≡ Accepted → ⊥

@@ -1,9 +1,9 @@
 -- A table with one own figure changed, to any that is allowed: it is accepted as before. Assumes nothing.
-use mathlib.Core.Path.{_≡_, refl, sym, _∙_, ap}
-use Prim.Native.Nat.{ℕ, zero, suc, _+_, _*_, _≤_, _<_}
+use mathlib.Core.Path.{_≡_, refl, ap}
+use Prim.Native.Nat.{ℕ, zero, suc, _+_, _≤_, _<_}
 use native.Mathlib.Omega.{arith}
 use native.Mathlib.Decide.{ℕ-discrete}
-use lib.ListN.{length, getD, set, length-set}
+use lib.ListN.{length, length-set}
 use lib.Seq.{getD-set-same, getD-set-other}
 use borrow.Author.Tests.{le-leb, eq-eqb}
 use Rattle.weights.specs.Figures.{struck}
@@ -11,7 +11,7 @@ use Rattle.refusal.specs.declared.Answer.the-variants.{Accepted}
 use Rattle.provenance.specs.BestFirst.{Answers}
 use Rattle.columns.specs.Columns.{Columns, ownAt, offsetAt, lengthAt, withOwn}
 use Rattle.columns.specs.Acceptance.{edgeAt, edgesAcceptance, acceptance, lentAcceptance}
-use Rattle.columns.specs.Accepted.{AcceptedEdge, both-accepted, edge-accepted, edge-accepts, AcceptedTable, table-accepted, columns-accepted, columns-accept}
+use Rattle.columns.specs.Accepted.{both-accepted, edge-accepted, edge-accepts, table-accepted, columns-accepted, columns-accept}
 
 module _ (c : Columns) (e w : ℕ) (fits : e < length (c .own)) where
   own-here : ownAt (withOwn c e w) e ≡ w

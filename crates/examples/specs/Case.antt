@@ -1,6 +1,6 @@
 -- A worked example: a table, what is changed in it, and what must come out; and the test of one, computed from the definitions. Assumes nothing: these are
 -- definitions.
-use Prim.Native.Nat.{ℕ, zero, suc, _+_, _-_, _*_}
+use Prim.Native.Nat.{ℕ, suc, _+_, _-_, _*_}
 use mathlib.Core.Bool.{Bool, true, false}
 use mathlib.Core.List.{List, [], _∷_}
 use lib.ListN.{length}

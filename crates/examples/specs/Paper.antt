@@ -17,7 +17,7 @@ use Rattle.columns.specs.Same.{equal, same}
 use Rattle.columns.specs.Acceptance.{allBelow, edgeAcceptance, edgesAcceptance, acceptance}
 use Rattle.settle.specs.Settling.{answersOf}
 use Rattle.bill.specs.Billing.{billOf}
-use Rattle.examples.specs.Case.{Change, unchanged, figure, Bill, Rise, Case, statesAre, billsAre, risesAre, comesOut, passes, allPass}
+use Rattle.examples.specs.Case.{unchanged, figure, Case, statesAre, billsAre, risesAre, comesOut, passes, allPass}
 
 -- the table priced whole
 --   0 1200

@@ -14,7 +14,7 @@ use Rattle.refusal.specs.declared.Reading.{Reading}
 use Rattle.refusal.specs.declared.Reading.the-variants as reading
 use Rattle.refusal.specs.declared.MeasureChoice.{MeasureChoice}
 use Rattle.refusal.specs.declared.MeasureChoice.the-variants.{Measure, Refused}
-use Rattle.refusal.specs.Refusals.{codeOf, resultOf, answerResult, verdictResult, extentResult}
+use Rattle.refusal.specs.Refusals.{codeOf, resultOf, verdictResult, extentResult}
 use Rattle.provenance.specs.BestFirst.{Answers}
 use Rattle.columns.specs.Columns.{Columns}
 use Rattle.settle.specs.Checking.{checked}

@@ -3,7 +3,7 @@
 use mathlib.Core.Path.{_≡_, refl, sym, _∙_, ap, subst}
 use mathlib.Core.Logic.{_⊎_, inl, inr, _≢_}
 use mathlib.Core.List.{List, [], _∷_, List·Memᴰ, List·Memᴰ·head, List·Memᴰ·tail}
-use Prim.Native.Nat.{ℕ, zero, suc, _+_, _-_, _≤_, _<_, max}
+use Prim.Native.Nat.{ℕ, zero, suc, _+_, _-_, _≤_, _<_}
 use native.Mathlib.Omega.{arith}
 use native.Mathlib.Decide.{decLe, ℕ-discrete}
 use lib.ListN.{getD, set, replicate, length, length-set, length-replicate}
@@ -11,14 +11,14 @@ use lib.Seq.{getD-set-same, getD-set-other, ext-getD}
 use Rattle.weights.specs.declared.Label.{Label}
 use Rattle.weights.specs.declared.Offer.{Offer}
 use Rattle.weights.specs.Measures.{Algebra, weigh}
-use Rattle.weights.specs.Labels.{label, unmade}
+use Rattle.weights.specs.Labels.{unmade}
 use Rattle.weights.specs.Laws.{Within, Lawful}
 use Rattle.weights.specs.Weighing.{superior, weigh-within}
 use Rattle.weights.specs.Order.{Ahead, ahead-refl, ahead-trans}
-use Rattle.provenance.specs.Hypergraph.{Hypergraph, Stands, WellFormed}
+use Rattle.provenance.specs.Hypergraph.{Hypergraph, WellFormed}
 use Rattle.provenance.specs.Labelling.{Made, AllMade, depthIn, each, greatest, tail-weights, deepest, Ready, candidate, Chosen, Fixpoint}
 use Rattle.provenance.specs.Meaning.{unique}
-use Rattle.provenance.specs.BestFirst.{Open, Next, stuck, found, next, next-is, Answers, labels, put, blank, place, turn, turns, best-first}
+use Rattle.provenance.specs.BestFirst.{Open, Next, stuck, found, next-is, Answers, labels, put, blank, place, turn, turns, best-first}
 
 -- a made label under f is the same under g
 abbrev Keeps : (ℕ → Label) → (ℕ → Label) → Type 0

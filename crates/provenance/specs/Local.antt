@@ -7,7 +7,7 @@ use Prim.Native.Nat.{ℕ, zero, suc, _+_, _<_, _≤_}
 use native.Mathlib.Numerals.{add-one}
 use native.Mathlib.Omega.{arith}
 use native.Mathlib.Decide.{decLe, ℕ-discrete}
-use lib.ListN.{length, getD, List·getD-eq-default}
+use lib.ListN.{List·getD-eq-default}
 use lib.Dec.{ltb, eqb}
 use borrow.Author.Tests.{ltb-true, ltb-false, eqb-true, eqb-false}
 use Rattle.weights.specs.declared.Label.{Label}
@@ -20,7 +20,7 @@ use Rattle.weights.specs.Laws.{Lawful}
 use Rattle.weights.specs.Order.{Ahead, Ranked, ranked}
 use Rattle.provenance.specs.Hypergraph.{Hypergraph, WellFormed}
 use Rattle.provenance.specs.Labelling.{Made, weightIn, depthIn, Ready, candidate, Chosen, Fixpoint}
-use Rattle.provenance.specs.BestFirst.{Answers, labels, offer, Offered, offered, not-zero, best-first}
+use Rattle.provenance.specs.BestFirst.{Answers, labels, offer, Offered, offered, best-first}
 use Rattle.provenance.specs.Existence.{Sized, exists, columns-unique}
 
 -- p holds below n

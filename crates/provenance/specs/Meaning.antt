@@ -1,8 +1,8 @@
 -- Meaning: every label of a fixpoint means what the paper says a part's entry is; so two fixpoints agree, and what is unique is the meaning and not the way
 -- to it. The paper's "Make-ups, figures, depth", whole: best figure, thrifty, depth, chosen line, unmade. Assumes nothing.
-use mathlib.Core.Path.{_≡_, refl, sym, _∙_, ap}
+use mathlib.Core.Path.{_≡_, refl, sym, _∙_}
 use mathlib.Core.List.{List}
-use Prim.Native.Nat.{ℕ, _+_, _≤_, _<_}
+use Prim.Native.Nat.{ℕ, _≤_}
 use native.Mathlib.Omega.{arith}
 use native.Mathlib.Decide.{decLe}
 use Rattle.weights.specs.declared.Label.{Label}

@@ -2,25 +2,25 @@
 -- tropical semiring for cost and in the bottleneck semiring for days (document 000, Definitions 5 and 8, Theorems 13 and 14). In cost a provenance above the
 -- ceiling becomes "over". A part is unmade exactly if the sum is empty. Assumes nothing.
 use mathlib.Core.Path.{_≡_, refl, sym, _∙_, ap, ap₂, subst}
-use mathlib.Core.List.{List, [], _∷_, _++_, map, map-append}
+use mathlib.Core.List.{List, _∷_, map, map-append}
 use Prim.Native.Nat.{ℕ, _≤_}
 use native.Mathlib.Omega.{arith}
 use native.Mathlib.Decide.{decLe}
 use Rattle.semiring.specs.Semiring.{Below, product, product-append}
-use Rattle.semiring.specs.Datalog.{Tree, representation, leaves, Provenance}
+use Rattle.semiring.specs.Datalog.{Provenance}
 use Rattle.weights.specs.declared.Label.{Label}
 use Rattle.weights.specs.Measures.{Algebra, weigh}
 use Rattle.weights.specs.Labels.{unmade}
 use Rattle.weights.specs.Laws.{NoWorse, Lawful}
 use Rattle.weights.specs.Weighing.{no-worse-eq}
-use Rattle.provenance.specs.Hypergraph.{Hypergraph, WellFormed, Stands, Derivation, Derivations, node, none, more, weight, weights, listing, listings}
+use Rattle.provenance.specs.Hypergraph.{Hypergraph, WellFormed, Derivation, Derivations, node, none, more, weight, weights, listing, listings}
 use Rattle.provenance.specs.Labelling.{Made, Fixpoint}
 use Rattle.provenance.specs.LowerBound.{bound}
 use Rattle.provenance.specs.Support.{chosen, supports}
 use Rattle.provenance.specs.BestFirst.{labels, best-first}
 use Rattle.provenance.specs.Existence.{exists}
 use Rattle.provenance.specs.Semirings.{Computes}
-use Rattle.provenance.specs.Program.{part, program, Annotations, Owns, draw, read}
+use Rattle.provenance.specs.Program.{part, program, Owns, draw, read}
 
 module _ {A : Algebra} (C : Computes A) (H : Hypergraph) (own : ℕ → ℕ) (l : Label) (v : ℕ) where
   -- the label of v is unmade and the sum is empty, or its figure is the provenance of v, up to the ceiling

@@ -3,10 +3,10 @@
 use mathlib.Core.Path.{_≡_, refl, sym, _∙_, ap}
 use mathlib.Core.Bool.{true}
 use mathlib.Core.List.{List, [], _∷_, map}
-use Prim.Native.Nat.{ℕ, _+_, _≤_, min, max}
+use Prim.Native.Nat.{ℕ, _+_, min, max}
 use native.Mathlib.Omega.{arith}
 use lib.Dec.{leb}
-use Rattle.semiring.specs.Semiring.{Semiring, Below, product, Extended, finite, extend, extend-assoc, extend-comm, extend-one, Joining, least-semiring, +-joining, max-joining, tropical, bottleneck}
+use Rattle.semiring.specs.Semiring.{Semiring, Below, product, finite, extend, extend-assoc, extend-comm, extend-one, Joining, least-semiring, +-joining, max-joining, tropical, bottleneck}
 use Rattle.weights.specs.declared.Measure.{Measure}
 use Rattle.weights.specs.declared.Measure.the-variants.{Cost, Days}
 use Rattle.weights.specs.Figures.{capped}

@@ -1,11 +1,10 @@
 -- Sensitivity: what becomes of the labels where own figures change. The same parts are unmade. In cost each part within the ceiling keeps to the bounds that its two
 -- bills set, the sums over all lines of figure × count; for one line raised by d, it rises by at least d × its count in the new bill and at most d × its count
 -- in the old. In days it rises by 0 to d. The paper's demand 3. Assumes nothing.
-use mathlib.Core.Path.{_≡_, refl, sym, _∙_, ap, ap₂}
-use mathlib.Core.List.{List, [], _∷_, _++_}
+use mathlib.Core.Path.{_≡_, refl, _∙_, ap}
+use mathlib.Core.List.{List, [], _∷_}
 use Prim.Native.Nat.{ℕ, _+_, _*_, _≤_, max}
 use native.Mathlib.Omega.{arith}
-use lib.Dec.{leb}
 use Rattle.weights.specs.declared.Label.{Label}
 use Rattle.weights.specs.Figures.{ceiling, capped}
 use Rattle.weights.specs.Measures.{Algebra, cost, days, fold, weigh}

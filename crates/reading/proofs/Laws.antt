@@ -1,14 +1,14 @@
 -- The laws of the definitions of specs/ by which the loops go. Assumes nothing.
 use mathlib.Core.Path.{_≡_, refl, sym, _∙_, ap, ap₂, subst}
 use mathlib.Core.List.{List, [], _∷_, _++_}
-use mathlib.Core.Bool.{Bool, true, false}
+use mathlib.Core.Bool.{true, false}
 use Prim.Native.Nat.{ℕ, zero, suc, _+_, _-_, _≤_, _<_, min}
 use native.Mathlib.Numerals.{add-one}
-use native.Mathlib.Nat.{sub-zero, sub-eq-zero-of-le}
+use native.Mathlib.Nat.{sub-zero}
 use native.Mathlib.Omega.{arith}
-use lib.ListN.{length, getD, take, drop, set, drop-of-length-le, length-append, length-drop, length-set}
+use lib.ListN.{length, getD, drop, set, drop-of-length-le, length-append, length-set}
 use lib.Seq.{drop-cons}
-use borrow.Author.Tests.{lt-ltb, le-ltb, le-leb, lt-leb, eq-eqb, ne-eqb}
+use borrow.Author.Tests.{eq-eqb, ne-eqb}
 use Rattle.weights.specs.declared.Measure.{Measure}
 use Rattle.weights.specs.declared.Vertex.{Vertex}
 use Rattle.weights.specs.declared.Weight.{Weight}
@@ -26,9 +26,9 @@ use Rattle.reading.specs.declared.Line.{Line}
 use Rattle.reading.specs.declared.Line.the-variants as line
 use Rattle.reading.specs.declared.Tail.{Tail}
 use Rattle.reading.specs.declared.Tail.the-variants as tail
-use Rattle.reading.specs.Lines.{startsWith, onCount, firstLine, onOwn, onHead, stemAt, Listing, Ends, Breaks, listEnd, onVertex, listing, vertices, tailOf, ReadsTail, Row, Fails, onListing, onStem, rowAt, stored, lineOf, ReadsLine, scan, readingOf}
+use Rattle.reading.specs.Lines.{startsWith, onCount, firstLine, onOwn, onHead, stemAt, Listing, Ends, Breaks, listEnd, listing, vertices, tailOf, ReadsTail, Row, Fails, onListing, onStem, rowAt, stored, lineOf, ReadsLine, scan, readingOf}
 use Rattle.reading.specs.Scanned.{scan-is-parse}
-use Rattle.reading.specs.Scanning.{row-counts, Tells, tells, fails, Scanning, scan-end, scan-fails, scan-next}
+use Rattle.reading.specs.Scanning.{row-counts, tells, fails, Scanning, scan-end, scan-fails, scan-next}
 
 -- of a word and a text from place i on: a byte that is the same, one that is not, the text's end, the word's end
 module _ (w s : List ℕ) (i : ℕ) where

@@ -1,5 +1,4 @@
 // The validating pass over the text of a table: the first line, then one line for each hyperedge.
-use columns::LONGEST_TAIL;
 use columns::MOST_EDGES;
 use columns::MOST_LISTED;
 use columns::MOST_VERTICES;

@@ -1,7 +1,7 @@
 -- The laws by which the columns are filled: a correct text has the lines that are still to come, the columns have room for each, and the room that a line's
 -- vertices are lent does not change what is read. Assumes nothing.
 use mathlib.Core.Path.{_≡_, refl, sym, _∙_, ap, ap₂, subst}
-use mathlib.Core.List.{List, [], _∷_, _++_, append-assoc, append-nil}
+use mathlib.Core.List.{List, [], _∷_, _++_, append-nil}
 use mathlib.Core.Bool.{Bool, true, false}
 use Prim.Native.Nat.{ℕ, zero, suc, _+_, _*_, _-_, _≤_, _<_, min}
 use native.Mathlib.Omega.{arith}
@@ -33,8 +33,8 @@ use Rattle.reading.specs.declared.Line.{Line}
 use Rattle.reading.specs.declared.Line.the-variants as line
 use Rattle.reading.specs.Lines.{stemAt, Listing, Ends, Breaks, listEnd, onVertex, listing, Row, Holds, Fails, onListing, onStem, rowAt, stored, lineOf, ReadsLine, onRow, scanFrom, scan, headerOf, readingOf}
 use Rattle.reading.specs.Scanned.{scan-is-parse}
-use Rattle.reading.specs.Scanning.{row-counts, Tells, tells, fails, Scanning, scan-full, scan-end, scan-fails, scan-next, scan-next-edges}
-use Rattle.readtable.specs.Read.{ReadOutcome, readOutcome, roomFor, readInto, readTable, edgesIn, Ready, Fills}
+use Rattle.reading.specs.Scanning.{row-counts, tells, Scanning, scan-full, scan-end, scan-fails, scan-next, scan-next-edges}
+use Rattle.readtable.specs.Read.{readOutcome, roomFor, readInto, readTable, edgesIn, Ready, Fills}
 
 -- a test of a definition, from the fact that a branch gives: `search tests` at a return
 pub ruleset tests = (lt-ltb, le-ltb, le-leb, lt-leb, eq-eqb, ne-eqb)

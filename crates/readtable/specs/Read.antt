@@ -1,9 +1,9 @@
 -- What reading a text into lent columns returns, and what it leaves in them. The paper's "The text" ("Reading returns n, the measure and the counts, and writes
 -- that many places of each column; the rest keep theirs. Spans are written from offset 0 without gaps") and, of "What is turned away", 14, then 15.
 -- Assumes nothing: these are definitions.
-use Prim.Native.Nat.{ℕ, _+_, _*_, _≤_}
+use Prim.Native.Nat.{ℕ, _*_, _≤_}
 use mathlib.Core.Path.{_≡_}
-use mathlib.Core.Bool.{Bool, true, false}
+use mathlib.Core.Bool.{Bool, false}
 use mathlib.Core.List.{List, []}
 use lib.ListN.{length, take}
 use lib.Dec.{leb}

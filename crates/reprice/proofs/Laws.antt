@@ -1,12 +1,11 @@
 -- The laws by which the changes go. Assumes nothing.
-use mathlib.Core.Path.{_≡_, refl, sym, _∙_, ap}
+use mathlib.Core.Path.{_≡_, refl, _∙_, ap}
 use mathlib.Core.Bool.{Bool, true, false, not}
-use mathlib.Core.List.{List}
 use Prim.Native.Nat.{ℕ, _≤_, _<_}
 use native.Mathlib.Omega.{arith}
 use lib.ListN.{length, set}
 use lib.Dec.{ltb}
-use borrow.Author.Tests.{ltb-true, le-leb, lt-leb, not-true}
+use borrow.Author.Tests.{ltb-true, le-leb, lt-leb}
 use Rattle.weights.specs.declared.Measure.{Measure}
 use Rattle.weights.specs.Choice.{both-true}
 use Rattle.weights.specs.Figures.{greatest, struck, isStruck}

@@ -4,10 +4,10 @@
 use mathlib.Core.Path.{_≡_, refl, sym, _∙_, ap, subst, fun-ext}
 use mathlib.Core.Bool.{Bool, true, false, not}
 use mathlib.Core.Logic.{_≢_}
-use Prim.Native.Nat.{ℕ, _+_, _*_, _≤_, _<_}
+use Prim.Native.Nat.{ℕ, _+_, _≤_, _<_}
 use native.Mathlib.Omega.{arith}
 use native.Mathlib.Decide.{ℕ-discrete, decLe}
-use lib.ListN.{length, getD, set}
+use lib.ListN.{length, set}
 use lib.Seq.{getD-set-same, getD-set-other, set-set, set-getD}
 use lib.Dec.{eqb}
 use borrow.Author.Tests.{lt-ltb, le-leb, eqb-true, eqb-false, eq-eqb}
@@ -17,8 +17,8 @@ use Rattle.weights.specs.declared.State.{State}
 use Rattle.weights.specs.declared.State.the-variants as state
 use Rattle.weights.specs.declared.Label.{Label}
 use Rattle.weights.specs.Choice.{pick}
-use Rattle.weights.specs.Figures.{greatest, struck, ceiling, over, isStruck, isOver}
-use Rattle.weights.specs.Measures.{algebra, cost, days}
+use Rattle.weights.specs.Figures.{greatest, struck, over, isStruck, isOver}
+use Rattle.weights.specs.Measures.{algebra, cost}
 use Rattle.weights.specs.Labels.{entryOf}
 use Rattle.weights.specs.Laws.{lawful, cost-lawful, below-over}
 use Rattle.refusal.specs.declared.Answer.the-variants.{Accepted}
@@ -30,12 +30,12 @@ use Rattle.provenance.specs.Existence.{label-within}
 use Rattle.provenance.specs.Counting.{count, Raised}
 use Rattle.provenance.specs.Sensitivity.{same-made, Within, CostRise, cost-rise, DaysRise, days-rise}
 use Rattle.columns.specs.Columns.{Columns, ownAt, withOwn, hypergraph}
-use Rattle.columns.specs.Acceptance.{acceptance, lentAcceptance}
-use Rattle.columns.specs.Accepted.{table-accepted, columns-accepted, columns-accept}
-use Rattle.columns.specs.Same.{same, same-refl}
+use Rattle.columns.specs.Acceptance.{acceptance}
+use Rattle.columns.specs.Accepted.{table-accepted, columns-accept}
+use Rattle.columns.specs.Same.{same-refl}
 use Rattle.settle.specs.Settling.{answersOf, settled}
 use Rattle.settle.specs.Demands.{answers-fixpoint, answers-sized, settled-left, settled-result}
-use Rattle.reprice.specs.Repricing.{stands, lineAcceptance, repriceAcceptance, Change, changed, repriced}
+use Rattle.reprice.specs.Repricing.{lineAcceptance, repriceAcceptance, repriced}
 
 -- the labels of a table, and the state of part v
 abbrev pub labelsOf : Measure → Columns → ℕ → Label

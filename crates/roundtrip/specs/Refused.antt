@@ -1,13 +1,12 @@
 -- A permitted text is read; what is not permitted is refused by 14, at the first text line that breaks a rule. The paper's "What is turned away", of what the
 -- contract of `read_table` says. Assumes nothing.
 use Prim.Native.Nat.{ℕ}
-use mathlib.Core.Path.{_≡_, refl, sym, _∙_, ap}
+use mathlib.Core.Path.{_≡_}
 use mathlib.Core.List.{List}
 use Rattle.refusal.specs.declared.Refusal.the-variants.{Text}
 use Rattle.refusal.specs.declared.Reading.the-variants as reading
 use Rattle.text.specs.Tables.{tableOf, closed}
 use Rattle.text.specs.Render.{Permitted}
-use Rattle.text.specs.Machine.{Wrong, parse}
 use Rattle.text.specs.Permitted.{permitted-read, FirstWrong, unpermitted-wrong}
 use Rattle.readtable.specs.Read.{ReadOutcome, readOutcome, readInto, readTable}
 use Rattle.roundtrip.specs.RoundTrip.{Room, filledWith, read-table}

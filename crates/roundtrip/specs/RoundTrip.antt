@@ -1,8 +1,8 @@
 -- "Read after write gives the table with its gaps closed; write after read gives the text back": the paper's "The text", of what the contracts of
 -- `read_table` and `write_table` say. Assumes nothing.
-use Prim.Native.Nat.{ℕ, _+_, _*_, _≤_}
+use Prim.Native.Nat.{ℕ, _*_, _≤_}
 use mathlib.Core.Path.{_≡_, refl, sym, _∙_, ap, ap₂}
-use mathlib.Core.List.{List, [], _++_}
+use mathlib.Core.List.{List}
 use mathlib.Core.Bool.{Bool, true, false}
 use native.Mathlib.Omega.{arith}
 use lib.ListN.{length, take}
@@ -16,20 +16,19 @@ use Rattle.refusal.specs.declared.Header.{Header}
 use Rattle.refusal.specs.declared.Reading.the-variants as reading
 use Rattle.refusal.specs.declared.Answer.{Answer}
 use Rattle.refusal.specs.declared.Answer.the-variants.{Accepted, Refused}
-use Rattle.refusal.specs.declared.Extent.{Extent}
 use Rattle.refusal.specs.declared.Extent.the-variants as extent
 use Rattle.columns.specs.Columns.{Columns, columns}
 use Rattle.columns.specs.Acceptance.{acceptance}
-use Rattle.text.specs.Tables.{Edge, Table, edgesOf, tableOf, total, headsOf, ownsOf, spansFrom, tailsOf, columnsOf, closed}
+use Rattle.text.specs.Tables.{Edge, Table, tableOf, total, headsOf, ownsOf, spansFrom, tailsOf, columnsOf, closed}
 use Rattle.text.specs.Render.{tableText, render}
 use Rattle.text.specs.Machine.{Parse, Whole, Wrong, parse}
-use Rattle.text.specs.Rows.{Fits, edges-of-columns, accepted-fits, fits-accepted, length-heads, length-owns, length-spans, length-tails}
+use Rattle.text.specs.Rows.{edges-of-columns, accepted-fits, fits-accepted, length-heads, length-owns, length-spans, length-tails}
 use Rattle.text.specs.Sound.{sound}
 use Rattle.text.specs.Complete.{complete}
 use Rattle.columns.specs.Filled.{filled, take-filled}
 use Rattle.reading.specs.Lines.{headerOf}
 use Rattle.readtable.specs.Read.{ReadOutcome, readOutcome, columnsRead, roomFor, readInto, readTable}
-use Rattle.writetable.specs.Write.{WriteOutcome, writeOutcome, writeText, writeAs, writeTable}
+use Rattle.writetable.specs.Write.{writeOutcome, writeText, writeAs, writeTable}
 
 -- four columns have room for those of a table
 pub record Room (c : Columns) (h o s t : List ℕ) : Type 0 where

@@ -1,24 +1,23 @@
 -- Every table within the limits is read back from its text. Assumes nothing.
-use Prim.Native.Nat.{ℕ, zero, suc, _+_, _*_, _≤_, _<_}
-use mathlib.Core.Path.{_≡_, refl, sym, _∙_, ap, ap₂, subst}
+use Prim.Native.Nat.{ℕ, suc, _+_, _*_, _≤_, _<_}
+use mathlib.Core.Path.{_≡_, refl, sym, _∙_, ap}
 use mathlib.Core.List.{List, [], _∷_, _++_, append-assoc, append-nil}
 use mathlib.Core.Bool.{Bool, true, false}
 use native.Mathlib.Omega.{arith}
 use lib.ListN.{length, length-append}
 use lib.Seq.{append-snoc}
-use lib.Dec.{ltb, eqb}
 use borrow.Author.Tests.{lt-ltb, eqb-true, eqb-false, eq-eqb}
 use Rattle.weights.specs.declared.Measure.{Measure}
 use Rattle.weights.specs.declared.Measure.the-variants.{Cost, Days}
 use Rattle.weights.specs.Figures.{struck, isStruck}
 use Rattle.weights.specs.Choice.{pick}
-use Rattle.columns.specs.Acceptance.{mostVertices, mostEdges, mostListed, longestTail, allBelow}
+use Rattle.columns.specs.Acceptance.{mostVertices, mostEdges, mostListed, allBelow}
 use Rattle.columns.specs.Accepted.{below-at}
 use Rattle.text.specs.Tables.{Edge, edge, Table, total}
-use Rattle.text.specs.Render.{digits, default, spoken, word, opening, measureText, header, ownText, tailText, edgeText, edgesText, tableText}
+use Rattle.text.specs.Render.{digits, word, opening, measureText, header, ownText, tailText, edgeText, edgesText, tableText}
 use Rattle.text.specs.Machine.{Place, Vertices, Head, Own, Listed, State, Spelling, First, Within, Failed, begun, withEdge, mayList, limit, digitOf, grown, instead, after, spell, ended, step, run, Whole, finish, begin, parse}
 use Rattle.text.specs.Digits.{digits-one, digits-more, byte-digit, by-digits}
-use Rattle.text.specs.Rows.{EdgeFits, All, none, one, Fits, total-append}
+use Rattle.text.specs.Rows.{EdgeFits, All, one, Fits, total-append}
 
 -- reading what is joined is reading twice
 pub run-append : (σ : State) (a b : List ℕ) → run σ (a ++ b) ≡ run (run σ a) b

@@ -4,7 +4,7 @@ use mathlib.Core.List.{List, [], _∷_}
 use Prim.Native.Nat.{ℕ}
 use Rattle.weights.specs.declared.Measure.the-variants.{Cost, Days}
 use Rattle.columns.specs.Columns.{Columns, columns}
-use Rattle.text.specs.Tables.{edge, Table, edgesFrom, tableOf, closed, total, headsOf, ownsOf, spansFrom, tailsOf}
+use Rattle.text.specs.Tables.{edge, edgesFrom, tableOf, closed, total, headsOf, ownsOf, spansFrom, tailsOf}
 use Rattle.text.specs.Render.{digitsOn, digits, word, opening, measureText, header, ownText, tailText, edgeText, edgesText, tableText, render}
 use Rattle.text.specs.Machine.{limit, lineAt, digitOf, grown, instead, after, spell, ended, step, run, Whole, Wrong, finish, parse}
 

@@ -1,7 +1,7 @@
 -- Reading, byte by byte from left to right and never ahead: a state for what was read, a step for each byte. Every limit is tested as early as it can
 -- fail, so a state that has not failed can still become a permitted text (Prefixes). The paper's "The text", and 14 of "What is turned away".
 -- Assumes nothing: these are definitions.
-use Prim.Native.Nat.{ℕ, suc, _+_, _*_, _-_, min}
+use Prim.Native.Nat.{ℕ, _+_, _*_, _-_, min}
 use mathlib.Core.List.{List, [], _∷_, _++_}
 use lib.ListN.{length}
 use lib.Dec.{ltb, eqb}

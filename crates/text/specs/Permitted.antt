@@ -1,7 +1,7 @@
 -- A permitted text is read, and what is not permitted is refused at the first line that breaks a rule. The paper's "The text", and 14 of "What is turned
 -- away". Assumes nothing.
 use Prim.Native.Nat.{ℕ, _<_}
-use mathlib.Core.Path.{_≡_, refl, sym, _∙_, ap, subst}
+use mathlib.Core.Path.{_≡_, refl, sym, _∙_, ap}
 use mathlib.Core.List.{List}
 use Rattle.text.specs.Tables.{Edge, Table, tableOf, columnsOf}
 use Rattle.text.specs.Render.{tableText, Permitted}

@@ -1,6 +1,6 @@
 -- The place of refusal 14: the first line with which the lines so far are not the text of a table. The paper's "14 at the first text line that breaks a
 -- rule (…; bytes after the last LF are one more line, which breaks the form)". Assumes nothing.
-use Prim.Native.Nat.{ℕ, zero, suc, _+_, _*_, _-_, _≤_, _<_}
+use Prim.Native.Nat.{ℕ, zero, suc, _+_, _*_, _-_, _<_}
 use mathlib.Core.Path.{_≡_, refl, sym, _∙_, ap, ap₂, subst}
 use mathlib.Core.List.{List, [], _∷_, _++_}
 use mathlib.Core.Bool.{Bool, true, false}
@@ -11,8 +11,8 @@ use lib.Dec.{ltb, eqb}
 use borrow.Author.Tests.{ltb-true, eqb-true, eq-eqb, ne-eqb}
 use Rattle.weights.specs.Choice.{pick}
 use Rattle.text.specs.Tables.{edge, Table}
-use Rattle.text.specs.Render.{default, spoken, word}
-use Rattle.text.specs.Machine.{Place, Vertices, Head, Own, Listed, State, Spelling, First, Within, Failed, begun, nextLine, mayList, limit, lineAt, digitOf, grown, instead, after, spell, ended, step, run, Parse, Whole, Wrong, finish, begin, parse}
+use Rattle.text.specs.Render.{spoken, word}
+use Rattle.text.specs.Machine.{Place, Vertices, Head, Own, Listed, State, Spelling, First, Within, Failed, begun, nextLine, mayList, lineAt, digitOf, grown, instead, after, spell, ended, step, run, Whole, Wrong, finish, begin, parse}
 use Rattle.text.specs.Digits.{pick-by}
 use Rattle.text.specs.Sound.{LastOf, Spells, Reached, begin-reached, word-spells, step-reached, never}
 

@@ -1,22 +1,21 @@
 -- A table's columns and its hyperedges tell the same: columns without gaps give back the hyperedges that they are made of, a table is accepted exactly if
 -- its hyperedges are within the limits, and closing the gaps changes neither. Assumes nothing.
 use Prim.Native.Nat.{ℕ, zero, suc, _+_, _*_, _-_, _≤_, _<_}
-use mathlib.Core.Path.{_≡_, refl, sym, _∙_, ap, ap₂, subst}
-use mathlib.Core.List.{List, [], _∷_, _++_, append-assoc, append-nil}
+use mathlib.Core.Path.{_≡_, refl, sym, _∙_, ap, ap₂}
+use mathlib.Core.List.{List, [], _∷_, _++_, append-assoc}
 use mathlib.Core.Bool.{true}
-use native.Mathlib.Nat.{add-assoc, add-comm}
-use native.Mathlib.Numerals.{add-one}
+use native.Mathlib.Nat.{add-assoc}
 use native.Mathlib.Omega.{arith}
-use lib.ListN.{length, getD, take, drop, length-append, length-take, length-drop}
+use lib.ListN.{length, getD, take, drop, length-append, length-take}
 use lib.Seq.{append-snoc, getD-at, take-at, drop-at}
 use borrow.Author.Tests.{lt-ltb, le-leb, eq-eqb}
 use Rattle.weights.specs.Figures.{struck}
 use Rattle.weights.specs.declared.Measure.{Measure}
 use Rattle.refusal.specs.declared.Answer.{Answer}
 use Rattle.refusal.specs.declared.Answer.the-variants.{Accepted}
-use Rattle.columns.specs.Columns.{Columns, columns, headAt, ownAt, offsetAt, lengthAt, part, tailAt}
+use Rattle.columns.specs.Columns.{Columns, headAt, ownAt, offsetAt, lengthAt, part, tailAt}
 use Rattle.columns.specs.Acceptance.{mostVertices, mostEdges, mostListed, longestTail, andThen, allBelow, edgeAcceptance, edgeAt, edgesAcceptance, acceptance}
-use Rattle.columns.specs.Accepted.{AcceptedTable, AcceptedEdge, both-accepted, edge-accepted, table-accepted, below-at}
+use Rattle.columns.specs.Accepted.{both-accepted, edge-accepted, table-accepted, below-at}
 use Rattle.text.specs.Tables.{Edge, edge, Table, edgesFrom, edgesOf, tableOf, total, headsOf, ownsOf, spansFrom, tailsOf, columnsOf, closed}
 
 -- Within the limits ------------------------------------------------------------------------------------------------------------------------

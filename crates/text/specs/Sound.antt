@@ -1,9 +1,9 @@
 -- What was read is what the state shows, so a text that is read to its end is the text of the table that it gives, and that table is within the limits.
 -- Assumes nothing.
-use Prim.Native.Nat.{ℕ, zero, suc, _+_, _*_, _≤_, _<_}
+use Prim.Native.Nat.{ℕ, _+_, _*_, _≤_, _<_}
 use mathlib.Core.Path.{_≡_, refl, sym, _∙_, ap, ap₂, subst}
 use mathlib.Core.List.{List, [], _∷_, _++_, append-assoc, append-nil}
-use mathlib.Core.Bool.{Bool, true, false}
+use mathlib.Core.Bool.{true}
 use native.Mathlib.Omega.{arith}
 use lib.ListN.{length, length-append}
 use lib.Seq.{append-snoc}
@@ -11,13 +11,12 @@ use lib.Dec.{ltb, eqb}
 use borrow.Author.Tests.{ltb-true, eqb-true, ne-eqb}
 use Rattle.weights.specs.declared.Measure.{Measure}
 use Rattle.weights.specs.Figures.{struck}
-use Rattle.weights.specs.Choice.{pick}
 use Rattle.columns.specs.Acceptance.{mostVertices, mostEdges, mostListed, allBelow}
 use Rattle.text.specs.Tables.{Edge, edge, Table, total}
 use Rattle.text.specs.Render.{digits, default, spoken, word, opening, measureText, header, ownText, tailText, edgeText, edgesText, tableText}
-use Rattle.text.specs.Machine.{Place, Vertices, Head, Own, Listed, State, Spelling, First, Within, Failed, begun, withEdge, nextLine, mayList, limit, lineAt, digitOf, grown, instead, after, spell, ended, step, run, Parse, Whole, Wrong, finish, begin, parse}
+use Rattle.text.specs.Machine.{Place, Vertices, Head, Own, Listed, State, Spelling, First, Within, Failed, begun, withEdge, nextLine, mayList, limit, digitOf, grown, instead, after, spell, ended, step, run, Whole, Wrong, finish, begin, parse}
 use Rattle.text.specs.Digits.{pick-by, digits-one, digits-more, digit-byte}
-use Rattle.text.specs.Rows.{EdgeFits, All, none, one, Fits, all-snoc, below-snoc, total-snoc}
+use Rattle.text.specs.Rows.{EdgeFits, none, Fits, all-snoc, below-snoc, total-snoc}
 
 -- Texts of one more ----------------------------------------------------------------------------------------------------------------------
 

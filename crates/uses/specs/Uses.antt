@@ -1,6 +1,5 @@
 -- The index of uses: for each vertex the hyperedges that list it, ascending and each once, struck ones too, in one list; and a column of pairs that says where the
 -- uses of a vertex stand there: the offset, then the length. Assumes nothing: these are definitions.
-use mathlib.Core.Path.{_≡_}
 use mathlib.Core.Bool.{Bool, true, false}
 use mathlib.Core.List.{List, [], _∷_, _++_}
 use Prim.Native.Nat.{ℕ, zero, suc, _/_}

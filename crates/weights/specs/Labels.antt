@@ -3,8 +3,6 @@
 use mathlib.Core.Bool.{Bool, true, false}
 use Prim.Native.Nat.{ℕ}
 use lib.Dec.{leb, ltb, eqb}
-use Rattle.weights.specs.declared.Weight.{Weight}
-use Rattle.weights.specs.declared.Hyperedge.{Hyperedge}
 use Rattle.weights.specs.declared.Label.{Label}
 use Rattle.weights.specs.declared.State.{State}
 use Rattle.weights.specs.declared.State.the-variants.{Made, Over, Unmade}

@@ -2,15 +2,14 @@
 -- They are one record, and each measure is an instance of it: whatever stands on the record holds of every measure. Assumes nothing.
 use mathlib.Core.Path.{_≡_, refl}
 use mathlib.Core.Bool.{Bool, true, false}
-use mathlib.Core.List.{List, [], _∷_, List·Memᴰ, List·Memᴰ·head, List·Memᴰ·tail}
-use Prim.Native.Nat.{ℕ, _+_, _≤_, max}
+use Prim.Native.Nat.{ℕ, _≤_}
 use native.Mathlib.Omega.{arith}
 use lib.Dec.{leb}
 use borrow.Author.Tests.{leb-true, leb-false, le-leb}
 use Rattle.weights.specs.declared.Measure.{Measure}
 use Rattle.weights.specs.declared.Measure.the-variants.{Cost, Days}
 use Rattle.weights.specs.Figures.{over}
-use Rattle.weights.specs.Measures.{Algebra, cost, days, algebra, fold, weigh}
+use Rattle.weights.specs.Measures.{Algebra, cost, days, algebra}
 
 -- a is no worse than b, by the order's test
 pub record NoWorse (leq : ℕ → ℕ → Bool) (a b : ℕ) : Type 0 where

@@ -1,7 +1,6 @@
 -- The measures: how the weights of a derivation are joined, and which of two is the better. The paper's "Make-ups, figures, depth" (Cost, Days).
 -- Assumes nothing: these are definitions.
 use Prim.Native.Nat.{ℕ, _+_, max}
-use mathlib.Core.Path.{_≡_}
 use mathlib.Core.Bool.{Bool, true}
 use mathlib.Core.List.{List, [], _∷_}
 use lib.Dec.{leb}

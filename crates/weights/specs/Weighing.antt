@@ -1,6 +1,6 @@
 -- What the laws of a measure give for the weight of a hyperedge, `weigh`: it is monotone in the own weight and in each weight of the tail, stays in range,
 -- and is no better than any of the weights of the tail. Assumes nothing.
-use mathlib.Core.Path.{_≡_, refl}
+use mathlib.Core.Path.{_≡_}
 use mathlib.Core.List.{List, [], _∷_, List·Memᴰ, List·Memᴰ·head, List·Memᴰ·tail}
 use Prim.Native.Nat.{ℕ}
 use Rattle.weights.specs.Measures.{Algebra, fold, weigh}

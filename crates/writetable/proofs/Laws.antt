@@ -1,11 +1,11 @@
 -- The laws by which a table is measured and written, hyperedge by hyperedge. Assumes nothing.
 use mathlib.Core.Path.{_≡_, refl, sym, _∙_, ap, ap₂, subst}
 use mathlib.Core.List.{List, [], _∷_, _++_, append-assoc, append-nil}
-use mathlib.Core.Bool.{true, false}
-use Prim.Native.Nat.{ℕ, zero, suc, _+_, _*_, _-_, _≤_, _<_}
+use mathlib.Core.Bool.{true}
+use Prim.Native.Nat.{ℕ, suc, _+_, _*_, _-_, _≤_, _<_}
 use native.Mathlib.Nat.{sub-zero, sub-eq-zero-of-le}
 use native.Mathlib.Omega.{arith}
-use lib.ListN.{length, getD, take, drop, length-append, length-take}
+use lib.ListN.{length, take, drop, length-append, length-take}
 use borrow.Author.Tests.{lt-ltb, le-leb, lt-leb}
 use Rattle.weights.specs.declared.Measure.{Measure}
 use Rattle.refusal.specs.declared.Refusal.the-variants.{TextRoom}
@@ -13,16 +13,15 @@ use Rattle.refusal.specs.declared.Refusal.{Refusal}
 use Rattle.refusal.specs.declared.Answer.{Answer}
 use Rattle.refusal.specs.declared.Answer.the-variants.{Accepted, Refused}
 use Rattle.refusal.specs.declared.Extent.the-variants as extent
-use Rattle.columns.specs.Columns.{Columns, headAt, ownAt, offsetAt, lengthAt, part, tailAt}
+use Rattle.columns.specs.Columns.{Columns, headAt, ownAt, offsetAt, lengthAt, tailAt}
 use Rattle.columns.specs.Acceptance.{mostVertices, mostEdges, mostListed, allBelow, acceptance}
-use Rattle.columns.specs.Accepted.{AcceptedTable, AcceptedEdge, AcceptedAt, table-accepted, below-at}
-use Rattle.text.specs.Tables.{Edge, edge, Table, edgesFrom, edgesOf}
+use Rattle.columns.specs.Accepted.{table-accepted, below-at}
+use Rattle.text.specs.Tables.{edge, edgesFrom, edgesOf}
 use Rattle.text.specs.Render.{header, edgeText, edgesText, tableText, render}
 use Rattle.text.specs.Rows.{EdgeFits}
-use Rattle.columns.specs.Filled.{filled}
-use Rattle.writing.specs.Written.{Written, lent, lent-room, within, written-part, written-as}
+use Rattle.writing.specs.Written.{Written, lent-room, within, written-part, written-as}
 use Rattle.writing.specs.Widths.{line-most}
-use Rattle.writetable.specs.Write.{WriteOutcome, writeOutcome, writeText, writeAs, writeTable, Writable}
+use Rattle.writetable.specs.Write.{writeOutcome, writeText, writeAs, writeTable}
 
 -- A hyperedge of an accepted table ----------------------------------------------------------------------------------------------------------
 

@@ -11,7 +11,6 @@ use writing::header_width;
 use writing::put_edge;
 use writing::put_header;
 ghost use mathlib.Core.Path.{_≡_};
-ghost use Prim.Native.Nat.{_≤_};
 ghost use lib.ListN.{length};
 ghost use Rattle.refusal.specs.declared.Answer.the-variants.{Accepted};
 ghost use Rattle.columns.specs.Columns.{columns};

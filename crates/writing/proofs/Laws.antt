@@ -1,25 +1,17 @@
 -- The laws by which digits are counted and written, and a list is measured. Assumes nothing.
-use mathlib.Core.Path.{_≡_, refl, sym, _∙_, ap, ap₂, subst}
+use mathlib.Core.Path.{_≡_, refl, sym, _∙_, ap}
 use mathlib.Core.List.{List, [], _∷_, _++_, append-assoc, append-nil}
-use mathlib.Core.Bool.{true, false}
-use Prim.Native.Nat.{ℕ, zero, suc, _+_, _*_, _-_, _/_, _%_, _≤_, _<_}
+use Prim.Native.Nat.{ℕ, suc, _+_, _-_, _/_, _%_, _≤_, _<_}
 use native.Mathlib.Numerals.{add-one}
 use native.Mathlib.Omega.{arith}
-use lib.ListN.{length, getD, take, drop, set, length-append, length-take, length-set, take-append-drop, drop-of-length-le}
-use lib.Seq.{take-suc, set-at, append-snoc, length-take-le, drop-cons, take-all}
-use Rattle.weights.specs.declared.Measure.{Measure}
-use Rattle.weights.specs.declared.Measure.the-variants.{Cost, Days}
-use Rattle.weights.specs.Figures.{struck, isStruck}
-use Rattle.columns.specs.Acceptance.{mostVertices, allBelow}
-use Rattle.columns.specs.Accepted.{below-at}
-use Rattle.text.specs.Tables.{Edge}
-use Rattle.text.specs.Render.{digits, word, measureText, ownText, tailText, edgeText}
-use Rattle.text.specs.Digits.{pick-by, digits-one, digits-more, by-digits}
-use Rattle.text.specs.Rows.{EdgeFits}
-use Rattle.text.specs.Sound.{tail-text-append, tail-text-snoc}
+use lib.ListN.{length, getD, take, drop, set, length-append, length-set, take-append-drop}
+use lib.Seq.{take-suc, set-at, length-take-le, take-all}
+use Rattle.text.specs.Render.{digits, tailText}
+use Rattle.text.specs.Digits.{digits-one}
+use Rattle.text.specs.Sound.{tail-text-append}
 use Rattle.columns.specs.Filled.{filled}
 use Rattle.writing.specs.Widths.{last-digit, width-more, width-one, one-listed}
-use Rattle.writing.specs.Written.{Written, written-byte, lent, lent-room, within, written-part, written-as, TailFits}
+use Rattle.writing.specs.Written.{Written, written-byte, lent, lent-room, within, written-part, written-as}
 
 -- Numbers ------------------------------------------------------------------------------------------------------------------------------------
 

@@ -43,7 +43,9 @@ shared-slice-read-count : tie.Need-shared-slice-read-count Inv-loop μ-loop
 shared-slice-read-count c = omega (arith, c .before .before .before .before .before .before .before .before .before .before .before .before .pre .1 .placed)
 
 loop-holds : tie.Need-loop-holds Inv-loop μ-loop
-loop-holds c = let a = c .before .before .before .before .before .before .before .before .before .before .before .before .args in (omega arith, (c .before .before .before .before .before .before .before .before .before .before .before .before .pre .0 .sized, (offering-none (algebra (a .measure)) (hypergraph (lent (a .heads .now) (a .own .now) (a .spans .now) (a .tails .now) (a .depths .now))) (cell (a .own .now)) (cell (a .weights .now)) (cell (a .depths .now)) (a .queue .now) (useAt (a .list .now) (cell (a .index .now) (2 * a .v))), lessened-none (a .missing .now) (useAt (a .list .now) (cell (a .index .now) (2 * a .v))))))
+loop-holds c =
+    let p = c .before .before .before .before .before .before .before .before .before .before .before .before in
+    let a = p .args in (omega arith, (p .pre .0 .sized, (offering-none (algebra (a .measure)) (hypergraph (lent (a .heads .now) (a .own .now) (a .spans .now) (a .tails .now) (a .depths .now))) (cell (a .own .now)) (cell (a .weights .now)) (cell (a .depths .now)) (a .queue .now) (useAt (a .list .now) (cell (a .index .now) (2 * a .v))), lessened-none (a .missing .now) (useAt (a .list .now) (cell (a .index .now) (2 * a .v))))))
 
 add-number : tie.Need-add-number Inv-loop μ-loop
 add-number c = omega (arith, c .before .before .before .before .before .before .before .before .before .before .before .before .before .before .pre .1 .inside, c .loop-test .taken)
@@ -55,7 +57,10 @@ shared-slice-read-number : tie.Need-shared-slice-read-number Inv-loop μ-loop
 shared-slice-read-number c = omega (arith, c .before .before .before .before .before .before .before .before .before .before .before .before .before .before .before .pre .1 .inside, c .before .loop-test .taken)
 
 arrive-requires : tie.Need-arrive-requires Inv-loop μ-loop
-arrive-requires c κs = (record { usable = c .before .before .before .before .before .before .before .before .before .before .before .before .before .before .before .before .before .pre .0 .usable; fitted = c .before .before .before .before .before .before .before .before .before .before .before .before .before .before .before .before .before .pre .0 .fitted; sized = c .before .before .before .before .loop .inv .1 .0 }, due-still (c .before .before .before .before .before .before .before .before .before .before .before .before .before .before .before .before .before .pre .1) (c .before .before .before .before .loop .i) (c .before .before .before .loop-test .taken) (c .before .before .before .before .loop .inv .1 .1 .1))
+arrive-requires c κs =
+    let p = c .before .before .before .before in
+    let q = p .before .before .before .before .before .before .before .before .before .before .before .before .before in
+    (record { usable = q .pre .0 .usable; fitted = q .pre .0 .fitted; sized = p .loop .inv .1 .0 }, due-still (q .pre .1) (p .loop .i) (c .before .before .before .loop-test .taken) (p .loop .inv .1 .1 .1))
 
 add-i : tie.Need-add-i Inv-loop μ-loop
 add-i c = omega (arith, c .before .before .before .before .before .before .before .before .loop-test .taken)
@@ -64,7 +69,12 @@ loop-less : tie.Need-loop-less Inv-loop μ-loop
 loop-less c = omega (arith, c .before .before .before .before .before .before .before .before .loop-test .taken)
 
 loop-again : tie.Need-loop-again Inv-loop μ-loop
-loop-again c = let a = c .before .before .before .before .before .before .before .before .before .before .before .before .before .before .before .before .before .before .before .before .before .before .args in (omega (arith, c .before .before .before .before .before .before .before .before .loop-test .taken), (ap length (c .before .before .before .before .arrive .ensures .1) ∙ offered-length (c .before .before .before .before .before .before .before .before .before .loop .queue) (cell (a .heads .now) (useAt (a .list .now) (cell (a .index .now) (2 * a .v)) (c .before .before .before .before .before .before .before .before .before .loop .i))) (opening (algebra (a .measure)) (hypergraph (lent (a .heads .now) (a .own .now) (a .spans .now) (a .tails .now) (a .depths .now))) (cell (a .own .now)) (cell (a .weights .now)) (cell (a .depths .now)) (useAt (a .list .now) (cell (a .index .now) (2 * a .v)) (c .before .before .before .before .before .before .before .before .before .loop .i))) (head-key (c .before .before .before .before .before .before .before .before .before .before .before .before .before .before .before .before .before .before .before .before .before .before .pre .0) (useAt (a .list .now) (cell (a .index .now) (2 * a .v)) (c .before .before .before .before .before .before .before .before .before .loop .i)) (c .before .before .before .before .before .before .before .before .before .before .before .before .before .before .before .before .before .before .before .before .before .before .pre .1 .due (c .before .before .before .before .before .before .before .before .before .loop .i) (c .before .before .before .before .before .before .before .before .loop-test .taken) .numbered)) ∙ c .before .before .before .before .before .before .before .before .before .loop .inv .1 .0, (offering-more (algebra (a .measure)) (hypergraph (lent (a .heads .now) (a .own .now) (a .spans .now) (a .tails .now) (a .depths .now))) (cell (a .own .now)) (cell (a .weights .now)) (cell (a .depths .now)) (a .queue .now) (useAt (a .list .now) (cell (a .index .now) (2 * a .v))) (c .before .before .before .before .before .before .before .before .before .loop .i) (c .before .before .before .before .before .before .before .before .before .loop .inv .1 .1 .0) (c .before .before .before .before .arrive .ensures .1), lessened-more (a .missing .now) (useAt (a .list .now) (cell (a .index .now) (2 * a .v))) (c .before .before .before .before .before .before .before .before .before .loop .i) (c .before .before .before .before .before .before .before .before .before .loop .inv .1 .1 .1) (c .before .before .before .before .arrive .ensures .0))))
+loop-again c =
+    let p = c .before .before .before .before in
+    let q = p .before .before .before .before in
+    let r = q .before in
+    let s = r .before .before .before .before .before .before .before .before .before .before .before .before .before in
+    let a = s .args in (omega (arith, q .loop-test .taken), (ap length (p .arrive .ensures .1) ∙ offered-length (r .loop .queue) (cell (a .heads .now) (useAt (a .list .now) (cell (a .index .now) (2 * a .v)) (r .loop .i))) (opening (algebra (a .measure)) (hypergraph (lent (a .heads .now) (a .own .now) (a .spans .now) (a .tails .now) (a .depths .now))) (cell (a .own .now)) (cell (a .weights .now)) (cell (a .depths .now)) (useAt (a .list .now) (cell (a .index .now) (2 * a .v)) (r .loop .i))) (head-key (s .pre .0) (useAt (a .list .now) (cell (a .index .now) (2 * a .v)) (r .loop .i)) (s .pre .1 .due (r .loop .i) (q .loop-test .taken) .numbered)) ∙ r .loop .inv .1 .0, (offering-more (algebra (a .measure)) (hypergraph (lent (a .heads .now) (a .own .now) (a .spans .now) (a .tails .now) (a .depths .now))) (cell (a .own .now)) (cell (a .weights .now)) (cell (a .depths .now)) (a .queue .now) (useAt (a .list .now) (cell (a .index .now) (2 * a .v))) (r .loop .i) (r .loop .inv .1 .1 .0) (p .arrive .ensures .1), lessened-more (a .missing .now) (useAt (a .list .now) (cell (a .index .now) (2 * a .v))) (r .loop .i) (r .loop .inv .1 .1 .1) (p .arrive .ensures .0))))
 
 same-length : tie.Need-same-length Inv-loop μ-loop
 same-length c = ap length (c .before .loop .inv .1 .1 .1) ∙ lessened-length (c .before .before .before .before .before .before .before .before .before .before .before .before .before .before .args .missing .now) _ _

@@ -13,79 +13,76 @@ use Rattle.bestfirst.proofs.Start.{prefix, few, indexable, use-index, l
 two : (c : tie.Start) → length (take (2 * length (c .args .depths .now)) (c .args .index .now)) ≡ 2 * length (c .args .depths .now)
 two c = prefix (c .args .index .now) (length (c .args .depths .now)) (few (c .pre .0)) (c .pre .1 .pairs)
 
-mul-places : tie.Need-mul-places
-mul-places c = search needs
-
 slice-relend-prefix-used : tie.Need-slice-relend-prefix-used
-slice-relend-prefix-used c = omega (arith, few (c .before .before .before .before .before .before .before .before .before .before .before .pre .0), c .before .before .before .before .before .before .before .before .before .before .before .pre .1 .pairs)
+slice-relend-prefix-used c =
+    let p = c .before .before .before .before .before .before .before .before .before .before .before in
+    omega (arith, few (p .pre .0), p .pre .1 .pairs)
 
 slice-aggregate-used : tie.Need-slice-aggregate-used
 slice-aggregate-used c = sym (two (c .before .before .before .before .before .before .before .before .before .before .before .before))
 
 index-uses-requires : tie.Need-index-uses-requires
-index-uses-requires c κs = indexable (c .before .before .before .before .before .before .before .before .before .before .before .before .before .before .pre .0) (take (2 * length (c .before .before .before .before .before .before .before .before .before .before .before .before .before .before .args .depths .now)) (c .before .before .before .before .before .before .before .before .before .before .before .before .before .before .args .index .now)) (c .before .before .before .before .before .before .before .before .before .before .before .before .before .before .args .list .now) (two (c .before .before .before .before .before .before .before .before .before .before .before .before .before .before)) (c .before .before .before .before .before .before .before .before .before .before .before .before .before .before .pre .1 .uses)
-
-set-all-requires : tie.Need-set-all-requires
-set-all-requires c κs = search needs
+index-uses-requires c κs =
+    let p = c .before .before .before .before .before .before .before .before .before .before .before .before .before .before in
+    indexable (p .pre .0) (take (2 * length (p .args .depths .now)) (p .args .index .now)) (p .args .list .now) (two (p)) (p .pre .1 .uses)
 
 count-missing-requires : tie.Need-count-missing-requires
-count-missing-requires c κs = countable (c .before .before .before .before .before .before .before .before .before .before .before .before .before .before .before .before .before .before .before .before .before .before .before .before .before .pre .0) (take (2 * length (c .before .before .before .before .before .before .before .before .before .before .before .before .before .before .before .before .before .before .before .before .before .before .before .before .before .args .depths .now)) (c .before .before .before .before .before .before .before .before .before .before .before .before .before .before .before .before .before .before .before .before .before .before .before .before .before .args .index .now)) (c .before .before .before .before .before .before .before .before .before .before .before .before .before .before .before .before .before .before .before .before .before .before .before .before .before .args .list .now) (c .before .before .before .before .before .before .before .before .before .before .before .before .before .before .before .before .before .before .before .before .before .before .before .before .before .args .missing .now) (two (c .before .before .before .before .before .before .before .before .before .before .before .before .before .before .before .before .before .before .before .before .before .before .before .before .before)) (c .before .before .before .before .before .before .before .before .before .before .before .before .before .before .before .before .before .before .before .before .before .before .before .before .before .pre .1 .uses) (c .before .before .before .before .before .before .before .before .before .before .before .before .before .before .before .before .before .before .before .before .before .before .before .before .before .pre .1 .edges) (parts-of (c .before .before .before .before .before .before .before .before .before .before .index-uses .ensures)) (c .before .before .before .before .set-all .ensures)
-
-set-all-requires-2 : tie.Need-set-all-requires-2
-set-all-requires-2 c κs = search needs
+count-missing-requires c κs =
+    let p = c .before .before .before .before in
+    let q = p .before .before .before .before .before .before in
+    let r = q .before .before .before .before .before .before .before .before .before .before .before .before .before .before .before in
+    countable (r .pre .0) (take (2 * length (r .args .depths .now)) (r .args .index .now)) (r .args .list .now) (r .args .missing .now) (two (r)) (r .pre .1 .uses) (r .pre .1 .edges) (parts-of (q .index-uses .ensures)) (p .set-all .ensures)
 
 offer-all-requires : tie.Need-offer-all-requires
-offer-all-requires c κs = offerable (c .before .before .before .before .before .before .before .before .before .before .before .before .before .before .before .before .before .before .before .before .before .before .before .before .before .before .before .before .before .before .before .before .before .before .before .pre .0) _ (emptied (c .before .before .before .before .before .before .before .before .before .before .before .before .before .before .before .before .before .before .before .before .before .before .before .before .before .before .before .before .before .before .before .before .before .before .before .pre .0) (c .before .before .before .before .before .before .before .before .before .before .before .before .before .before .before .before .before .before .before .before .before .before .before .before .before .before .before .before .before .before .before .before .before .before .before .args .queue .now) (c .before .before .before .before .before .before .before .before .before .before .before .before .before .before .before .before .before .before .before .before .before .before .before .before .before .before .before .before .before .before .before .before .before .before .before .pre .1 .sized) (c .before .before .before .before .before .set-all2 .ensures))
+offer-all-requires c κs =
+    let p = c .before .before .before .before .before in
+    let q = p .before .before .before .before .before .before .before .before .before .before .before .before .before .before .before .before .before .before .before .before .before .before .before .before .before .before .before .before .before .before in
+    offerable (q .pre .0) _ (emptied (q .pre .0) (q .args .queue .now) (q .pre .1 .sized) (p .set-all2 .ensures))
 
 turns-requires : tie.Need-turns-requires
-turns-requires c κs = record {
-  unmade = c .before .before .before .before .before .before .before .before .before .before .before .before .before .before .before .before .before .before .before .before .before .before .before .before .before .before .before .before .before .before .before .before .before .before .before .before .before .before .before .before .before .before .before .before .before .pre .0;
-  indexed = use-index (c .before .before .before .before .before .before .before .before .before .before .before .before .before .before .before .before .before .before .before .before .before .before .before .before .before .before .before .before .before .before .before .before .before .before .before .before .before .before .before .before .before .before .before .before .before .pre .0) (take (2 * length (c .before .before .before .before .before .before .before .before .before .before .before .before .before .before .before .before .before .before .before .before .before .before .before .before .before .before .before .before .before .before .before .before .before .before .before .before .before .before .before .before .before .before .before .before .before .args .depths .now)) (c .before .before .before .before .before .before .before .before .before .before .before .before .before .before .before .before .before .before .before .before .before .before .before .before .before .before .before .before .before .before .before .before .before .before .before .before .before .before .before .before .before .before .before .before .before .args .index .now)) (c .before .before .before .before .before .before .before .before .before .before .before .before .before .before .before .before .before .before .before .before .before .before .before .before .before .before .before .before .before .before .before .before .before .before .before .before .before .before .before .before .before .before .before .before .before .args .list .now) (two (c .before .before .before .before .before .before .before .before .before .before .before .before .before .before .before .before .before .before .before .before .before .before .before .before .before .before .before .before .before .before .before .before .before .before .before .before .before .before .before .before .before .before .before .before .before)) (c .before .before .before .before .before .before .before .before .before .before .before .before .before .before .before .before .before .before .before .before .before .before .before .before .before .before .before .before .before .before .before .before .before .before .before .before .before .before .before .before .before .before .before .before .before .pre .1 .uses) (parts-of (c .before .before .before .before .before .before .before .before .before .before .before .before .before .before .before .before .before .before .before .before .before .before .before .before .before .before .before .before .before .before .index-uses .ensures));
-  waits = first-queue (c .before .before .before .before .before .before .before .before .before .before .before .before .before .before .before .before .before .before .before .before .before .before .before .before .before .before .before .before .before .before .before .before .before .before .before .before .before .before .before .before .before .before .before .before .before .pre .0) (c .before .before .before .before .before .before .before .before .before .before .before .before .before .before .before .before .before .before .before .before .before .before .before .before .before .before .before .before .before .before .before .before .before .before .before .before .before .before .before .before .before .before .before .before .before .args .queue .now) (c .before .before .before .before .before .before .before .before .before .before .before .before .before .before .before .before .before .before .before .before .before .before .before .before .before .before .before .before .before .before .before .before .before .before .before .before .before .before .before .before .before .before .before .before .before .pre .1 .sized) (c .before .before .before .before .before .before .before .before .before .before .before .before .before .before .before .set-all2 .ensures) (c .before .before .before .before .before .before .before .before .before .offer-all .ensures) (counts (c .before .before .before .before .before .before .before .before .before .before .before .before .before .before .before .before .before .before .before .before .before .before .before .before .before .before .before .before .before .before .before .before .before .before .before .before .before .before .before .before .before .before .before .before .before .pre .0) (take (2 * length (c .before .before .before .before .before .before .before .before .before .before .before .before .before .before .before .before .before .before .before .before .before .before .before .before .before .before .before .before .before .before .before .before .before .before .before .before .before .before .before .before .before .before .before .before .before .args .depths .now)) (c .before .before .before .before .before .before .before .before .before .before .before .before .before .before .before .before .before .before .before .before .before .before .before .before .before .before .before .before .before .before .before .before .before .before .before .before .before .before .before .before .before .before .before .before .before .args .index .now)) (c .before .before .before .before .before .before .before .before .before .before .before .before .before .before .before .before .before .before .before .before .before .before .before .before .before .before .before .before .before .before .before .before .before .before .before .before .before .before .before .before .before .before .before .before .before .args .list .now) (c .before .before .before .before .before .before .before .before .before .before .before .before .before .before .before .before .before .before .before .before .before .before .before .before .before .before .before .before .before .before .before .before .before .before .before .before .before .before .before .before .before .before .before .before .before .args .missing .now) (two (c .before .before .before .before .before .before .before .before .before .before .before .before .before .before .before .before .before .before .before .before .before .before .before .before .before .before .before .before .before .before .before .before .before .before .before .before .before .before .before .before .before .before .before .before .before)) (c .before .before .before .before .before .before .before .before .before .before .before .before .before .before .before .before .before .before .before .before .before .before .before .before .before .before .before .before .before .before .before .before .before .before .before .before .before .before .before .before .before .before .before .before .before .pre .1 .uses) (c .before .before .before .before .before .before .before .before .before .before .before .before .before .before .before .before .before .before .before .before .before .before .before .before .before .before .before .before .before .before .before .before .before .before .before .before .before .before .before .before .before .before .before .before .before .pre .1 .edges) (parts-of (c .before .before .before .before .before .before .before .before .before .before .before .before .before .before .before .before .before .before .before .before .before .before .before .before .before .before .before .before .before .before .index-uses .ensures)) (c .before .before .before .before .before .before .before .before .before .before .before .before .before .before .before .before .before .before .before .before .before .before .before .before .set-all .ensures) (c .before .before .before .before .before .before .before .before .before .before .before .before .before .before .before .before .before .before .before .count-missing .ensures));
+turns-requires c κs =
+    let p = c .before .before .before .before .before .before .before .before .before in
+    let q = p .before .before .before .before .before .before in
+    let r = q .before .before .before .before in
+    let s = r .before .before .before .before .before in
+    let u = s .before .before .before .before .before .before in
+    let v = u .before .before .before .before .before .before .before .before .before .before .before .before .before .before .before in
+    record {
+  unmade = v .pre .0;
+  indexed = use-index (v .pre .0) (take (2 * length (v .args .depths .now)) (v .args .index .now)) (v .args .list .now) (two (v)) (v .pre .1 .uses) (parts-of (u .index-uses .ensures));
+  waits = first-queue (v .pre .0) (v .args .queue .now) (v .pre .1 .sized) (q .set-all2 .ensures) (p .offer-all .ensures) (counts (v .pre .0) (take (2 * length (v .args .depths .now)) (v .args .index .now)) (v .args .list .now) (v .args .missing .now) (two (v)) (v .pre .1 .uses) (v .pre .1 .edges) (parts-of (u .index-uses .ensures)) (s .set-all .ensures) (r .count-missing .ensures));
 }
 
-same-length : tie.Need-same-length
-same-length c = search needs
-
-same-length-2 : tie.Need-same-length-2
-same-length-2 c = search needs
-
-same-length-3 : tie.Need-same-length-3
-same-length-3 c = search needs
-
-same-length-4 : tie.Need-same-length-4
-same-length-4 c = search needs
-
 same-length-5 : tie.Need-same-length-5
-same-length-5 c = list-long (c .before .before .before .before .before .before .before .before .before .before .before .before .before .before .before .before .before .before .before .before .before .before .before .before .before .before .before .before .before .before .before .before .before .before .before .before .before .before .before .before .before .before .before .before .before .before .before .before .before .before .before .before .before .before .before .before .before .before .pre .0) (take (2 * length (c .before .before .before .before .before .before .before .before .before .before .before .before .before .before .before .before .before .before .before .before .before .before .before .before .before .before .before .before .before .before .before .before .before .before .before .before .before .before .before .before .before .before .before .before .before .before .before .before .before .before .before .before .before .before .before .before .before .before .args .depths .now)) (c .before .before .before .before .before .before .before .before .before .before .before .before .before .before .before .before .before .before .before .before .before .before .before .before .before .before .before .before .before .before .before .before .before .before .before .before .before .before .before .before .before .before .before .before .before .before .before .before .before .before .before .before .before .before .before .before .before .before .args .index .now)) (c .before .before .before .before .before .before .before .before .before .before .before .before .before .before .before .before .before .before .before .before .before .before .before .before .before .before .before .before .before .before .before .before .before .before .before .before .before .before .before .before .before .before .before .before .before .before .before .before .before .before .before .before .before .before .before .before .before .before .args .list .now) (c .before .before .before .before .before .before .before .before .before .before .before .before .before .before .before .before .before .before .before .before .before .before .before .before .before .before .before .before .before .before .before .before .before .before .before .before .before .before .before .before .before .before .before .before .before .before .before .before .before .before .before .before .before .before .before .before .before .before .args .missing .now) (two (c .before .before .before .before .before .before .before .before .before .before .before .before .before .before .before .before .before .before .before .before .before .before .before .before .before .before .before .before .before .before .before .before .before .before .before .before .before .before .before .before .before .before .before .before .before .before .before .before .before .before .before .before .before .before .before .before .before .before)) (c .before .before .before .before .before .before .before .before .before .before .before .before .before .before .before .before .before .before .before .before .before .before .before .before .before .before .before .before .before .before .before .before .before .before .before .before .before .before .before .before .before .before .before .before .before .before .before .before .before .before .before .before .before .before .before .before .before .before .pre .1 .uses) (c .before .before .before .before .before .before .before .before .before .before .before .before .before .before .before .before .before .before .before .before .before .before .before .before .before .before .before .before .before .before .before .before .before .before .before .before .before .before .before .before .before .before .before .before .before .before .before .before .before .before .before .before .before .before .before .before .before .before .pre .1 .edges) (parts-of (c .before .before .before .before .before .before .before .before .before .before .before .before .before .before .before .before .before .before .before .before .before .before .before .before .before .before .before .before .before .before .before .before .before .before .before .before .before .before .before .before .before .before .before .index-uses .ensures))
+same-length-5 c =
+    let p = c .before .before .before .before .before .before .before .before .before .before .before .before .before .before .before .before .before .before .before .before .before .before .before .before .before .before .before .before .before .before .before .before .before .before .before .before .before .before .before .before .before .before .before in
+    let q = p .before .before .before .before .before .before .before .before .before .before .before .before .before .before .before in
+    list-long (q .pre .0) (take (2 * length (q .args .depths .now)) (q .args .index .now)) (q .args .list .now) (q .args .missing .now) (two (q)) (q .pre .1 .uses) (q .pre .1 .edges) (parts-of (p .index-uses .ensures))
 
 same-length-6 : tie.Need-same-length-6
-same-length-6 c = search (needs, c .before .before .before .missing3 .given, c .before .before .before .before .before .before .before .before .before .before .before .before .before .before .before .before .before .before .before .before .before .before .before .before .before .before .before .before .before .before .before .missing2 .given, c .before .before .before .before .before .before .before .before .before .before .before .before .before .before .before .before .before .before .before .before .before .before .before .before .before .before .before .before .before .before .before .before .before .before .before .before .missing .given)
-
-same-length-7 : tie.Need-same-length-7
-same-length-7 c = search needs
-
-returns : tie.Need-returns
-returns c = search needs
+same-length-6 c =
+    let p = c .before .before .before .before .before .before .before .before .before .before .before .before .before .before .before .before .before .before .before .before .before .before .before .before .before .before .before .before .before .before .before in
+    let q = p .before .before .before .before .before in
+    search (needs, c .before .before .before .missing3 .given, p .missing2 .given, q .missing .given)
 
 pub label-with-spec : {M : Type 1} → statement M
 label-with-spec =
     tie.close
     (tie.spec
-    mul-places
+    (λ c. search needs)
     slice-relend-prefix-used
     slice-aggregate-used
     index-uses-requires
-    set-all-requires
+    (λ c κs. search needs)
     count-missing-requires
-    set-all-requires-2
+    (λ c κs. search needs)
     offer-all-requires
     turns-requires
-    same-length
-    same-length-2
-    same-length-3
-    same-length-4
+    (λ c. search needs)
+    (λ c. search needs)
+    (λ c. search needs)
+    (λ c. search needs)
     same-length-5
     same-length-6
-    same-length-7
-    returns)
+    (λ c. search needs)
+    (λ c. search needs))

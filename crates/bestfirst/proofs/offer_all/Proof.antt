@@ -21,19 +21,24 @@ abbrev μ-loop : tie.MeasureT-loop
 μ-loop measure heads own spans tails weights depths queue₀ i₀ queue i = length heads - i
 
 loop-holds : tie.Need-loop-holds Inv-loop μ-loop
-loop-holds c = let a = c .before .before .before .before .before .before .before .args in (omega arith, (c .before .before .before .before .before .before .before .pre .sized, offering-none (algebra (a .measure)) (hypergraph (lent (a .heads .now) (a .own .now) (a .spans .now) (a .tails .now) (a .depths .now))) (cell (a .own .now)) (cell (a .weights .now)) (cell (a .depths .now)) (a .queue .now) (λ i. i)))
+loop-holds c =
+    let p = c .before .before .before .before .before .before .before in
+    let a = p .args in (omega arith, (p .pre .sized, offering-none (algebra (a .measure)) (hypergraph (lent (a .heads .now) (a .own .now) (a .spans .now) (a .tails .now) (a .depths .now))) (cell (a .own .now)) (cell (a .weights .now)) (cell (a .depths .now)) (a .queue .now) (λ i. i)))
 
 offer-edge-requires : tie.Need-offer-edge-requires Inv-loop μ-loop
-offer-edge-requires c κs = (record { usable = c .before .before .before .before .before .before .before .before .before .before .pre .usable; fitted = c .before .before .before .before .before .before .before .before .before .before .pre .fitted; sized = c .before .before .loop .inv .1 .0 }, omega (arith, c .before .loop-test .taken))
+offer-edge-requires c κs =
+    let p = c .before .before .before .before .before .before .before .before .before .before in
+    (record { usable = p .pre .usable; fitted = p .pre .fitted; sized = c .before .before .loop .inv .1 .0 }, omega (arith, c .before .loop-test .taken))
 
 add-i : tie.Need-add-i Inv-loop μ-loop
 add-i c = omega (arith, c .before .before .before .before .loop-test .taken)
 
-loop-less : tie.Need-loop-less Inv-loop μ-loop
-loop-less c = search needs
-
 loop-again : tie.Need-loop-again Inv-loop μ-loop
-loop-again c = let a = c .before .before .before .before .before .before .before .before .before .before .before .before .before .args in (omega (arith, c .before .before .before .before .loop-test .taken), (ap length (c .before .before .offer-edge .ensures) ∙ offered-length (c .before .before .before .before .before .loop .queue) (cell (a .heads .now) (c .before .before .before .before .before .loop .i)) (opening (algebra (a .measure)) (hypergraph (lent (a .heads .now) (a .own .now) (a .spans .now) (a .tails .now) (a .depths .now))) (cell (a .own .now)) (cell (a .weights .now)) (cell (a .depths .now)) (c .before .before .before .before .before .loop .i)) (head-key (c .before .before .before .before .before .before .before .before .before .before .before .before .before .pre) _ (c .before .before .before .before .loop-test .taken)) ∙ c .before .before .before .before .before .loop .inv .1 .0, offering-more (algebra (a .measure)) (hypergraph (lent (a .heads .now) (a .own .now) (a .spans .now) (a .tails .now) (a .depths .now))) (cell (a .own .now)) (cell (a .weights .now)) (cell (a .depths .now)) (a .queue .now) (λ i. i) (c .before .before .before .before .before .loop .i) (c .before .before .before .before .before .loop .inv .1 .1) (c .before .before .offer-edge .ensures)))
+loop-again c =
+    let p = c .before .before .before .before in
+    let q = p .before in
+    let r = q .before .before .before .before .before .before .before .before in
+    let a = r .args in (omega (arith, p .loop-test .taken), (ap length (c .before .before .offer-edge .ensures) ∙ offered-length (q .loop .queue) (cell (a .heads .now) (q .loop .i)) (opening (algebra (a .measure)) (hypergraph (lent (a .heads .now) (a .own .now) (a .spans .now) (a .tails .now) (a .depths .now))) (cell (a .own .now)) (cell (a .weights .now)) (cell (a .depths .now)) (q .loop .i)) (head-key (r .pre) _ (p .loop-test .taken)) ∙ q .loop .inv .1 .0, offering-more (algebra (a .measure)) (hypergraph (lent (a .heads .now) (a .own .now) (a .spans .now) (a .tails .now) (a .depths .now))) (cell (a .own .now)) (cell (a .weights .now)) (cell (a .depths .now)) (a .queue .now) (λ i. i) (q .loop .i) (q .loop .inv .1 .1) (c .before .before .offer-edge .ensures)))
 
 same-length : tie.Need-same-length Inv-loop μ-loop
 same-length c = c .before .loop .inv .1 .0 ∙ sym (c .before .before .before .before .before .before .before .before .before .pre .sized)
@@ -50,7 +55,7 @@ offer-all-spec =
     loop-holds
     offer-edge-requires
     add-i
-    loop-less
+    (λ c. search needs)
     loop-again
     same-length
     returns)

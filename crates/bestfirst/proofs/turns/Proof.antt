@@ -18,34 +18,53 @@ abbrev μ-loop : tie.MeasureT-loop
 μ-loop measure heads own spans tails index list weights₀ depths₀ edges₀ missing₀ queue₀ k₀ weights depths edges missing queue k = length depths₀ - k
 
 loop-holds : tie.Need-loop-holds Inv-loop μ-loop
-loop-holds c = (omega arith, (c .before .before .before .before .before .before .before .before .before .before .before .pre .unmade .blank, c .before .before .before .before .before .before .before .before .before .before .before .pre .waits))
+loop-holds c =
+    let p = c .before .before .before .before .before .before .before .before .before .before .before in
+    (omega arith, (p .pre .unmade .blank, p .pre .waits))
 
 -- there is a turn for each vertex
 below : (c : tie.In-loop Inv-loop μ-loop) → c .before .loop .k < length (c .before .before .before .before .before .before .before .before .before .before .before .before .before .args .depths .now)
 below c = omega (arith, c .loop-test .taken, sizes (c .before .before .before .before .before .before .before .before .before .before .before .before .before .args .measure) (let a = c .before .before .before .before .before .before .before .before .before .before .before .before .before .args in columns (length (a .depths .now)) (a .heads .now) (a .own .now) (a .spans .now) (a .tails .now)) (c .before .before .before .before .before .before .before .before .before .before .before .before .before .pre .unmade .turning .usable .accepted) (c .before .loop .k) (c .before .loop .inv .1 .0) .depths)
 
 turn-requires : tie.Need-turn-requires Inv-loop μ-loop
-turn-requires c κs = underway (c .before .before .before .before .before .before .before .before .before .before .before .before .before .before .before .before .before .before .args .measure) (let a = c .before .before .before .before .before .before .before .before .before .before .before .before .before .before .before .before .before .before .args in columns (length (a .depths .now)) (a .heads .now) (a .own .now) (a .spans .now) (a .tails .now)) (c .before .before .before .before .before .before .before .before .before .before .before .before .before .before .before .before .before .before .pre .unmade .turning .usable .accepted) (c .before .before .before .before .before .before .loop .k) (c .before .before .before .before .before .before .loop .inv .1 .0) (below (c .before .before .before .before .before)) (c .before .before .before .before .before .before .before .before .before .before .before .before .before .before .before .before .before .before .pre .indexed) (c .before .before .before .before .before .before .loop .inv .1 .1)
+turn-requires c κs =
+    let p = c .before .before .before .before .before in
+    let q = p .before in
+    let r = q .before .before .before .before .before .before .before .before .before .before .before .before in
+    underway (r .args .measure) (let a = r .args in columns (length (a .depths .now)) (a .heads .now) (a .own .now) (a .spans .now) (a .tails .now)) (r .pre .unmade .turning .usable .accepted) (q .loop .k) (q .loop .inv .1 .0) (below (p)) (r .pre .indexed) (q .loop .inv .1 .1)
 
 add-k : tie.Need-add-k Inv-loop μ-loop
-add-k c = omega (arith, (below (c .before .before .before .before .before .before .before .before .before .before .before .before .before .before .before .before)), table-accepted (let a = c .before .before .before .before .before .before .before .before .before .before .before .before .before .before .before .before .before .before .before .before .before .before .before .before .before .before .before .before .before .args in columns (length (a .depths .now)) (a .heads .now) (a .own .now) (a .spans .now) (a .tails .now)) (c .before .before .before .before .before .before .before .before .before .before .before .before .before .before .before .before .before .before .before .before .before .before .before .before .before .before .before .before .before .pre .unmade .turning .usable .accepted) .few)
+add-k c =
+    let p = c .before .before .before .before .before .before .before .before .before .before .before .before .before .before .before .before in
+    let q = p .before .before .before .before .before .before .before .before .before .before .before .before .before in
+    omega (arith, (below (p)), table-accepted (let a = q .args in columns (length (a .depths .now)) (a .heads .now) (a .own .now) (a .spans .now) (a .tails .now)) (q .pre .unmade .turning .usable .accepted) .few)
 
 loop-less : tie.Need-loop-less Inv-loop μ-loop
 loop-less c = omega (arith, (below (c .before .before .before .before .before .before .before .before .before .before .before .before .before .before .before .before)))
 
 loop-again : tie.Need-loop-again Inv-loop μ-loop
 loop-again c =
-    let w = waits-on (c .before .before .before .before .before .before .before .before .before .before .before .before .before .before .before .before .before .before .before .before .before .before .before .before .before .before .before .before .before .args .measure) (let a = c .before .before .before .before .before .before .before .before .before .before .before .before .before .before .before .before .before .before .before .before .before .before .before .before .before .before .before .before .before .args in columns (length (a .depths .now)) (a .heads .now) (a .own .now) (a .spans .now) (a .tails .now)) (c .before .before .before .before .before .before .before .before .before .before .before .before .before .before .before .before .before .before .before .before .before .before .before .before .before .before .before .before .before .pre .unmade .turning .usable .accepted) (c .before .before .before .before .before .before .before .before .before .before .before .before .before .before .before .before .before .loop .k) (c .before .before .before .before .before .before .before .before .before .before .before .before .before .before .before .before .before .loop .inv .1 .0) (c .before .before .before .before .before .before .before .before .before .before .turn .ensures .1) in
-    (omega (arith, (below (c .before .before .before .before .before .before .before .before .before .before .before .before .before .before .before .before))), (turns-more (c .before .before .before .before .before .before .before .before .before .before .before .before .before .before .before .before .before .before .before .before .before .before .before .before .before .before .before .before .before .args .measure) (let a = c .before .before .before .before .before .before .before .before .before .before .before .before .before .before .before .before .before .before .before .before .before .before .before .before .before .before .before .before .before .args in columns (length (a .depths .now)) (a .heads .now) (a .own .now) (a .spans .now) (a .tails .now)) (c .before .before .before .before .before .before .before .before .before .before .before .before .before .before .before .before .before .before .before .before .before .before .before .before .before .before .before .before .before .pre .unmade .turning .usable .accepted) (c .before .before .before .before .before .before .before .before .before .before .before .before .before .before .before .before .before .loop .k) (c .before .before .before .before .before .before .before .before .before .before .before .before .before .before .before .before .before .loop .inv .1 .0) (c .before .before .before .before .before .before .before .before .before .before .turn .ensures .0), w))
+    let p = c .before .before .before .before .before .before .before .before .before .before in
+    let q = p .before .before .before .before .before .before in
+    let r = q .before in
+    let s = r .before .before .before .before .before .before .before .before .before .before .before .before in
+    let w = waits-on (s .args .measure) (let a = s .args in columns (length (a .depths .now)) (a .heads .now) (a .own .now) (a .spans .now) (a .tails .now)) (s .pre .unmade .turning .usable .accepted) (r .loop .k) (r .loop .inv .1 .0) (p .turn .ensures .1) in
+    (omega (arith, (below (q))), (turns-more (s .args .measure) (let a = s .args in columns (length (a .depths .now)) (a .heads .now) (a .own .now) (a .spans .now) (a .tails .now)) (s .pre .unmade .turning .usable .accepted) (r .loop .k) (r .loop .inv .1 .0) (p .turn .ensures .0), w))
 
 same-length : tie.Need-same-length Inv-loop μ-loop
-same-length c = sizes (c .before .before .before .before .before .before .before .before .before .before .before .before .before .args .measure) (let a = c .before .before .before .before .before .before .before .before .before .before .before .before .before .args in columns (length (a .depths .now)) (a .heads .now) (a .own .now) (a .spans .now) (a .tails .now)) (c .before .before .before .before .before .before .before .before .before .before .before .before .before .pre .unmade .turning .usable .accepted) (c .before .loop .k) (c .before .loop .inv .1 .0) .weights ∙ sym (c .before .before .before .before .before .before .before .before .before .before .before .before .before .pre .unmade .turning .usable .level)
+same-length c =
+    let p = c .before .before .before .before .before .before .before .before .before .before .before .before .before in
+    sizes (p .args .measure) (let a = p .args in columns (length (a .depths .now)) (a .heads .now) (a .own .now) (a .spans .now) (a .tails .now)) (p .pre .unmade .turning .usable .accepted) (c .before .loop .k) (c .before .loop .inv .1 .0) .weights ∙ sym (p .pre .unmade .turning .usable .level)
 
 same-length-2 : tie.Need-same-length-2 Inv-loop μ-loop
-same-length-2 c = sizes (c .before .before .before .before .before .before .before .before .before .before .before .before .before .args .measure) (let a = c .before .before .before .before .before .before .before .before .before .before .before .before .before .args in columns (length (a .depths .now)) (a .heads .now) (a .own .now) (a .spans .now) (a .tails .now)) (c .before .before .before .before .before .before .before .before .before .before .before .before .before .pre .unmade .turning .usable .accepted) (c .before .loop .k) (c .before .loop .inv .1 .0) .depths
+same-length-2 c =
+    let p = c .before .before .before .before .before .before .before .before .before .before .before .before .before in
+    sizes (p .args .measure) (let a = p .args in columns (length (a .depths .now)) (a .heads .now) (a .own .now) (a .spans .now) (a .tails .now)) (p .pre .unmade .turning .usable .accepted) (c .before .loop .k) (c .before .loop .inv .1 .0) .depths
 
 same-length-3 : tie.Need-same-length-3 Inv-loop μ-loop
-same-length-3 c = sizes (c .before .before .before .before .before .before .before .before .before .before .before .before .before .args .measure) (let a = c .before .before .before .before .before .before .before .before .before .before .before .before .before .args in columns (length (a .depths .now)) (a .heads .now) (a .own .now) (a .spans .now) (a .tails .now)) (c .before .before .before .before .before .before .before .before .before .before .before .before .before .pre .unmade .turning .usable .accepted) (c .before .loop .k) (c .before .loop .inv .1 .0) .edges ∙ sym (c .before .before .before .before .before .before .before .before .before .before .before .before .before .pre .unmade .turning .edges)
+same-length-3 c =
+    let p = c .before .before .before .before .before .before .before .before .before .before .before .before .before in
+    sizes (p .args .measure) (let a = p .args in columns (length (a .depths .now)) (a .heads .now) (a .own .now) (a .spans .now) (a .tails .now)) (p .pre .unmade .turning .usable .accepted) (c .before .loop .k) (c .before .loop .inv .1 .0) .edges ∙ sym (p .pre .unmade .turning .edges)
 
 same-length-4 : tie.Need-same-length-4 Inv-loop μ-loop
 same-length-4 c = c .before .loop .inv .1 .1 .level ∙ sym (c .before .before .before .before .before .before .before .before .before .before .before .before .before .pre .waits .level)
@@ -54,7 +73,9 @@ same-length-5 : tie.Need-same-length-5 Inv-loop μ-loop
 same-length-5 c = c .before .loop .inv .1 .1 .queued .grouped .sized ∙ sym (c .before .before .before .before .before .before .before .before .before .before .before .before .before .pre .waits .queued .grouped .sized)
 
 returns : tie.Need-returns Inv-loop μ-loop
-returns c = all-turns (c .before .before .before .before .before .before .before .before .before .before .before .before .before .args .measure) (let a = c .before .before .before .before .before .before .before .before .before .before .before .before .before .args in columns (length (a .depths .now)) (a .heads .now) (a .own .now) (a .spans .now) (a .tails .now)) (c .before .loop .inv .1 .0) (omega (arith, c .before .loop .inv .0, c .loop-test .left, sizes (c .before .before .before .before .before .before .before .before .before .before .before .before .before .args .measure) (let a = c .before .before .before .before .before .before .before .before .before .before .before .before .before .args in columns (length (a .depths .now)) (a .heads .now) (a .own .now) (a .spans .now) (a .tails .now)) (c .before .before .before .before .before .before .before .before .before .before .before .before .before .pre .unmade .turning .usable .accepted) (c .before .loop .k) (c .before .loop .inv .1 .0) .depths))
+returns c =
+    let p = c .before .before .before .before .before .before .before .before .before .before .before .before .before in
+    all-turns (p .args .measure) (let a = p .args in columns (length (a .depths .now)) (a .heads .now) (a .own .now) (a .spans .now) (a .tails .now)) (c .before .loop .inv .1 .0) (omega (arith, c .before .loop .inv .0, c .loop-test .left, sizes (p .args .measure) (let a = p .args in columns (length (a .depths .now)) (a .heads .now) (a .own .now) (a .spans .now) (a .tails .now)) (p .pre .unmade .turning .usable .accepted) (c .before .loop .k) (c .before .loop .inv .1 .0) .depths))
 
 pub turns-spec : {M : Type 1} → statement M
 turns-spec =

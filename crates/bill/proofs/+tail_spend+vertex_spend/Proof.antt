@@ -1,6 +1,6 @@
 -- `bill::vertex_spend` and `bill::tail_spend` meet their contracts: a budget pays for the root, then for the bills of the tail one after the other. Depth falls, then the
 -- tail that is left. Assumes nothing.
-use mathlib.Core.Path.{_≡_, sym, _∙_, ap, subst}
+use mathlib.Core.Path.{sym, _∙_, ap, subst}
 use mathlib.Core.List.{List}
 use Prim.Native.Nat.{ℕ, _+_, _-_, _<_}
 use native.Mathlib.Nat.{pos-of-ne-zero}
@@ -9,10 +9,7 @@ use borrow.Author.Needs.{needs}
 use borrow.Fn.Kinds.{In}
 use borrow.Fn.PlainCycle.{Measures, is, falls, and}
 use lib.ListN.{length}
-use Rattle.columns.specs.Columns.{tailOf}
-use Rattle.bill.specs.declared.Budget.{Budget}
-use Rattle.bill.specs.declared.Budget.the-variants.{Left, Spent}
-use Rattle.bill.specs.Walk.{vertexBill, tailBill, AllGrounded, spend}
+use Rattle.bill.specs.Walk.{tailBill, AllGrounded, spend}
 use Rattle.bill.proofs.Walks.{μ, rest-shorter, each-first, each-rest, grounded, root-unpaid, root-paid, tail-paid, first-unpaid, first-paid}
 use Rattle.bill.proofs.tail_spend.Reads as tail
 use Rattle.bill.proofs.tail_spend.Kinds as tail-kinds

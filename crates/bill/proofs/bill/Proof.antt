@@ -28,12 +28,6 @@ partOf c = c .before .before .before .before .before .before .before .before .be
 accepted : (c : tie.After-enum-told) → partAcceptance (measureOf c) (tableOf c) (came c) (partOf c) ≡ Accepted
 accepted c = sym (c .before .before .check-part .ensures) ∙ c .enum-told .given .1
 
-check-part-requires : tie.Need-check-part-requires
-check-part-requires c κs = search needs
-
-enum-known-a : tie.Need-enum-known-a
-enum-known-a c = search needs
-
 returns : tie.Need-returns
 returns c = bill-refused _ _ _ _ _ (sym (c .before .before .before .check-part .ensures) ∙ c .before .a .given .1)
 
@@ -49,9 +43,6 @@ shared-slice-read-depth c = bill-placed (measureOf (c .before)) (tableOf (c .bef
 print-requires : tie.Need-print-requires
 print-requires c κs = bill-grounded (measureOf (c .before .before)) (tableOf (c .before .before)) (came (c .before .before)) (partOf (c .before .before)) (accepted (c .before .before))
 
-same-length : tie.Need-same-length
-same-length c = search needs
-
 returns-2 : tie.Need-returns-2
 returns-2 c = c .before .before .print .ensures ∙ bill-printed (measureOf (c .before .before .before .before .before)) (tableOf (c .before .before .before .before .before)) (came (c .before .before .before .before .before)) (partOf (c .before .before .before .before .before)) (accepted (c .before .before .before .before .before)) (c .before .before .before .before .before .before .before .before .before .before .before .before .before .before .before .before .args .room .now)
 
@@ -59,12 +50,12 @@ pub bill-spec : {M : Type 1} → statement M
 bill-spec =
     tie.close
     (tie.spec
-    check-part-requires
-    enum-known-a
+    (λ c κs. search needs)
+    (λ c. search needs)
     returns
     enum-told
     mul-depth
     shared-slice-read-depth
     print-requires
-    same-length
+    (λ c. search needs)
     returns-2)

@@ -5,12 +5,6 @@ use Rattle.bill.proofs.Admitted.{part-refused, part-absent, part-wrong,
 use Rattle.bill.proofs.check_part.Statement.{statement}
 use Rattle.bill.proofs.check_part.Tie as tie
 
-check-answers-requires : tie.Need-check-answers-requires
-check-answers-requires c κs = search needs
-
-enum-known-v : tie.Need-enum-known-v
-enum-known-v c = search needs
-
 returns : tie.Need-returns
 returns c = part-refused _ _ _ _ (c .before .before .before .check-answers .ensures) (c .before .v .given .1)
 
@@ -39,8 +33,8 @@ pub check-part-spec : {M : Type 1} → statement M
 check-part-spec =
     tie.close
     (tie.spec
-    check-answers-requires
-    enum-known-v
+    (λ c κs. search needs)
+    (λ c. search needs)
     returns
     returns-2
     enum-told

@@ -5,23 +5,14 @@ use Rattle.bill.proofs.print.Tie as tie
 use mathlib.Core.Path.{sym, _∙_}
 use Rattle.bill.proofs.Printed.{print-short, print-fits, print-written}
 
-vertex-spend-requires : tie.Need-vertex-spend-requires
-vertex-spend-requires c κs = search needs
-
 enum-told : tie.Need-enum-told
 enum-told c = search needs
 
 returns : tie.Need-returns
 returns c = let a = c .before .before .before .before .before .before .before .args in print-short (a .spans .now) (a .tails .now) (a .edges .now) (a .depth) (a .v .0) (a .room .now) (sym (c .before .before .vertex-spend .ensures) ∙ c .enum-told .given .1)
 
-enum-told-2 : tie.Need-enum-told-2
-enum-told-2 c = search needs
-
 vertex-bill-requires : tie.Need-vertex-bill-requires
 vertex-bill-requires c κs = let a = c .before .before .before .before .before .before .before .before .args in print-fits (a .spans .now) (a .tails .now) (a .edges .now) (a .depth) (a .v .0) (a .room .now) (sym (c .before .before .before .vertex-spend .ensures) ∙ c .before .enum-told2 .given .1) (c .before .before .before .before .before .before .before .before .pre)
-
-same-length : tie.Need-same-length
-same-length c = search needs
 
 returns-2 : tie.Need-returns-2
 returns-2 c = let a = c .before .before .before .before .before .before .before .before .before .before .before .args in print-written (a .spans .now) (a .tails .now) (a .edges .now) (a .depth) (a .v .0) (a .room .now) (sym (c .before .before .before .before .before .before .vertex-spend .ensures) ∙ c .before .before .before .before .enum-told2 .given .1) (c .before .before .vertex-bill .ensures)
@@ -30,10 +21,10 @@ pub print-spec : {M : Type 1} → statement M
 print-spec =
     tie.close
     (tie.spec
-    vertex-spend-requires
+    (λ c κs. search needs)
     enum-told
     returns
-    enum-told-2
+    (λ c. search needs)
     vertex-bill-requires
-    same-length
+    (λ c. search needs)
     returns-2)

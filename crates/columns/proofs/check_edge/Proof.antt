@@ -40,24 +40,6 @@ returns-6 c =
     let h : length (a .tails .now) < a .offset + a .size = omega arith in
     search tests
 
-add-to : tie.Need-add-to
-add-to c = search needs
-
-mul-all-below : tie.Need-mul-all-below
-mul-all-below c = search needs
-
-sub-all-below : tie.Need-sub-all-below
-sub-all-below c = search needs
-
-part-all-below-start : tie.Need-part-all-below-start
-part-all-below-start c = search needs
-
-part-all-below-end : tie.Need-part-all-below-end
-part-all-below-end c = search needs
-
-all-below-requires : tie.Need-all-below-requires
-all-below-requires c κs = search needs
-
 -- the part that is lent is the hyperedge's tail
 tail-is : (c : tie.After-all-below) → let a = c .before .before .before .before .before .before .before .before .before .before .before .before .args in c .all-below .result ≡ allBelow (a .n) (part (a .offset) (a .size) (a .tails .now))
 tail-is c =
@@ -91,11 +73,11 @@ check-edge-spec =
     returns-4
     returns-5
     returns-6
-    add-to
-    mul-all-below
-    sub-all-below
-    part-all-below-start
-    part-all-below-end
-    all-below-requires
+    (λ c. search needs)
+    (λ c. search needs)
+    (λ c. search needs)
+    (λ c. search needs)
+    (λ c. search needs)
+    (λ c κs. search needs)
     returns-7
     returns-8)

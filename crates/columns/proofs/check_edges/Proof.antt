@@ -2,7 +2,7 @@
 use Rattle.columns.proofs.check_edges.Statement.{statement}
 use Rattle.columns.proofs.check_edges.Tie as tie
 use mathlib.Core.Path.{_≡_, sym, _∙_}
-use Prim.Native.Nat.{ℕ, _+_, _*_, _-_, _≤_}
+use Prim.Native.Nat.{_-_, _≤_}
 use native.Mathlib.Nat.{sub-zero}
 use native.Mathlib.Omega.{arith}
 use borrow.Author.Needs.{needs}
@@ -29,45 +29,6 @@ table c =
 loop-holds : tie.Need-loop-holds Inv-loop μ-loop
 loop-holds c = (omega arith, rw sub-zero)
 
-mul-offset : tie.Need-mul-offset Inv-loop μ-loop
-mul-offset c = search needs
-
-shared-slice-read-offset : tie.Need-shared-slice-read-offset Inv-loop μ-loop
-shared-slice-read-offset c = search needs
-
-mul-offset-2 : tie.Need-mul-offset-2 Inv-loop μ-loop
-mul-offset-2 c = search needs
-
-shared-slice-read-offset-2 : tie.Need-shared-slice-read-offset-2 Inv-loop μ-loop
-shared-slice-read-offset-2 c = search needs
-
-mul-offset-3 : tie.Need-mul-offset-3 Inv-loop μ-loop
-mul-offset-3 c = search needs
-
-mul-offset-4 : tie.Need-mul-offset-4 Inv-loop μ-loop
-mul-offset-4 c = search needs
-
-shared-slice-read-offset-3 : tie.Need-shared-slice-read-offset-3 Inv-loop μ-loop
-shared-slice-read-offset-3 c = search needs
-
-mul-size : tie.Need-mul-size Inv-loop μ-loop
-mul-size c = search needs
-
-add-size : tie.Need-add-size Inv-loop μ-loop
-add-size c = search needs
-
-mul-size-2 : tie.Need-mul-size-2 Inv-loop μ-loop
-mul-size-2 c = search needs
-
-shared-slice-read-size : tie.Need-shared-slice-read-size Inv-loop μ-loop
-shared-slice-read-size c = search needs
-
-check-edge-requires : tie.Need-check-edge-requires Inv-loop μ-loop
-check-edge-requires c κs = search needs
-
-enum-known-a : tie.Need-enum-known-a Inv-loop μ-loop
-enum-known-a c = search needs
-
 returns : tie.Need-returns Inv-loop μ-loop
 returns c =
     let l = c .before .before .before .before .before .before .before .before .before in
@@ -82,12 +43,6 @@ passed c = sym (c .before .before .check-edge .ensures) ∙ c .enum-told .given 
 
 add-end : tie.Need-add-end Inv-loop μ-loop
 add-end c = omega (arith, edge-accepted _ _ _ _ _ _ _ _ (passed c) .within)
-
-add-i : tie.Need-add-i Inv-loop μ-loop
-add-i c = search needs
-
-loop-less : tie.Need-loop-less Inv-loop μ-loop
-loop-less c = search needs
 
 loop-again : tie.Need-loop-again Inv-loop μ-loop
 loop-again c =
@@ -104,23 +59,23 @@ check-edges-spec =
     Inv-loop
     μ-loop
     loop-holds
-    mul-offset
-    shared-slice-read-offset
-    mul-offset-2
-    shared-slice-read-offset-2
-    mul-offset-3
-    mul-offset-4
-    shared-slice-read-offset-3
-    mul-size
-    add-size
-    mul-size-2
-    shared-slice-read-size
-    check-edge-requires
-    enum-known-a
+    (λ c. search needs)
+    (λ c. search needs)
+    (λ c. search needs)
+    (λ c. search needs)
+    (λ c. search needs)
+    (λ c. search needs)
+    (λ c. search needs)
+    (λ c. search needs)
+    (λ c. search needs)
+    (λ c. search needs)
+    (λ c. search needs)
+    (λ c κs. search needs)
+    (λ c. search needs)
     returns
     enum-told
     add-end
-    add-i
-    loop-less
+    (λ c. search needs)
+    (λ c. search needs)
     loop-again
     returns-2)

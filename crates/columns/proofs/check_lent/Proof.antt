@@ -6,12 +6,6 @@ use borrow.Author.Needs.{needs}
 use Rattle.columns.proofs.check_lent.Statement.{statement}
 use Rattle.columns.proofs.check_lent.Tie as tie
 
-check-table-requires : tie.Need-check-table-requires
-check-table-requires c κs = search needs
-
-enum-known-a : tie.Need-enum-known-a
-enum-known-a c = search needs
-
 returns : tie.Need-returns
 unfolding lentAcceptance
 returns c = rw (sym (c .before .before .before .check-table .ensures) ∙ c .before .a .given .1)
@@ -39,8 +33,8 @@ pub check-lent-spec : {M : Type 1} → statement M
 check-lent-spec =
     tie.close
     (tie.spec
-    check-table-requires
-    enum-known-a
+    (λ c κs. search needs)
+    (λ c. search needs)
     returns
     enum-told
     returns-2

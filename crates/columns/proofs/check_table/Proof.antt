@@ -20,9 +20,6 @@ returns-3 : tie.Need-returns-3
 unfolding acceptance
 returns-3 c = search tests
 
-mul-if4 : tie.Need-mul-if4
-mul-if4 c = search needs
-
 returns-4 : tie.Need-returns-4
 unfolding acceptance
 returns-4 c = search tests
@@ -30,9 +27,6 @@ returns-4 c = search tests
 returns-5 : tie.Need-returns-5
 unfolding acceptance
 returns-5 c = search tests
-
-check-edges-requires : tie.Need-check-edges-requires
-check-edges-requires c κs = search needs
 
 -- past the tests of the lengths the hyperedges alone are left to be looked at
 abbrev table : tie.Else5 → Columns
@@ -54,8 +48,8 @@ check-table-spec =
     returns
     returns-2
     returns-3
-    mul-if4
+    (λ c. search needs)
     returns-4
     returns-5
-    check-edges-requires
+    (λ c κs. search needs)
     returns-6)

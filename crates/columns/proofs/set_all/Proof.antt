@@ -2,11 +2,11 @@
 use mathlib.Core.List.{List, _++_, append-nil}
 use Prim.Native.Nat.{ℕ}
 use lib.ListN.{drop, drop-of-length-le}
-use mathlib.Core.Path.{_≡_, refl, sym, _∙_, ap}
+use mathlib.Core.Path.{_≡_, refl, _∙_, ap}
 use Prim.Native.Nat.{_≤_, _-_}
 use native.Mathlib.Omega.{arith}
 use borrow.Author.Needs.{needs}
-use borrow.Author.Fill.{fill-none, fill-more}
+use borrow.Author.Fill.{fill-more}
 use lib.ListN.{length, length-set, replicate, set}
 use Rattle.columns.proofs.set_all.Statement.{statement}
 use Rattle.columns.proofs.set_all.Tie as tie
@@ -19,9 +19,6 @@ abbrev μ-loop : tie.MeasureT-loop
 
 loop-holds : tie.Need-loop-holds Inv-loop μ-loop
 loop-holds c = (omega arith, (refl, refl))
-
-mul-column : tie.Need-mul-column Inv-loop μ-loop
-mul-column c = search needs
 
 slice-write-column : tie.Need-slice-write-column Inv-loop μ-loop
 slice-write-column c = omega arith
@@ -62,7 +59,7 @@ set-all-spec =
     Inv-loop
     μ-loop
     loop-holds
-    mul-column
+    (λ c. search needs)
     slice-write-column
     add-i
     loop-less

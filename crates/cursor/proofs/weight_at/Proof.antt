@@ -10,9 +10,6 @@ use Rattle.cursor.specs.Laws.{byte-within}
 use Rattle.cursor.proofs.weight_at.Statement.{statement}
 use Rattle.cursor.proofs.weight_at.Tie as tie
 
-byte-at-requires : tie.Need-byte-at-requires
-byte-at-requires c κs = search needs
-
 dash : (c : tie.Then1) → let a = c .before .before .before .args in getD (a .text .now) (a .at) 0 ≡ 45
 dash c = sym (c .before .byte-at .ensures) ∙ c .if1 .taken
 
@@ -28,12 +25,6 @@ returns : tie.Need-returns
 unfolding weightAt
 returns c = rw (eq-eqb _ _ (dash c))
 
-number-at-requires : tie.Need-number-at-requires
-number-at-requires c κs = search needs
-
-enum-known-found : tie.Need-enum-known-found
-enum-known-found c = search needs
-
 enum-told : tie.Need-enum-told
 enum-told c = search needs
 
@@ -47,11 +38,11 @@ pub weight-at-spec : {M : Type 1} → statement M
 weight-at-spec =
     tie.close
     (tie.spec
-    byte-at-requires
+    (λ c κs. search needs)
     add-next
     returns
-    number-at-requires
-    enum-known-found
+    (λ c κs. search needs)
+    (λ c. search needs)
     enum-told
     returns-2
     returns-3)

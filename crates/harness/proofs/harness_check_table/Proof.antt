@@ -1,4 +1,4 @@
-use mathlib.Core.Path.{sym, _∙_, ap}
+use mathlib.Core.Path.{_∙_, ap}
 use Rattle.refusal.specs.Refusals.{answerResult}
 use borrow.Author.Needs.{needs}
 use Rattle.harness.proofs.harness_check_table.Statement.{statement}

@@ -52,12 +52,6 @@ sub-read c = c .before .loop .inv .0
 part-read-start : tie.Need-part-read-start Inv-loop μ-loop
 part-read-start c = let r = sub-read c in search (needs, r)
 
-part-read-end : tie.Need-part-read-end Inv-loop μ-loop
-part-read-end c = search needs
-
-read-requires : tie.Need-read-requires Inv-loop μ-loop
-read-requires c κs = search needs
-
 same-length : tie.Need-same-length Inv-loop μ-loop
 same-length c = let r = c .before .before .before in long r ∙ r .before .before .before .loop .inv .1
 
@@ -69,12 +63,6 @@ sub-count c = let r = c .before .before .before in let e = long r in let i = r .
 
 part-count-start : tie.Need-part-count-start Inv-loop μ-loop
 part-count-start c = let r = sub-count (c .before) in search (needs, r)
-
-part-count-end : tie.Need-part-count-end Inv-loop μ-loop
-part-count-end c = search needs
-
-count-requires : tie.Need-count-requires Inv-loop μ-loop
-count-requires c κs = search needs
 
 same-length-2 : tie.Need-same-length-2 Inv-loop μ-loop
 same-length-2 c = let r = c .before .before .before .before .before .before .before in long r ∙ r .before .before .before .loop .inv .1
@@ -106,14 +94,14 @@ read-input-spec =
     loop-holds
     sub-read
     part-read-start
-    part-read-end
-    read-requires
+    (λ c. search needs)
+    (λ c κs. search needs)
     same-length
     returns
     sub-count
     part-count-start
-    part-count-end
-    count-requires
+    (λ c. search needs)
+    (λ c κs. search needs)
     same-length-2
     returns-2
     add-at

@@ -3,7 +3,7 @@ use borrow.Author.Needs.{needs}
 use Rattle.minima.proofs.lower_at.Statement.{statement}
 use Rattle.minima.proofs.lower_at.Tie as tie
 use mathlib.Core.Path.{ap}
-use Prim.Native.Nat.{ℕ, _≤_}
+use Prim.Native.Nat.{ℕ}
 use lib.ListN.{set}
 
 mul-key : tie.Need-mul-key

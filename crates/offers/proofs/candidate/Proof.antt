@@ -20,23 +20,11 @@ Inv-loop measure e own tail weights depths joined₀ deepest₀ i₀ joined deep
 abbrev μ-loop : tie.MeasureT-loop
 μ-loop measure e own tail weights depths joined₀ deepest₀ i₀ joined deepest i = length tail - i
 
-is-struck-requires : tie.Need-is-struck-requires Inv-loop μ-loop
-is-struck-requires c κs = search needs
-
 returns : tie.Need-returns Inv-loop μ-loop
 returns c = struck-nothing _ _ (c .before .before .before .before .before .args .own .0) _ _ _ (sym (c .before .is-struck .ensures) ∙ c .if1 .taken)
 
-unit-requires : tie.Need-unit-requires Inv-loop μ-loop
-unit-requires c κs = search needs
-
 loop-holds : tie.Need-loop-holds Inv-loop μ-loop
 loop-holds c = (omega arith, omega arith, rw (c .unit .ensures))
-
-mul-v : tie.Need-mul-v Inv-loop μ-loop
-mul-v c = search needs
-
-shared-slice-read-v : tie.Need-shared-slice-read-v Inv-loop μ-loop
-shared-slice-read-v c = search needs
 
 -- a vertex of the tail has its place in the columns
 inside : (c : tie.In-loop Inv-loop μ-loop) → let a = c .before .before .before .before .before .before .before .before .args in cell (a .tail .now) (c .before .loop .i) < length (a .depths .now)
@@ -64,18 +52,6 @@ mul-weight c = omega (arith, inside (c .before .before .before))
 shared-slice-read-weight : tie.Need-shared-slice-read-weight Inv-loop μ-loop
 shared-slice-read-weight c = omega (arith, inside (c .before .before .before .before))
 
-join-requires : tie.Need-join-requires Inv-loop μ-loop
-join-requires c κs = search needs
-
-deeper-requires : tie.Need-deeper-requires Inv-loop μ-loop
-deeper-requires c κs = search needs
-
-add-i : tie.Need-add-i Inv-loop μ-loop
-add-i c = search needs
-
-loop-less : tie.Need-loop-less Inv-loop μ-loop
-loop-less c = search needs
-
 loop-again : tie.Need-loop-again Inv-loop μ-loop
 loop-again c =
     let s = c .before .before .before .before .before .before .before .before .before .before .before .before .before .before in
@@ -84,12 +60,6 @@ loop-again c =
       omega (arith, s .pre .shallow (cell (s .args .tail .now) (l .loop .i)), c .deeper .ensures),
       rw (c .before .join .ensures, c .deeper .ensures) (rest-more _ _ _ _ _ _ _ _ _ (c .before .before .before .before .before .before .loop-test .taken) (c .before .before .before .if2 .left) ∙ l .loop .inv .2),
     )
-
-finish-requires : tie.Need-finish-requires Inv-loop μ-loop
-finish-requires c κs = search needs
-
-add-depth : tie.Need-add-depth Inv-loop μ-loop
-add-depth c = search needs
 
 returns-3 : tie.Need-returns-3 Inv-loop μ-loop
 returns-3 c =
@@ -104,22 +74,22 @@ candidate-spec =
     (tie.spec
     Inv-loop
     μ-loop
-    is-struck-requires
+    (λ c κs. search needs)
     returns
-    unit-requires
+    (λ c κs. search needs)
     loop-holds
-    mul-v
-    shared-slice-read-v
+    (λ c. search needs)
+    (λ c. search needs)
     mul-depth
     shared-slice-read-depth
     returns-2
     mul-weight
     shared-slice-read-weight
-    join-requires
-    deeper-requires
-    add-i
-    loop-less
+    (λ c κs. search needs)
+    (λ c κs. search needs)
+    (λ c. search needs)
+    (λ c. search needs)
     loop-again
-    finish-requires
-    add-depth
+    (λ c κs. search needs)
+    (λ c. search needs)
     returns-3)

@@ -1,6 +1,6 @@
 -- `reading::check_text` meets its contract. The invariant: the lines passed make a table, and what is left has the answer of the whole. Assumes nothing.
-use mathlib.Core.Path.{_≡_, sym, _∙_, ap}
-use Prim.Native.Nat.{ℕ, _+_, _-_, _≤_, _<_}
+use mathlib.Core.Path.{_≡_, sym, _∙_}
+use Prim.Native.Nat.{_+_, _-_, _≤_, _<_}
 use native.Mathlib.Omega.{arith}
 use borrow.Author.Needs.{needs}
 use lib.ListN.{length}
@@ -17,17 +17,8 @@ Inv-loop text n measure start room₀ at₀ edges₀ listed₀ room at edges lis
 abbrev μ-loop : tie.MeasureT-loop
 μ-loop text n measure start room₀ at₀ edges₀ listed₀ room at edges listed = length text - at
 
-first-line-requires : tie.Need-first-line-requires Inv-loop μ-loop
-first-line-requires c κs = search needs
-
-enum-known-first : tie.Need-enum-known-first Inv-loop μ-loop
-enum-known-first c = search needs
-
 enum-told : tie.Need-enum-told Inv-loop μ-loop
 enum-told c = search needs
-
-wrong-requires : tie.Need-wrong-requires Inv-loop μ-loop
-wrong-requires c κs = search needs
 
 returns : tie.Need-returns Inv-loop μ-loop
 returns c = c .wrong .ensures ∙ told _ (Wrong 1) (scan-unopened _ (sym (c .before .before .before .first-line .ensures) ∙ c .before .enum-told .given .1))
@@ -38,9 +29,6 @@ loop-holds c = (search needs, scan-begun _ _ _ _ (sym (c .before .before .before
 add-number : tie.Need-add-number Inv-loop μ-loop
 add-number c = let f = c .before .loop .inv .1 .few in omega arith
 
-wrong-requires-2 : tie.Need-wrong-requires-2 Inv-loop μ-loop
-wrong-requires-2 c κs = search needs
-
 returns-2 : tie.Need-returns-2 Inv-loop μ-loop
 returns-2 c = let t = c .before in let l = t .before .before in c .wrong2 .ensures ∙ told _ (Wrong (l .loop .edges + 2)) (scan-full _ _ _ _ _ _ (l .loop .inv .1) (t .before .loop-test .taken) (t .if1 .taken))
 
@@ -49,18 +37,6 @@ sub-most c = c .before .before .loop .inv .1 .few-listed
 
 slice-aggregate-line-at : tie.Need-slice-aggregate-line-at Inv-loop μ-loop
 slice-aggregate-line-at c = sym (c .before .before .before .loop .inv .0)
-
-line-at-requires : tie.Need-line-at-requires Inv-loop μ-loop
-line-at-requires c κs = search needs
-
-enum-known-line : tie.Need-enum-known-line Inv-loop μ-loop
-enum-known-line c = search needs
-
-enum-told-2 : tie.Need-enum-told-2 Inv-loop μ-loop
-enum-told-2 c = search needs
-
-wrong-requires-3 : tie.Need-wrong-requires-3 Inv-loop μ-loop
-wrong-requires-3 c κs = search needs
 
 returns-3 : tie.Need-returns-3 Inv-loop μ-loop
 returns-3 c =
@@ -103,21 +79,21 @@ check-text-spec =
     (tie.spec
     Inv-loop
     μ-loop
-    first-line-requires
-    enum-known-first
+    (λ c κs. search needs)
+    (λ c. search needs)
     enum-told
-    wrong-requires
+    (λ c κs. search needs)
     returns
     loop-holds
     add-number
-    wrong-requires-2
+    (λ c κs. search needs)
     returns-2
     sub-most
     slice-aggregate-line-at
-    line-at-requires
-    enum-known-line
-    enum-told-2
-    wrong-requires-3
+    (λ c κs. search needs)
+    (λ c. search needs)
+    (λ c. search needs)
+    (λ c κs. search needs)
     returns-3
     add-edges
     add-listed

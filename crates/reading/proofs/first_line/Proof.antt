@@ -1,12 +1,11 @@
 -- `reading::first_line` meets its contract. Assumes nothing.
 use mathlib.Core.Path.{_≡_, sym, _∙_, ap}
 use mathlib.Core.List.{List, _++_, [], _∷_}
-use mathlib.Core.Bool.{Bool}
 use Prim.Native.Nat.{ℕ, _+_}
 use native.Mathlib.Omega.{arith}
 use borrow.Author.Needs.{needs}
 use borrow.Author.Tests.{not-true, not-false}
-use lib.ListN.{length, getD, drop, length-drop}
+use lib.ListN.{getD, drop, length-drop}
 use Rattle.weights.specs.declared.Measure.{Measure}
 use Rattle.columns.specs.Acceptance.{mostVertices}
 use Rattle.text.specs.Render.{word, opening}
@@ -21,12 +20,6 @@ use Rattle.reading.proofs.Laws.{first-unopened, first-opened, count-sil
 use Rattle.reading.proofs.first_line.Statement.{statement}
 use Rattle.reading.proofs.first_line.Tie as tie
 
-slice-aggregate-starts-with : tie.Need-slice-aggregate-starts-with
-slice-aggregate-starts-with c = search needs
-
-starts-with-requires : tie.Need-starts-with-requires
-starts-with-requires c κs = search needs
-
 returns : tie.Need-returns
 unfolding opening
 returns c = first-unopened _ (sym (c .before .starts-with .ensures) ∙ not-true _ (c .if1 .taken))
@@ -36,23 +29,11 @@ opened : (c : tie.Else1) → let s = c .before .before .before .before .args .te
 unfolding opening
 opened c = first-opened _ (sym (c .before .starts-with .ensures) ∙ not-false _ (c .if1 .left))
 
-add-number-at : tie.Need-add-number-at
-add-number-at c = search needs
-
-number-at-requires : tie.Need-number-at-requires
-number-at-requires c κs = search needs
-
-enum-known-found : tie.Need-enum-known-found
-enum-known-found c = search needs
-
 enum-told : tie.Need-enum-told
 enum-told c = search needs
 
 returns-2 : tie.Need-returns-2
 returns-2 c = ap (onCount _) (sym (c .enum-told .given .1) ∙ c .before .before .number-at .ensures) ∙ opened (c .before .before .before)
-
-byte-at-requires : tie.Need-byte-at-requires
-byte-at-requires c κs = search needs
 
 abbrev text : tie.After-known-told → List ℕ
 text c = c .before .before .before .before .before .before .before .before .args .text .now
@@ -72,9 +53,6 @@ unended c e = c .if2 .left (c .before .byte-at .ensures ∙ e)
 add-start : tie.Need-add-start
 add-start c = let k = c .before .before in omega (arith, byte-within (text k) (behind k) 10 (ended c) (omega arith))
 
-default-measure-requires : tie.Need-default-measure-requires
-default-measure-requires c κs = search needs
-
 returns-3 : tie.Need-returns-3
 returns-3 c =
     let t = c .before in
@@ -87,15 +65,6 @@ sub-starts-with c = number-counts _ _ _ _ _ (counted (c .before .before)) .2
 part-starts-with-start : tie.Need-part-starts-with-start
 part-starts-with-start c = let h = number-counts _ _ _ _ _ (counted (c .before .before)) .2 in search (needs, h)
 
-part-starts-with-end : tie.Need-part-starts-with-end
-part-starts-with-end c = search needs
-
-slice-aggregate-starts-with-2 : tie.Need-slice-aggregate-starts-with-2
-slice-aggregate-starts-with-2 c = search needs
-
-starts-with-requires-2 : tie.Need-starts-with-requires-2
-starts-with-requires-2 c κs = search needs
-
 -- the word, looked for in the part of the text behind the number
 named : (c : tie.After-starts-with2) → let k = c .before .before .before .before .before in c .starts-with2 .result ≡ startsWith (word ++ 10 ∷ []) (drop (behind k) (text k))
 unfolding word
@@ -107,9 +76,6 @@ add-start-2 c =
     let k = c .before .before .before .before .before .before in
     let l = starts-length (word ++ 10 ∷ []) (drop (behind k) (text k)) (sym (named (c .before)) ∙ c .if3 .taken) in
     omega (arith, length-drop (behind k) (text k), l)
-
-named-measure-requires : tie.Need-named-measure-requires
-named-measure-requires c κs = search needs
 
 returns-4 : tie.Need-returns-4
 returns-4 c =
@@ -125,24 +91,24 @@ pub first-line-spec : {M : Type 1} → statement M
 first-line-spec =
     tie.close
     (tie.spec
-    slice-aggregate-starts-with
-    starts-with-requires
+    (λ c. search needs)
+    (λ c κs. search needs)
     returns
-    add-number-at
-    number-at-requires
-    enum-known-found
+    (λ c. search needs)
+    (λ c κs. search needs)
+    (λ c. search needs)
     enum-told
     returns-2
-    byte-at-requires
+    (λ c κs. search needs)
     add-start
-    default-measure-requires
+    (λ c κs. search needs)
     returns-3
     sub-starts-with
     part-starts-with-start
-    part-starts-with-end
-    slice-aggregate-starts-with-2
-    starts-with-requires-2
+    (λ c. search needs)
+    (λ c. search needs)
+    (λ c κs. search needs)
     add-start-2
-    named-measure-requires
+    (λ c κs. search needs)
     returns-4
     returns-5)

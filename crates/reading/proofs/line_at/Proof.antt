@@ -8,12 +8,6 @@ use Rattle.reading.proofs.Laws.{line-unstemmed, line-listed}
 use Rattle.reading.proofs.line_at.Statement.{statement}
 use Rattle.reading.proofs.line_at.Tie as tie
 
-stem-at-requires : tie.Need-stem-at-requires
-stem-at-requires c κs = search needs
-
-enum-known-stem : tie.Need-enum-known-stem
-enum-known-stem c = search needs
-
 enum-told : tie.Need-enum-told
 enum-told c = search needs
 
@@ -25,23 +19,8 @@ stemmed : (c : tie.After-known-told) → let a = c .before .before .before .befo
     stemAt (a .text .now) (a .n) (a .at) ≡ stem.Read (c .before .stem .given .0 .0) (c .before .stem .given .0 .1 .0) (c .before .stem .given .0 .1 .1 .0)
 stemmed c = sym (c .before .before .before .stem-at .ensures) ∙ c .before .stem .given .1
 
-tail-at-requires : tie.Need-tail-at-requires
-tail-at-requires c κs = search needs
-
-enum-known-tail : tie.Need-enum-known-tail
-enum-known-tail c = search needs
-
-enum-told-2 : tie.Need-enum-told-2
-enum-told-2 c = search needs
-
-same-length : tie.Need-same-length
-same-length c = search needs
-
 returns-2 : tie.Need-returns-2
 returns-2 c = let t = c .before .before .before .before in line-listed _ _ _ _ _ _ _ _ _ tail.Wrong (stemmed (t .before .before)) (rw (c .enum-told2 .given .1) at (t .tail-at .ensures))
-
-same-length-2 : tie.Need-same-length-2
-same-length-2 c = search needs
 
 returns-3 : tie.Need-returns-3
 returns-3 c = let t = c .before .before .before .before .before in line-listed _ _ _ _ _ _ _ _ _ (tail.Ends (c .before .tail .given .0 .0) (c .before .tail .given .0 .1 .0)) (stemmed (t .before .before)) (rw (c .before .tail .given .1) at (t .tail-at .ensures))
@@ -50,14 +29,14 @@ pub line-at-spec : {M : Type 1} → statement M
 line-at-spec =
     tie.close
     (tie.spec
-    stem-at-requires
-    enum-known-stem
+    (λ c κs. search needs)
+    (λ c. search needs)
     enum-told
     returns
-    tail-at-requires
-    enum-known-tail
-    enum-told-2
-    same-length
+    (λ c κs. search needs)
+    (λ c. search needs)
+    (λ c. search needs)
+    (λ c. search needs)
     returns-2
-    same-length-2
+    (λ c. search needs)
     returns-3)

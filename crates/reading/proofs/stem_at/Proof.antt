@@ -11,21 +11,12 @@ use Rattle.reading.proofs.Laws.{stem-none, stem-own}
 use Rattle.reading.proofs.stem_at.Statement.{statement}
 use Rattle.reading.proofs.stem_at.Tie as tie
 
-number-at-requires : tie.Need-number-at-requires
-number-at-requires c κs = search needs
-
-enum-known-found : tie.Need-enum-known-found
-enum-known-found c = search needs
-
 enum-told : tie.Need-enum-told
 enum-told c = search needs
 
 returns : tie.Need-returns
 unfolding stemAt
 returns c = ap (onHead _) (sym (c .enum-told .given .1) ∙ c .before .before .number-at .ensures)
-
-byte-at-requires : tie.Need-byte-at-requires
-byte-at-requires c κs = search needs
 
 -- the head that was found, and the byte behind it
 headed : (c : tie.After-known-told) → let a = c .before .before .before .before .before .args in numberAt (a .text .now) (a .at) (a .n) ≡ Number (c .before .found .given .0 .0) (c .before .found .given .0 .1 .0)
@@ -41,15 +32,6 @@ returns-2 c = stem-none _ _ _ _ (headed (c .before .before)) (λ e. c .if1 .take
 add-from : tie.Need-add-from
 add-from c = let h = c .before .before in omega (arith, byte-within (h .before .before .before .before .before .args .text .now) (h .before .found .given .0 .1 .0) 32 (spaced c) (omega arith))
 
-weight-at-requires : tie.Need-weight-at-requires
-weight-at-requires c κs = search needs
-
-enum-known-weight : tie.Need-enum-known-weight
-enum-known-weight c = search needs
-
-enum-told-2 : tie.Need-enum-told-2
-enum-told-2 c = search needs
-
 returns-3 : tie.Need-returns-3
 unfolding stemAt
 returns-3 c = let e = c .before .before .before in ap (onOwn _) (sym (c .enum-told2 .given .1) ∙ c .before .before .weight-at .ensures) ∙ stem-own _ _ _ _ (headed (e .before .before)) (spaced e)
@@ -62,15 +44,15 @@ pub stem-at-spec : {M : Type 1} → statement M
 stem-at-spec =
     tie.close
     (tie.spec
-    number-at-requires
-    enum-known-found
+    (λ c κs. search needs)
+    (λ c. search needs)
     enum-told
     returns
-    byte-at-requires
+    (λ c κs. search needs)
     returns-2
     add-from
-    weight-at-requires
-    enum-known-weight
-    enum-told-2
+    (λ c κs. search needs)
+    (λ c. search needs)
+    (λ c. search needs)
     returns-3
     returns-4)

@@ -1,10 +1,10 @@
 -- `reading::tail_at` meets its contract. The invariant: k vertices are listed and stored, and what follows has the answer of the whole. Assumes nothing.
 use mathlib.Core.Path.{_≡_, sym, _∙_}
-use Prim.Native.Nat.{ℕ, _+_, _*_, _-_, _≤_, _<_, _^_, min}
+use Prim.Native.Nat.{_+_, _-_, _<_, min}
 use native.Mathlib.Omega.{arith}
 use borrow.Author.Needs.{needs}
 use lib.ListN.{length, getD}
-use Rattle.cursor.specs.declared.Found.the-variants.{Number, NotANumber}
+use Rattle.cursor.specs.declared.Found.the-variants.{Number}
 use Rattle.cursor.specs.Cursor.{numberAt}
 use Rattle.cursor.specs.Laws.{byte-within, number-counts}
 use Rattle.reading.proofs.Laws.{Listed, listed-none, list-full, list-none, list-more, list-broken, list-ends}
@@ -36,9 +36,6 @@ roomy c =
 loop-holds : tie.Need-loop-holds Inv-loop μ-loop
 loop-holds c = listed-none _ _ _ _ _
 
-byte-at-requires : tie.Need-byte-at-requires Inv-loop μ-loop
-byte-at-requires c κs = search needs
-
 same-length : tie.Need-same-length Inv-loop μ-loop
 same-length c = c .before .before .before .loop .inv .long
 
@@ -53,12 +50,6 @@ returns-2 c = let l = c .before .before .before .before in list-full _ _ _ _ _ _
 
 add-from : tie.Need-add-from Inv-loop μ-loop
 add-from c = let l = c .before .before .before .before in omega (arith, byte-within (l .before .before .before .args .text .now) (l .loop .next) 32 (spaced (c .before .before)) (omega arith))
-
-number-at-requires : tie.Need-number-at-requires Inv-loop μ-loop
-number-at-requires c κs = search needs
-
-enum-known-found : tie.Need-enum-known-found Inv-loop μ-loop
-enum-known-found c = search needs
 
 enum-told : tie.Need-enum-told Inv-loop μ-loop
 enum-told c = search needs
@@ -77,23 +68,11 @@ listed : (c : tie.After-known-told Inv-loop μ-loop) → let l = c .before .befo
     numberAt (a .text .now) (l .loop .next + 1) (a .n) ≡ Number (c .before .found .given .0 .0) (c .before .found .given .0 .1 .0)
 listed c = sym (c .before .before .before .number-at .ensures) ∙ c .before .found .given .1
 
-mul-room : tie.Need-mul-room Inv-loop μ-loop
-mul-room c = search needs
-
-slice-write-room : tie.Need-slice-write-room Inv-loop μ-loop
-slice-write-room c = search needs
-
-add-k : tie.Need-add-k Inv-loop μ-loop
-add-k c = search needs
-
 loop-less : tie.Need-loop-less Inv-loop μ-loop
 loop-less c = let h = number-counts _ _ _ _ _ (listed c) in let a = h .1 in let b = h .2 in omega arith
 
 loop-again : tie.Need-loop-again Inv-loop μ-loop
 loop-again c = let e = c .before .before .before .before in list-more _ _ _ _ _ _ _ _ (e .before .before .before .before .loop .inv) _ _ (spaced (e .before .before)) (roomy e) (listed c)
-
-byte-at-requires-2 : tie.Need-byte-at-requires-2 Inv-loop μ-loop
-byte-at-requires-2 c κs = search needs
 
 same-length-4 : tie.Need-same-length-4 Inv-loop μ-loop
 same-length-4 c = c .before .before .before .before .loop .inv .long
@@ -117,23 +96,23 @@ tail-at-spec =
     Inv-loop
     μ-loop
     loop-holds
-    byte-at-requires
+    (λ c κs. search needs)
     same-length
     returns
     same-length-2
     returns-2
     add-from
-    number-at-requires
-    enum-known-found
+    (λ c κs. search needs)
+    (λ c. search needs)
     enum-told
     same-length-3
     returns-3
-    mul-room
-    slice-write-room
-    add-k
+    (λ c. search needs)
+    (λ c. search needs)
+    (λ c. search needs)
     loop-less
     loop-again
-    byte-at-requires-2
+    (λ c κs. search needs)
     same-length-4
     returns-4
     add-behind

@@ -1,15 +1,13 @@
 -- `readtable::fill` meets its contract. The invariant: i hyperedges and k vertices are in the columns, and the lines left are those of the text. Assumes nothing.
-use mathlib.Core.Path.{_≡_, sym, _∙_, ap}
-use Prim.Native.Nat.{ℕ, _+_, _*_, _-_, _≤_, _<_, _^_}
+use mathlib.Core.Path.{sym, _∙_}
+use Prim.Native.Nat.{_+_, _*_, _-_, _≤_, _<_, _^_}
 use native.Mathlib.Omega.{arith}
 use borrow.Author.Needs.{needs}
 use lib.ListN.{length, length-set}
 use Rattle.text.specs.Sound.{never}
-use Rattle.reading.specs.declared.FirstLine.the-variants as first
-use Rattle.reading.specs.Lines.{firstLine}
 use Rattle.reading.specs.Scanned.{scan-is-parse}
 use Rattle.reading.specs.Scanning.{scan-unopened, scan-begun, scan-begun-edges}
-use Rattle.readtable.proofs.Laws.{Filling, filling-none, LineHere, here, tails-room, edge-room, never-wrong, filling-next, filling-end}
+use Rattle.readtable.proofs.Laws.{Filling, filling-none, tails-room, edge-room, never-wrong, filling-next, filling-end}
 use Rattle.readtable.proofs.fill.Statement.{statement}
 use Rattle.readtable.proofs.fill.Tie as tie
 
@@ -18,12 +16,6 @@ Inv-loop text heads₀ own₀ spans₀ tails₀ n start at₀ i₀ k₀ heads ow
 
 abbrev μ-loop : tie.MeasureT-loop
 μ-loop text heads₀ own₀ spans₀ tails₀ n start at₀ i₀ k₀ heads own spans tails at i k = length text - at
-
-first-line-requires : tie.Need-first-line-requires Inv-loop μ-loop
-first-line-requires c κs = search needs
-
-enum-known-first : tie.Need-enum-known-first Inv-loop μ-loop
-enum-known-first c = search needs
 
 enum-told : tie.Need-enum-told Inv-loop μ-loop
 enum-told c = search needs
@@ -63,18 +55,6 @@ sub-line-at c = roomy c
 
 part-line-at-start : tie.Need-part-line-at-start Inv-loop μ-loop
 part-line-at-start c = let r = roomy c in search (needs, r)
-
-part-line-at-end : tie.Need-part-line-at-end Inv-loop μ-loop
-part-line-at-end c = search needs
-
-line-at-requires : tie.Need-line-at-requires Inv-loop μ-loop
-line-at-requires c κs = search needs
-
-enum-known-line : tie.Need-enum-known-line Inv-loop μ-loop
-enum-known-line c = search needs
-
-enum-told-2 : tie.Need-enum-told-2 Inv-loop μ-loop
-enum-told-2 c = search needs
 
 same-length : tie.Need-same-length Inv-loop μ-loop
 same-length c = c .before .before .before .before .before .before .before .loop .inv .heads-long
@@ -177,18 +157,18 @@ fill-spec =
     (tie.spec
     Inv-loop
     μ-loop
-    first-line-requires
-    enum-known-first
+    (λ c κs. search needs)
+    (λ c. search needs)
     enum-told
     returns
     loop-holds
     mul-line-at
     sub-line-at
     part-line-at-start
-    part-line-at-end
-    line-at-requires
-    enum-known-line
-    enum-told-2
+    (λ c. search needs)
+    (λ c κs. search needs)
+    (λ c. search needs)
+    (λ c. search needs)
     same-length
     same-length-2
     same-length-3

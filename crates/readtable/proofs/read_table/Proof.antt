@@ -1,16 +1,10 @@
 -- `readtable::read_table` meets its contract. Assumes nothing.
-use mathlib.Core.Path.{_≡_, sym, _∙_}
+use mathlib.Core.Path.{sym, _∙_}
 use borrow.Author.Needs.{needs}
 use borrow.Author.Tests.{not-true, not-false}
 use Rattle.readtable.proofs.Laws.{read-wrong, Holding, holding, read-short, read-ready, read-whole}
 use Rattle.readtable.proofs.read_table.Statement.{statement}
 use Rattle.readtable.proofs.read_table.Tie as tie
-
-check-text-requires : tie.Need-check-text-requires
-check-text-requires c κs = search needs
-
-enum-known-reading : tie.Need-enum-known-reading
-enum-known-reading c = search needs
 
 enum-told : tie.Need-enum-told
 enum-told c = search needs
@@ -22,9 +16,6 @@ returns c = read-wrong _ _ _ _ _ _ _ (c .before .before .check-text .ensures) (c
 held : (c : tie.After-known-told) → Holding (c .before .before .before .before .before .before .before .before .before .args .text .now) (c .before .reading .given .0 .0)
 held c = holding _ _ _ (c .before .before .before .check-text .ensures) (c .before .reading .given .1)
 
-room-for-requires : tie.Need-room-for-requires
-room-for-requires c κs = search needs
-
 returns-2 : tie.Need-returns-2
 returns-2 c = read-short _ _ (held (c .before .before)) _ _ _ _ (sym (not-true _ (c .if1 .taken)) ∙ c .before .room-for .ensures)
 
@@ -33,18 +24,6 @@ fill-requires c κs =
     let e = c .before .before .before .before in
     let a = e .before .before .before .before .before .before .before .before .before .before .before .args in
     read-ready _ _ (held (e .before .before)) (a .heads .now) (a .own .now) (a .spans .now) (a .tails .now) (sym (not-false _ (e .if1 .left)) ∙ e .before .room-for .ensures)
-
-same-length : tie.Need-same-length
-same-length c = search needs
-
-same-length-2 : tie.Need-same-length-2
-same-length-2 c = search needs
-
-same-length-3 : tie.Need-same-length-3
-same-length-3 c = search needs
-
-same-length-4 : tie.Need-same-length-4
-same-length-4 c = search needs
 
 returns-3 : tie.Need-returns-3
 returns-3 c =
@@ -57,15 +36,15 @@ pub read-table-spec : {M : Type 1} → statement M
 read-table-spec =
     tie.close
     (tie.spec
-    check-text-requires
-    enum-known-reading
+    (λ c κs. search needs)
+    (λ c. search needs)
     enum-told
     returns
-    room-for-requires
+    (λ c κs. search needs)
     returns-2
     fill-requires
-    same-length
-    same-length-2
-    same-length-3
-    same-length-4
+    (λ c. search needs)
+    (λ c. search needs)
+    (λ c. search needs)
+    (λ c. search needs)
     returns-3)

@@ -19,9 +19,6 @@ whole : (c : tie.Start) → length (names ++ back c) ≤ length (c .args .room .
 unfolding list
 whole c = c .pre
 
-slice-aggregate-put-bytes : tie.Need-slice-aggregate-put-bytes
-slice-aggregate-put-bytes c = search needs
-
 put-bytes-requires : tie.Need-put-bytes-requires
 unfolding list names
 put-bytes-requires c κs = let s = c .before .before .before .before .before .before in first-fits names (back s) (s .args .room .now) (whole s)
@@ -32,9 +29,6 @@ sub-put-rows c = let s = c .before .before .before .before .before .before .befo
 
 part-put-rows-start : tie.Need-part-put-rows-start
 part-put-rows-start c = let r = sub-put-rows c in search (needs, r)
-
-part-put-rows-end : tie.Need-part-put-rows-end
-part-put-rows-end c = search needs
 
 put-rows-requires : tie.Need-put-rows-requires
 unfolding list names
@@ -62,11 +56,11 @@ pub put-list-spec : {M : Type 1} → statement M
 put-list-spec =
     tie.close
     (tie.spec
-    slice-aggregate-put-bytes
+    (λ c. search needs)
     put-bytes-requires
     sub-put-rows
     part-put-rows-start
-    part-put-rows-end
+    (λ c. search needs)
     put-rows-requires
     add-result
     same-length

@@ -19,26 +19,8 @@ refused c = priced-refused _ _ _ _ _ (c .before .before .before .before .before 
 accepted : (c : tie.After-enum-told) → let s = c .before .before .before .before .before .before .before .before .before .before .before .before .before .before .before .before .before .before .before .before in let k = c .before .before .before .before .before .before .before .before .settle in priced (s .args .n) (settled (s .args .measure) (columns (s .args .n) (s .args .heads .now) (s .args .own .now) (s .args .spans .now) (s .args .tails .now)) (answers (s .args .weights .now) (s .args .depths .now) (s .args .edges .now))) ≡ list (answers (k .last .1 .1 .1 .1 .1 .1 .0) (k .last .1 .1 .1 .1 .1 .1 .1 .0) (k .last .1 .1 .1 .1 .1 .1 .1 .1 .0)) (length (k .last .1 .1 .1 .1 .1 .1 .1 .0))
 accepted c = priced-accepted _ _ _ _ _ (c .before .before .before .before .before .before .before .before .settle .ensures) (c .enum-told .given .1)
 
-settle-requires : tie.Need-settle-requires
-settle-requires c κs = search needs
-
-enum-known-answer : tie.Need-enum-known-answer
-enum-known-answer c = search needs
-
 put-refused-requires : tie.Need-put-refused-requires
 put-refused-requires c κs = let a = c .before .before in subst (λ (z : List ℕ). length z ≤ length (a .before .before .before .before .before .before .before .before .before .before .before .before .before .before .before .before .before .before .before .before .args .room .now)) (refused a) (a .before .before .before .before .before .before .before .before .before .before .before .before .before .before .before .before .before .before .before .before .pre)
-
-same-length : tie.Need-same-length
-same-length c = search needs
-
-same-length-2 : tie.Need-same-length-2
-same-length-2 c = search needs
-
-same-length-3 : tie.Need-same-length-3
-same-length-3 c = search needs
-
-same-length-4 : tie.Need-same-length-4
-same-length-4 c = search needs
 
 returns : tie.Need-returns
 returns c = let p = c .before .before in written-as _ _ _ (sym (refused (p .before .before .before))) (p .put-refused .ensures)
@@ -49,18 +31,6 @@ enum-told c = search needs
 put-list-requires : tie.Need-put-list-requires
 put-list-requires c κs = let a = c .before .before .before .before in subst (λ (z : List ℕ). length z ≤ length (a .before .before .before .before .before .before .before .before .before .before .before .before .before .before .before .before .before .before .before .before .args .room .now)) (accepted a) (a .before .before .before .before .before .before .before .before .before .before .before .before .before .before .before .before .before .before .before .before .pre)
 
-same-length-5 : tie.Need-same-length-5
-same-length-5 c = search needs
-
-same-length-6 : tie.Need-same-length-6
-same-length-6 c = search needs
-
-same-length-7 : tie.Need-same-length-7
-same-length-7 c = search needs
-
-same-length-8 : tie.Need-same-length-8
-same-length-8 c = search needs
-
 returns-2 : tie.Need-returns-2
 returns-2 c = let p = c .before .before in written-as _ _ _ (sym (accepted (p .before .before .before .before .before))) (p .put-list .ensures)
 
@@ -68,18 +38,18 @@ pub put-priced-spec : {M : Type 1} → statement M
 put-priced-spec =
     tie.close
     (tie.spec
-    settle-requires
-    enum-known-answer
+    (λ c κs. search needs)
+    (λ c. search needs)
     put-refused-requires
-    same-length
-    same-length-2
-    same-length-3
-    same-length-4
+    (λ c. search needs)
+    (λ c. search needs)
+    (λ c. search needs)
+    (λ c. search needs)
     returns
     enum-told
     put-list-requires
-    same-length-5
-    same-length-6
-    same-length-7
-    same-length-8
+    (λ c. search needs)
+    (λ c. search needs)
+    (λ c. search needs)
+    (λ c. search needs)
     returns-2)

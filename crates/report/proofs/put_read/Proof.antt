@@ -11,9 +11,6 @@ use Rattle.report.proofs.Laws.{zeros-long, priced-blank}
 use Rattle.report.proofs.put_read.Statement.{statement}
 use Rattle.report.proofs.put_read.Tie as tie
 
-mul-places : tie.Need-mul-places
-mul-places c = search needs
-
 slice-aggregate-put-priced : tie.Need-slice-aggregate-put-priced
 slice-aggregate-put-priced c = let s = c .before .before .before .before .before .before .before in sym (length-take-le (s .args .header .edges) (s .args .heads .now) (s .pre .heads))
 
@@ -26,29 +23,17 @@ slice-aggregate-put-priced-3 c = let s = c .before .before .before .before .befo
 slice-aggregate-put-priced-4 : tie.Need-slice-aggregate-put-priced-4
 slice-aggregate-put-priced-4 c = let s = c .before .before .before .before .before .before .before .before .before .before in sym (length-take-le (s .args .header .listed) (s .args .tails .now) (s .pre .tails))
 
-array-borrow-prefix-weights : tie.Need-array-borrow-prefix-weights
-array-borrow-prefix-weights c = search needs
-
 slice-aggregate-put-priced-5 : tie.Need-slice-aggregate-put-priced-5
 slice-aggregate-put-priced-5 c = let s = c .before .before .before .before .before .before .before .before .before .before .before in zeros-long (s .args .header .vertices) (s .pre .few)
 
-array-borrow-prefix-depths : tie.Need-array-borrow-prefix-depths
-array-borrow-prefix-depths c = search needs
-
 slice-aggregate-put-priced-6 : tie.Need-slice-aggregate-put-priced-6
 slice-aggregate-put-priced-6 c = let s = c .before .before .before .before .before .before .before .before .before .before .before .before in zeros-long (s .args .header .vertices) (s .pre .few)
-
-array-borrow-prefix-edges : tie.Need-array-borrow-prefix-edges
-array-borrow-prefix-edges c = search needs
 
 slice-aggregate-put-priced-7 : tie.Need-slice-aggregate-put-priced-7
 slice-aggregate-put-priced-7 c = let s = c .before .before .before .before .before .before .before .before .before .before .before .before .before in zeros-long (s .args .header .vertices) (s .pre .few)
 
 put-priced-requires : tie.Need-put-priced-requires
 put-priced-requires c κs = let s = c .before .before .before .before .before .before .before .before .before .before .before .before .before in subst (λ (z : List ℕ). length z ≤ length (s .args .room .now)) (sym (priced-blank (s .args .header .measure) (lentColumns (s .args .header) (s .args .heads .now) (s .args .own .now) (s .args .spans .now) (s .args .tails .now)) (s .args .header .vertices) (s .pre .few))) (s .pre .fits)
-
-same-length : tie.Need-same-length
-same-length c = search needs
 
 returns : tie.Need-returns
 returns c = let p = c .before .before .before .before .before in let s = p .before .before .before .before .before .before .before .before .before .before .before .before .before .before in written-as _ _ _ (priced-blank (s .args .header .measure) (lentColumns (s .args .header) (s .args .heads .now) (s .args .own .now) (s .args .spans .now) (s .args .tails .now)) (s .args .header .vertices) (s .pre .few)) (p .put-priced .ensures)
@@ -57,17 +42,17 @@ pub put-read-spec : {M : Type 1} → statement M
 put-read-spec =
     tie.close
     (tie.spec
-    mul-places
+    (λ c. search needs)
     slice-aggregate-put-priced
     slice-aggregate-put-priced-2
     slice-aggregate-put-priced-3
     slice-aggregate-put-priced-4
-    array-borrow-prefix-weights
+    (λ c. search needs)
     slice-aggregate-put-priced-5
-    array-borrow-prefix-depths
+    (λ c. search needs)
     slice-aggregate-put-priced-6
-    array-borrow-prefix-edges
+    (λ c. search needs)
     slice-aggregate-put-priced-7
     put-priced-requires
-    same-length
+    (λ c. search needs)
     returns)

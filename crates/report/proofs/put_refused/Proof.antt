@@ -23,15 +23,6 @@ split c = refused-split (c .before .before .before .args .refusal) ∙ ap₂ (λ
 whole : (c : tie.After-place) → length (refusedWord ++ back c) ≤ length (c .before .before .before .args .room .now)
 whole c = let e = ap length (split c) in let p = c .before .before .before .pre in omega arith
 
-number-requires : tie.Need-number-requires
-number-requires c κs = search needs
-
-place-requires : tie.Need-place-requires
-place-requires c κs = search needs
-
-slice-aggregate-put-bytes : tie.Need-slice-aggregate-put-bytes
-slice-aggregate-put-bytes c = search needs
-
 put-bytes-requires : tie.Need-put-bytes-requires
 unfolding refusedWord
 put-bytes-requires c κs = let s = c .before .before in first-fits refusedWord (back s) (s .before .before .before .args .room .now) (whole s)
@@ -42,12 +33,6 @@ sub-put-tail c = let s = c .before .before .before .before .before in within ref
 
 part-put-tail-start : tie.Need-part-put-tail-start
 part-put-tail-start c = let r = sub-put-tail c in search (needs, r)
-
-part-put-tail-end : tie.Need-part-put-tail-end
-part-put-tail-end c = search needs
-
-slice-aggregate-put-tail : tie.Need-slice-aggregate-put-tail
-slice-aggregate-put-tail c = search needs
 
 put-tail-requires : tie.Need-put-tail-requires
 unfolding refusedWord
@@ -75,14 +60,14 @@ pub put-refused-spec : {M : Type 1} → statement M
 put-refused-spec =
     tie.close
     (tie.spec
-    number-requires
-    place-requires
-    slice-aggregate-put-bytes
+    (λ c κs. search needs)
+    (λ c κs. search needs)
+    (λ c. search needs)
     put-bytes-requires
     sub-put-tail
     part-put-tail-start
-    part-put-tail-end
-    slice-aggregate-put-tail
+    (λ c. search needs)
+    (λ c. search needs)
     put-tail-requires
     add-result
     same-length

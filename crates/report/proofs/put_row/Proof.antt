@@ -32,12 +32,6 @@ sub-put-tail c = let s = c .before .before .before .before .before .before .befo
 part-put-tail-start : tie.Need-part-put-tail-start
 part-put-tail-start c = let r = sub-put-tail c in search (needs, r)
 
-part-put-tail-end : tie.Need-part-put-tail-end
-part-put-tail-end c = search needs
-
-slice-aggregate-put-tail : tie.Need-slice-aggregate-put-tail
-slice-aggregate-put-tail c = search needs
-
 put-tail-requires : tie.Need-put-tail-requires
 put-tail-requires c κs = let k = c .before .before in let s = k .before .before .before .before .before .before .before in lent-room (front s) _ _ _ (k .before .before .put-stem .ensures) (back s) (whole s)
 
@@ -65,8 +59,8 @@ put-row-spec =
     put-stem-requires
     sub-put-tail
     part-put-tail-start
-    part-put-tail-end
-    slice-aggregate-put-tail
+    (λ c. search needs)
+    (λ c. search needs)
     put-tail-requires
     add-result
     same-length

@@ -20,17 +20,11 @@ loop-holds : tie.Need-loop-holds Inv-loop μ-loop
 unfolding rows
 loop-holds c = (omega arith, written-none _)
 
-entry-requires : tie.Need-entry-requires Inv-loop μ-loop
-entry-requires c κs = search needs
-
 sub-put-row : tie.Need-sub-put-row Inv-loop μ-loop
 sub-put-row c = let e = c in let l = e .before in let s = l .before .before .before .before .before .before in row-starts (answers (s .args .weights .now) (s .args .depths .now) (s .args .edges .now)) _ _ (l .before .loop .i) (length (s .args .depths .now)) (l .before .loop .at) (l .loop-test .taken) (l .before .loop .inv .1) (s .pre) (e .entry .result) (e .entry .ensures)
 
 part-put-row-start : tie.Need-part-put-row-start Inv-loop μ-loop
 part-put-row-start c = let r = sub-put-row c in search (needs, r)
-
-part-put-row-end : tie.Need-part-put-row-end Inv-loop μ-loop
-part-put-row-end c = search needs
 
 put-row-requires : tie.Need-put-row-requires Inv-loop μ-loop
 put-row-requires c κs = let e = c .before in let l = e .before in let s = l .before .before .before .before .before .before in row-room (answers (s .args .weights .now) (s .args .depths .now) (s .args .edges .now)) _ _ (l .before .loop .i) (length (s .args .depths .now)) (l .before .loop .at) (l .loop-test .taken) (l .before .loop .inv .1) (s .pre) (e .entry .result) (e .entry .ensures)
@@ -52,12 +46,6 @@ add-at c =
     let p = s .pre in
     omega (arith, s .good)
 
-add-i : tie.Need-add-i Inv-loop μ-loop
-add-i c = search needs
-
-loop-less : tie.Need-loop-less Inv-loop μ-loop
-loop-less c = search needs
-
 same-length : tie.Need-same-length Inv-loop μ-loop
 same-length c = c .before .loop .inv .1 .long
 
@@ -71,14 +59,14 @@ put-rows-spec =
     Inv-loop
     μ-loop
     loop-holds
-    entry-requires
+    (λ c κs. search needs)
     sub-put-row
     part-put-row-start
-    part-put-row-end
+    (λ c. search needs)
     put-row-requires
     add-at
-    add-i
-    loop-less
+    (λ c. search needs)
+    (λ c. search needs)
     loop-again
     same-length
     returns)

@@ -26,9 +26,6 @@ unmade c = ap (λ (s : State). 32 ∷ stateWord s) (c .enum-told3 .given .1)
 enum-told : tie.Need-enum-told
 enum-told c = search needs
 
-slice-aggregate-put-bytes : tie.Need-slice-aggregate-put-bytes
-slice-aggregate-put-bytes c = search needs
-
 put-bytes-requires : tie.Need-put-bytes-requires
 put-bytes-requires c κs = let t = c .before .before in let e = ap length (made t) in let p = t .before .before .before .pre in omega arith
 
@@ -38,12 +35,6 @@ returns c = let p = c .before .before in written-as _ _ _ (sym (made (p .before 
 same-length : tie.Need-same-length
 same-length c = returns c .long
 
-enum-told-2 : tie.Need-enum-told-2
-enum-told-2 c = search needs
-
-slice-aggregate-put-bytes-2 : tie.Need-slice-aggregate-put-bytes-2
-slice-aggregate-put-bytes-2 c = search needs
-
 put-bytes-requires-2 : tie.Need-put-bytes-requires-2
 put-bytes-requires-2 c κs = let t = c .before .before in let e = ap length (over t) in let p = t .before .before .before .pre in omega arith
 
@@ -52,12 +43,6 @@ returns-2 c = let p = c .before .before in written-as _ _ _ (sym (over (p .befor
 
 same-length-2 : tie.Need-same-length-2
 same-length-2 c = returns-2 c .long
-
-enum-told-3 : tie.Need-enum-told-3
-enum-told-3 c = search needs
-
-slice-aggregate-put-bytes-3 : tie.Need-slice-aggregate-put-bytes-3
-slice-aggregate-put-bytes-3 c = search needs
 
 put-bytes-requires-3 : tie.Need-put-bytes-requires-3
 put-bytes-requires-3 c κs = let t = c .before .before in let e = ap length (unmade t) in let p = t .before .before .before .pre in omega arith
@@ -73,17 +58,17 @@ put-state-spec =
     tie.close
     (tie.spec
     enum-told
-    slice-aggregate-put-bytes
+    (λ c. search needs)
     put-bytes-requires
     same-length
     returns
-    enum-told-2
-    slice-aggregate-put-bytes-2
+    (λ c. search needs)
+    (λ c. search needs)
     put-bytes-requires-2
     same-length-2
     returns-2
-    enum-told-3
-    slice-aggregate-put-bytes-3
+    (λ c. search needs)
+    (λ c. search needs)
     put-bytes-requires-3
     same-length-3
     returns-3)

@@ -30,9 +30,6 @@ sub-put-state c = let s = c .before .before .before .before .before in within (f
 part-put-state-start : tie.Need-part-put-state-start
 part-put-state-start c = let r = sub-put-state c in search (needs, r)
 
-part-put-state-end : tie.Need-part-put-state-end
-part-put-state-end c = search needs
-
 put-state-requires : tie.Need-put-state-requires
 put-state-requires c κs = let k = c .before in let s = k .before .before .before .before .before in lent-room (front s) _ _ _ (k .before .before .put-number .ensures) (back s) (whole s)
 
@@ -60,7 +57,7 @@ put-stem-spec =
     put-number-requires
     sub-put-state
     part-put-state-start
-    part-put-state-end
+    (λ c. search needs)
     put-state-requires
     add-result
     same-length

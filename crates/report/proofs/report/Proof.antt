@@ -36,44 +36,11 @@ put-refused-requires c κs = let k = c .before in report-within _ _ _ (c .put-re
 returns : tie.Need-returns
 returns c = reported _ _ _ _ _ (long (c .before .before)) (c .put-refused .ensures)
 
-slice-aggregate-read-table : tie.Need-slice-aggregate-read-table
-slice-aggregate-read-table c = search needs
-
-slice-aggregate-read-table-2 : tie.Need-slice-aggregate-read-table-2
-slice-aggregate-read-table-2 c = search needs
-
-slice-aggregate-read-table-3 : tie.Need-slice-aggregate-read-table-3
-slice-aggregate-read-table-3 c = search needs
-
-slice-aggregate-read-table-4 : tie.Need-slice-aggregate-read-table-4
-slice-aggregate-read-table-4 c = search needs
-
-read-table-requires : tie.Need-read-table-requires
-read-table-requires c κs = search needs
-
-enum-known-reading : tie.Need-enum-known-reading
-enum-known-reading c = search needs
-
 put-refused-requires-2 : tie.Need-put-refused-requires-2
 put-refused-requires-2 c κs = let k = c .before .before in report-within _ _ _ (c .put-refused-arg2 .given .0 .1) (wrong k)
 
 returns-2 : tie.Need-returns-2
 returns-2 c = reported _ _ _ _ _ (wrong (c .before .before .before)) (c .put-refused2 .ensures)
-
-enum-known-reading-2 : tie.Need-enum-known-reading-2
-enum-known-reading-2 c = search needs
-
-slice-aggregate-put-read : tie.Need-slice-aggregate-put-read
-slice-aggregate-put-read c = search needs
-
-slice-aggregate-put-read-2 : tie.Need-slice-aggregate-put-read-2
-slice-aggregate-put-read-2 c = search needs
-
-slice-aggregate-put-read-3 : tie.Need-slice-aggregate-put-read-3
-slice-aggregate-put-read-3 c = search needs
-
-slice-aggregate-put-read-4 : tie.Need-slice-aggregate-put-read-4
-slice-aggregate-put-read-4 c = search needs
 
 put-read-requires : tie.Need-put-read-requires
 unfolding readInput
@@ -88,18 +55,18 @@ report-spec =
     (tie.spec
     put-refused-requires
     returns
-    slice-aggregate-read-table
-    slice-aggregate-read-table-2
-    slice-aggregate-read-table-3
-    slice-aggregate-read-table-4
-    read-table-requires
-    enum-known-reading
+    (λ c. search needs)
+    (λ c. search needs)
+    (λ c. search needs)
+    (λ c. search needs)
+    (λ c κs. search needs)
+    (λ c. search needs)
     put-refused-requires-2
     returns-2
-    enum-known-reading-2
-    slice-aggregate-put-read
-    slice-aggregate-put-read-2
-    slice-aggregate-put-read-3
-    slice-aggregate-put-read-4
+    (λ c. search needs)
+    (λ c. search needs)
+    (λ c. search needs)
+    (λ c. search needs)
+    (λ c. search needs)
     put-read-requires
     returns-3)

@@ -8,12 +8,6 @@ use borrow.Author.Needs.{needs}
 use Rattle.reprice.proofs.check_line.Statement.{statement}
 use Rattle.reprice.proofs.check_line.Tie as tie
 
-check-lent-requires : tie.Need-check-lent-requires
-check-lent-requires c κs = search needs
-
-enum-known-a : tie.Need-enum-known-a
-enum-known-a c = search needs
-
 returns : tie.Need-returns
 unfolding lineAcceptance
 returns c = rw (sym (c .before .before .before .check-lent .ensures) ∙ c .before .a .given .1)
@@ -25,14 +19,8 @@ returns-2 : tie.Need-returns-2
 unfolding lineAcceptance
 returns-2 c = rw (sym (c .before .before .before .before .check-lent .ensures) ∙ c .before .before .enum-told .given .1, le-ltb _ _ (c .if1 .taken))
 
-mul-figure : tie.Need-mul-figure
-mul-figure c = search needs
-
 shared-slice-read-figure : tie.Need-shared-slice-read-figure
 shared-slice-read-figure c = omega (arith, table-accepted _ (columns-accepted _ _ (sym (c .before .before .before .before .before .check-lent .ensures) ∙ c .before .before .before .enum-told .given .1) .table) .own)
-
-is-struck-requires : tie.Need-is-struck-requires
-is-struck-requires c κs = search needs
 
 returns-3 : tie.Need-returns-3
 unfolding lineAcceptance
@@ -46,13 +34,13 @@ pub check-line-spec : {M : Type 1} → statement M
 check-line-spec =
     tie.close
     (tie.spec
-    check-lent-requires
-    enum-known-a
+    (λ c κs. search needs)
+    (λ c. search needs)
     returns
     enum-told
     returns-2
-    mul-figure
+    (λ c. search needs)
     shared-slice-read-figure
-    is-struck-requires
+    (λ c κs. search needs)
     returns-3
     returns-4)

@@ -5,17 +5,8 @@ use borrow.Author.Needs.{needs}
 use Rattle.reprice.proofs.check_right.Statement.{statement}
 use Rattle.reprice.proofs.check_right.Tie as tie
 
-check-answers-requires : tie.Need-check-answers-requires
-check-answers-requires c κs = search needs
-
 enum-told : tie.Need-enum-told
 enum-told c = search needs
-
-enum-told-2 : tie.Need-enum-told-2
-enum-told-2 c = search needs
-
-enum-known-v : tie.Need-enum-known-v
-enum-known-v c = search needs
 
 returns : tie.Need-returns
 returns c = sym (ap answer-of (c .enum-told .given .1)) ∙ right-is _ _ _ (c .before .before .check-answers .ensures)
@@ -30,10 +21,10 @@ pub check-right-spec : {M : Type 1} → statement M
 check-right-spec =
     tie.close
     (tie.spec
-    check-answers-requires
+    (λ c κs. search needs)
     enum-told
-    enum-told-2
-    enum-known-v
+    (λ c. search needs)
+    (λ c. search needs)
     returns
     returns-2
     returns-3)

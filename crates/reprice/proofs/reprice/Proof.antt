@@ -21,68 +21,20 @@ came c = let a = c .before .before .before .before .before .before .before .befo
 accepted : (c : tie.After-enum-told) → lineAcceptance (tableOf c) (came c) (c .before .before .before .before .before .before .before .before .before .before .before .before .before .before .args .line .0) ≡ Accepted
 accepted c = sym (c .before .before .check-line .ensures) ∙ c .enum-told .given .1
 
-check-line-requires : tie.Need-check-line-requires
-check-line-requires c κs = search needs
-
-enum-known-a : tie.Need-enum-known-a
-enum-known-a c = search needs
-
-same-length : tie.Need-same-length
-same-length c = search needs
-
-same-length-2 : tie.Need-same-length-2
-same-length-2 c = search needs
-
-same-length-3 : tie.Need-same-length-3
-same-length-3 c = search needs
-
-same-length-4 : tie.Need-same-length-4
-same-length-4 c = search needs
-
 returns : tie.Need-returns
 returns c = reprice-by _ _ _ _ _ refl (reprice-line _ _ _ _ _ _ (sym (c .before .before .before .check-line .ensures) ∙ c .before .a .given .1))
 
 enum-told : tie.Need-enum-told
 enum-told c = search needs
 
-same-length-5 : tie.Need-same-length-5
-same-length-5 c = search needs
-
-same-length-6 : tie.Need-same-length-6
-same-length-6 c = search needs
-
-same-length-7 : tie.Need-same-length-7
-same-length-7 c = search needs
-
-same-length-8 : tie.Need-same-length-8
-same-length-8 c = search needs
-
 returns-2 : tie.Need-returns-2
 returns-2 c = reprice-by _ _ _ _ _ refl (reprice-figure _ _ _ _ (accepted (c .before .before .before)) _ (c .if1 .taken))
 
-check-right-requires : tie.Need-check-right-requires
-check-right-requires c κs = search needs
-
-enum-known-b : tie.Need-enum-known-b
-enum-known-b c = search needs
-
-same-length-9 : tie.Need-same-length-9
-same-length-9 c = search needs
-
-same-length-10 : tie.Need-same-length-10
-same-length-10 c = search needs
-
-same-length-11 : tie.Need-same-length-11
-same-length-11 c = search needs
-
-same-length-12 : tie.Need-same-length-12
-same-length-12 c = search needs
-
 returns-3 : tie.Need-returns-3
-returns-3 c = reprice-by _ _ _ _ _ refl (reprice-answers _ _ _ _ (accepted (c .before .before .before .before .before .before .before .before .before .before .before)) _ (c .before .before .before .before .before .before .before .before .if1 .left) (sym (c .before .b .given .1) ∙ right-alone _ _ _ (accepted (c .before .before .before .before .before .before .before .before .before .before .before)) _ (c .before .before .before .check-right .ensures)))
-
-enum-told-2 : tie.Need-enum-told-2
-enum-told-2 c = search needs
+returns-3 c =
+    let p = c .before .before .before .before .before .before .before .before in
+    let q = p .before .before .before in
+    reprice-by _ _ _ _ _ refl (reprice-answers _ _ _ _ (accepted (q)) _ (p .if1 .left) (sym (c .before .b .given .1) ∙ right-alone _ _ _ (accepted (q)) _ (c .before .before .before .check-right .ensures)))
 
 mul-own : tie.Need-mul-own
 mul-own c = omega (arith, line-few _ _ _ (accepted (c .before .before .before .before .before .before .before .before .before .before)))
@@ -90,54 +42,45 @@ mul-own c = omega (arith, line-few _ _ _ (accepted (c .before .before .before .b
 slice-write-own : tie.Need-slice-write-own
 slice-write-own c = line-placed _ _ _ (accepted (c .before .before .before .before .before .before .before .before .before .before))
 
-settle-requires : tie.Need-settle-requires
-settle-requires c κs = search needs
-
-same-length-13 : tie.Need-same-length-13
-same-length-13 c = search needs
-
-same-length-14 : tie.Need-same-length-14
-same-length-14 c = search needs
-
-same-length-15 : tie.Need-same-length-15
-same-length-15 c = search needs
-
-same-length-16 : tie.Need-same-length-16
-same-length-16 c = search needs
-
 returns-4 : tie.Need-returns-4
-returns-4 c = reprice-by _ _ _ _ _ (stored _ _ _ (accepted (c .before .before .before .before .before .before .before .before .before .before .before .before .before .before .before .before .before .before .before .before .before)) _ _ (let h = c .before .before .before .before .before .before .before .before .before .before .before .before .before .before .before .before .before .before .if1 .left in omega arith) (c .before .before .before .before .before .before .settle .ensures)) (reprice-answers _ _ _ _ (accepted (c .before .before .before .before .before .before .before .before .before .before .before .before .before .before .before .before .before .before .before .before .before)) _ (c .before .before .before .before .before .before .before .before .before .before .before .before .before .before .before .before .before .before .if1 .left) (sym (c .before .before .before .before .before .before .before .before .before .before .before .enum-told2 .given .1) ∙ right-alone _ _ _ (accepted (c .before .before .before .before .before .before .before .before .before .before .before .before .before .before .before .before .before .before .before .before .before)) _ (c .before .before .before .before .before .before .before .before .before .before .before .before .before .check-right .ensures)))
+returns-4 c =
+    let p = c .before .before .before .before .before .before in
+    let q = p .before .before .before .before .before in
+    let r = q .before .before in
+    let s = r .before .before .before .before .before in
+    let u = s .before .before .before in
+    reprice-by _ _ _ _ _ (stored _ _ _ (accepted (u)) _ _ (let h = s .if1 .left in omega arith) (p .settle .ensures)) (reprice-answers _ _ _ _ (accepted (u)) _ (s .if1 .left) (sym (q .enum-told2 .given .1) ∙ right-alone _ _ _ (accepted (u)) _ (r .check-right .ensures)))
 
 pub reprice-spec : {M : Type 1} → statement M
 reprice-spec =
     tie.close
     (tie.spec
-    check-line-requires
-    enum-known-a
-    same-length
-    same-length-2
-    same-length-3
-    same-length-4
+    (λ c κs. search needs)
+    (λ c. search needs)
+    (λ c. search needs)
+    (λ c. search needs)
+    (λ c. search needs)
+    (λ c. search needs)
     returns
     enum-told
-    same-length-5
-    same-length-6
-    same-length-7
-    same-length-8
+    (λ c. search needs)
+    (λ c. search needs)
+    (λ c. search needs)
+    (λ c. search needs)
     returns-2
-    check-right-requires
-    enum-known-b
-    same-length-9
-    same-length-10
-    same-length-11
-    same-length-12
+    (λ c κs. search needs)
+    (λ c. search needs)
+    (λ c. search needs)
+    (λ c. search needs)
+    (λ c. search needs)
+    (λ c. search needs)
     returns-3
-    enum-told-2
+    (λ c. search needs)
     mul-own
     slice-write-own
-    settle-requires
-    same-length-13
-    same-length-14
-    same-length-15
-    same-length-16
+    (λ c κs. search needs)
+    (λ c. search needs)
+    (λ c. search needs)
+    (λ c. search needs)
+    (λ c. search needs)
     returns-4)

@@ -16,12 +16,6 @@ use borrow.Author.Needs.{needs}
 use Rattle.settle.proofs.check_answers.Statement.{statement}
 use Rattle.settle.proofs.check_answers.Tie as tie
 
-check-lent-requires : tie.Need-check-lent-requires
-check-lent-requires c κs = search needs
-
-enum-known-a : tie.Need-enum-known-a
-enum-known-a c = search needs
-
 returns : tie.Need-returns
 returns c = checked-refused _ _ _ _ (sym (c .before .before .before .check-lent .ensures) ∙ c .before .a .given .1)
 
@@ -46,9 +40,6 @@ passed c = columns-accepted (tableOf c) (came c) (accepted c)
 
 add-all-below : tie.Need-add-all-below
 add-all-below c = omega (arith, table-accepted (tableOf c) (passed c .table) .few)
-
-all-below-requires : tie.Need-all-below-requires
-all-below-requires c κs = search needs
 
 returns-2 : tie.Need-returns-2
 returns-2 c =
@@ -87,12 +78,12 @@ pub check-answers-spec : {M : Type 1} → statement M
 check-answers-spec =
     tie.close
     (tie.spec
-    check-lent-requires
-    enum-known-a
+    (λ c κs. search needs)
+    (λ c. search needs)
     returns
     enum-told
     add-all-below
-    all-below-requires
+    (λ c κs. search needs)
     returns-2
     vertices-right-requires
     returns-3

@@ -9,12 +9,6 @@ use borrow.Author.Needs.{needs}
 use Rattle.settle.proofs.edge_right.Statement.{statement}
 use Rattle.settle.proofs.edge_right.Tie as tie
 
-mul-v : tie.Need-mul-v
-mul-v c = search needs
-
-shared-slice-read-v : tie.Need-shared-slice-read-v
-shared-slice-read-v c = search needs
-
 offer-requires : tie.Need-offer-requires
 offer-requires c κs = edge-in (c .before .before .before .before .before .before .before .before .pre .0 .usable) _ (c .before .before .before .before .before .before .before .before .pre .1)
 
@@ -40,9 +34,6 @@ mul-root c = omega (arith, inside (c .before .before))
 shared-slice-read-root : tie.Need-shared-slice-read-root
 shared-slice-read-root c = omega (arith, inside (c .before .before .before))
 
-keeps-up-requires : tie.Need-keeps-up-requires
-keeps-up-requires c κs = search needs
-
 returns : tie.Need-returns
 unfolding edgeRight
 returns c = c .keeps-up .ensures ∙ ap (keepsUp _ _) (c .before .before .before .before .offer .ensures)
@@ -51,8 +42,8 @@ pub edge-right-spec : {M : Type 1} → statement M
 edge-right-spec =
     tie.close
     (tie.spec
-    mul-v
-    shared-slice-read-v
+    (λ c. search needs)
+    (λ c. search needs)
     offer-requires
     mul-weight
     shared-slice-read-weight
@@ -60,5 +51,5 @@ edge-right-spec =
     shared-slice-read-depth
     mul-root
     shared-slice-read-root
-    keeps-up-requires
+    (λ c κs. search needs)
     returns)

@@ -27,67 +27,45 @@ accepted c = sym (c .before .before .check-lent .ensures) ∙ c .enum-told .give
 passed : (c : tie.After-enum-told) → AcceptedColumns (tableOf c) (came c)
 passed c = columns-accepted (tableOf c) (came c) (accepted c)
 
-check-lent-requires : tie.Need-check-lent-requires
-check-lent-requires c κs = search needs
-
-enum-known-a : tie.Need-enum-known-a
-enum-known-a c = search needs
-
-same-length : tie.Need-same-length
-same-length c = search needs
-
-same-length-2 : tie.Need-same-length-2
-same-length-2 c = search needs
-
-same-length-3 : tie.Need-same-length-3
-same-length-3 c = search needs
-
 returns : tie.Need-returns
 returns c = settled-refused _ _ _ _ (sym (c .before .before .before .check-lent .ensures) ∙ c .before .a .given .1)
 
 enum-told : tie.Need-enum-told
 enum-told c = search needs
 
-set-all-requires : tie.Need-set-all-requires
-set-all-requires c κs = search needs
-
-set-all-requires-2 : tie.Need-set-all-requires-2
-set-all-requires-2 c κs = search needs
-
-set-all-requires-3 : tie.Need-set-all-requires-3
-set-all-requires-3 c κs = search needs
-
 label-all-requires : tie.Need-label-all-requires
-label-all-requires c κs = all-unmade (measureOf (c .before .before .before .before .before .before .before .before .before .before .before .before .before .before .before)) (tableOf (c .before .before .before .before .before .before .before .before .before .before .before .before .before .before .before)) (came (c .before .before .before .before .before .before .before .before .before .before .before .before .before .before .before)) (passed (c .before .before .before .before .before .before .before .before .before .before .before .before .before .before .before)) (c .before .before .before .before .before .before .before .before .before .before .before .before .before .set-all .ensures) (c .before .before .before .before .before .before .before .before .before .set-all2 .ensures) (c .before .before .before .before .before .set-all3 .ensures)
-
-same-length-4 : tie.Need-same-length-4
-same-length-4 c = search needs
-
-same-length-5 : tie.Need-same-length-5
-same-length-5 c = search needs
-
-same-length-6 : tie.Need-same-length-6
-same-length-6 c = search needs
+label-all-requires c κs =
+    let p = c .before .before .before .before .before in
+    let q = p .before .before .before .before in
+    let r = q .before .before .before .before in
+    let s = r .before .before in
+    all-unmade (measureOf (s)) (tableOf (s)) (came (s)) (passed (s)) (r .set-all .ensures) (q .set-all2 .ensures) (p .set-all3 .ensures)
 
 returns-2 : tie.Need-returns-2
-returns-2 c = settled-all (measureOf (c .before .before .before .before .before .before .before .before .before .before .before .before .before .before .before .before .before .before .before .before .before .before)) (tableOf (c .before .before .before .before .before .before .before .before .before .before .before .before .before .before .before .before .before .before .before .before .before .before)) (came (c .before .before .before .before .before .before .before .before .before .before .before .before .before .before .before .before .before .before .before .before .before .before)) _ (accepted (c .before .before .before .before .before .before .before .before .before .before .before .before .before .before .before .before .before .before .before .before .before .before)) (labelled (measureOf (c .before .before .before .before .before .before .before .before .before .before .before .before .before .before .before .before .before .before .before .before .before .before)) (tableOf (c .before .before .before .before .before .before .before .before .before .before .before .before .before .before .before .before .before .before .before .before .before .before)) (came (c .before .before .before .before .before .before .before .before .before .before .before .before .before .before .before .before .before .before .before .before .before .before)) (passed (c .before .before .before .before .before .before .before .before .before .before .before .before .before .before .before .before .before .before .before .before .before .before)) (c .before .before .before .before .before .before .before .before .before .before .before .before .before .before .before .before .before .before .before .before .set-all .ensures) (c .before .before .before .before .before .before .before .before .before .before .before .before .before .before .before .before .set-all2 .ensures) (c .before .before .before .before .before .before .before .before .before .before .before .before .set-all3 .ensures) (c .before .before .before .before .before .before .label-all .ensures))
+returns-2 c =
+    let p = c .before .before .before .before .before .before in
+    let q = p .before .before .before .before .before .before in
+    let r = q .before .before .before .before in
+    let s = r .before .before .before .before in
+    let u = s .before .before in
+    settled-all (measureOf (u)) (tableOf (u)) (came (u)) _ (accepted (u)) (labelled (measureOf (u)) (tableOf (u)) (came (u)) (passed (u)) (s .set-all .ensures) (r .set-all2 .ensures) (q .set-all3 .ensures) (p .label-all .ensures))
 
 pub settle-spec : {M : Type 1} → statement M
 settle-spec =
     tie.close
     (tie.spec
-    check-lent-requires
-    enum-known-a
-    same-length
-    same-length-2
-    same-length-3
+    (λ c κs. search needs)
+    (λ c. search needs)
+    (λ c. search needs)
+    (λ c. search needs)
+    (λ c. search needs)
     returns
     enum-told
-    set-all-requires
-    set-all-requires-2
-    set-all-requires-3
+    (λ c κs. search needs)
+    (λ c κs. search needs)
+    (λ c κs. search needs)
     label-all-requires
-    same-length-4
-    same-length-5
-    same-length-6
+    (λ c. search needs)
+    (λ c. search needs)
+    (λ c. search needs)
     returns-2)

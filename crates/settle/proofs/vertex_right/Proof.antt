@@ -9,24 +9,6 @@ use borrow.Author.Needs.{needs}
 use Rattle.settle.proofs.vertex_right.Statement.{statement}
 use Rattle.settle.proofs.vertex_right.Tie as tie
 
-mul-w : tie.Need-mul-w
-mul-w c = search needs
-
-shared-slice-read-w : tie.Need-shared-slice-read-w
-shared-slice-read-w c = search needs
-
-mul-d : tie.Need-mul-d
-mul-d c = search needs
-
-shared-slice-read-d : tie.Need-shared-slice-read-d
-shared-slice-read-d c = search needs
-
-mul-e : tie.Need-mul-e
-mul-e c = search needs
-
-shared-slice-read-e : tie.Need-shared-slice-read-e
-shared-slice-read-e c = search needs
-
 returns : tie.Need-returns
 unfolding vertexRight
 returns c = rw (eq-eqb _ _ (c .before .if1 .taken), ne-eqb _ _ (c .if2 .taken))
@@ -39,21 +21,12 @@ returns-3 : tie.Need-returns-3
 unfolding vertexRight
 returns-3 c = rw (ne-eqb _ _ (c .before .if1 .left), le-ltb _ _ (c .if3 .taken))
 
-mul-if4 : tie.Need-mul-if4
-mul-if4 c = search needs
-
-shared-slice-read-if4 : tie.Need-shared-slice-read-if4
-shared-slice-read-if4 c = search needs
-
 returns-4 : tie.Need-returns-4
 unfolding vertexRight
 returns-4 c = rw (ne-eqb _ _ (c .before .before .before .before .if1 .left), lt-ltb _ _ (c .before .before .before .if3 .left), ne-eqb _ _ (c .if4 .taken))
 
 offer-requires : tie.Need-offer-requires
 offer-requires c κs = edge-in (c .before .before .before .before .before .before .before .before .before .before .before .before .before .before .before .pre .0 .usable) _ (c .before .before .before .if3 .left)
-
-gives-requires : tie.Need-gives-requires
-gives-requires c κs = search needs
 
 returns-5 : tie.Need-returns-5
 unfolding vertexRight
@@ -66,18 +39,18 @@ pub vertex-right-spec : {M : Type 1} → statement M
 vertex-right-spec =
     tie.close
     (tie.spec
-    mul-w
-    shared-slice-read-w
-    mul-d
-    shared-slice-read-d
-    mul-e
-    shared-slice-read-e
+    (λ c. search needs)
+    (λ c. search needs)
+    (λ c. search needs)
+    (λ c. search needs)
+    (λ c. search needs)
+    (λ c. search needs)
     returns
     returns-2
     returns-3
-    mul-if4
-    shared-slice-read-if4
+    (λ c. search needs)
+    (λ c. search needs)
     returns-4
     offer-requires
-    gives-requires
+    (λ c κs. search needs)
     returns-5)

@@ -37,12 +37,6 @@ vertex-right-requires c κs = (c .before .before .before .before .before .before
 returns : tie.Need-returns Inv-loop μ-loop
 returns c = sym (every-stop (tested (c .before .before .before)) _ _ (c .before .before .loop-test .taken) (sym (c .before .vertex-right .ensures) ∙ not-true _ (c .if1 .taken)))
 
-add-i : tie.Need-add-i Inv-loop μ-loop
-add-i c = search needs
-
-loop-less : tie.Need-loop-less Inv-loop μ-loop
-loop-less c = search needs
-
 loop-again : tie.Need-loop-again Inv-loop μ-loop
 loop-again c =
     (omega arith, every-more (tested (c .before .before .before)) _ (sym (c .before .vertex-right .ensures) ∙ not-false _ (c .if1 .left)) (c .before .before .before .loop .inv .1))
@@ -62,7 +56,7 @@ vertices-right-spec =
     loop-holds
     vertex-right-requires
     returns
-    add-i
-    loop-less
+    (λ c. search needs)
+    (λ c. search needs)
     loop-again
     returns-2)

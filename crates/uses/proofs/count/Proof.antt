@@ -38,9 +38,6 @@ level c = ap length (c .loop .inv .1) ∙ length-pairs _ _ _ ∙ ap (λ (z : ℕ
 as-many : (c : tie.At-loop Inv-loop μ-loop) → pairsIn (c .loop .index) ≡ pairsIn (cleared c .set-all .last .0)
 as-many c = ap (λ (z : ℕ). z / 2) (level c ∙ sym (still (cleared c)))
 
-set-all-requires : tie.Need-set-all-requires Inv-loop μ-loop
-set-all-requires c κs = search needs
-
 loop-holds : tie.Need-loop-holds Inv-loop μ-loop
 loop-holds c =
     let d = c .before .before in
@@ -83,7 +80,7 @@ count-spec =
     (tie.spec
     Inv-loop
     μ-loop
-    set-all-requires
+    (λ c κs. search needs)
     loop-holds
     count-edge-requires
     add-i

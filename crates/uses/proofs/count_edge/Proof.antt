@@ -47,27 +47,6 @@ fits c = omega (arith, below c, level (c .before))
 low : (c : tie.In-loop Inv-loop μ-loop) → 2 * vertex c + 1 < length (entry c .args .index .now)
 low c = omega (arith, below c)
 
-mul-from : tie.Need-mul-from Inv-loop μ-loop
-mul-from c = search needs
-
-mul-from-2 : tie.Need-mul-from-2 Inv-loop μ-loop
-mul-from-2 c = search needs
-
-shared-slice-read-from : tie.Need-shared-slice-read-from Inv-loop μ-loop
-shared-slice-read-from c = search needs
-
-mul-size : tie.Need-mul-size Inv-loop μ-loop
-mul-size c = search needs
-
-add-size : tie.Need-add-size Inv-loop μ-loop
-add-size c = search needs
-
-mul-size-2 : tie.Need-mul-size-2 Inv-loop μ-loop
-mul-size-2 c = search needs
-
-shared-slice-read-size : tie.Need-shared-slice-read-size Inv-loop μ-loop
-shared-slice-read-size c = search needs
-
 loop-holds : tie.Need-loop-holds Inv-loop μ-loop
 loop-holds c = (omega arith, c .before .before .pre .counts ∙ count-first _ _ _)
 
@@ -89,9 +68,6 @@ mul-mark-2 c = omega (arith, low (c .before))
 slice-read-mark : tie.Need-slice-read-mark Inv-loop μ-loop
 slice-read-mark c = omega (arith, fits (c .before .before))
 
-add-if1 : tie.Need-add-if1 Inv-loop μ-loop
-add-if1 c = search needs
-
 mul-count : tie.Need-mul-count Inv-loop μ-loop
 mul-count c = omega (arith, low (c .before .before .before))
 
@@ -103,9 +79,6 @@ mul-count-2 c = omega (arith, low (c .before .before .before))
 
 slice-read-count : tie.Need-slice-read-count Inv-loop μ-loop
 slice-read-count c = fits (c .before .before .before .before)
-
-add-index : tie.Need-add-index Inv-loop μ-loop
-add-index c = search needs
 
 mul-index : tie.Need-mul-index Inv-loop μ-loop
 mul-index c = omega (arith, low (c .before .before .before .before))
@@ -164,13 +137,13 @@ count-edge-spec =
     (tie.spec
     Inv-loop
     μ-loop
-    mul-from
-    mul-from-2
-    shared-slice-read-from
-    mul-size
-    add-size
-    mul-size-2
-    shared-slice-read-size
+    (λ c. search needs)
+    (λ c. search needs)
+    (λ c. search needs)
+    (λ c. search needs)
+    (λ c. search needs)
+    (λ c. search needs)
+    (λ c. search needs)
     loop-holds
     add-v
     mul-v
@@ -178,12 +151,12 @@ count-edge-spec =
     mul-mark
     mul-mark-2
     slice-read-mark
-    add-if1
+    (λ c. search needs)
     mul-count
     add-count
     mul-count-2
     slice-read-count
-    add-index
+    (λ c. search needs)
     mul-index
     mul-index-2
     slice-write-index

@@ -97,27 +97,6 @@ free c =
     let l = d .before in
     omega (arith, starts d, sized d, place-free _ _ _ _ (start l .pre .numbered) (passed l) (vertex l) (below d) (among l) (listed d) (l .loop .inv .1) (sym (told (c .before)) ∙ not-true _ (c .if1 .taken)), start l .pre .room)
 
-mul-from : tie.Need-mul-from Inv-loop μ-loop
-mul-from c = search needs
-
-mul-from-2 : tie.Need-mul-from-2 Inv-loop μ-loop
-mul-from-2 c = search needs
-
-shared-slice-read-from : tie.Need-shared-slice-read-from Inv-loop μ-loop
-shared-slice-read-from c = search needs
-
-mul-size : tie.Need-mul-size Inv-loop μ-loop
-mul-size c = search needs
-
-add-size : tie.Need-add-size Inv-loop μ-loop
-add-size c = search needs
-
-mul-size-2 : tie.Need-mul-size-2 Inv-loop μ-loop
-mul-size-2 c = search needs
-
-shared-slice-read-size : tie.Need-shared-slice-read-size Inv-loop μ-loop
-shared-slice-read-size c = search needs
-
 loop-holds : tie.Need-loop-holds Inv-loop μ-loop
 loop-holds c = (omega arith, fill-first _ _ _ _ _ _ _ (c .before .before .before .before .before .before .pre .so-far))
 
@@ -217,13 +196,13 @@ fill-edge-spec =
     (tie.spec
     Inv-loop
     μ-loop
-    mul-from
-    mul-from-2
-    shared-slice-read-from
-    mul-size
-    add-size
-    mul-size-2
-    shared-slice-read-size
+    (λ c. search needs)
+    (λ c. search needs)
+    (λ c. search needs)
+    (λ c. search needs)
+    (λ c. search needs)
+    (λ c. search needs)
+    (λ c. search needs)
     loop-holds
     add-v
     mul-v

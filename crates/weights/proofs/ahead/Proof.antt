@@ -7,15 +7,9 @@ use borrow.Author.Needs.{needs}
 use Rattle.weights.proofs.ahead.Statement.{statement}
 use Rattle.weights.proofs.ahead.Tie as tie
 
-no-worse-requires : tie.Need-no-worse-requires
-no-worse-requires c κs = search needs
-
 returns : tie.Need-returns
 unfolding aheadOf
 returns c = rw (sym (c .before .no-worse .ensures) ∙ not-true _ (c .if1 .taken))
-
-no-worse-requires-2 : tie.Need-no-worse-requires-2
-no-worse-requires-2 c κs = search needs
 
 returns-2 : tie.Need-returns-2
 unfolding aheadOf
@@ -44,9 +38,9 @@ pub ahead-spec : {M : Type 1} → statement M
 ahead-spec =
     tie.close
     (tie.spec
-    no-worse-requires
+    (λ c κs. search needs)
     returns
-    no-worse-requires-2
+    (λ c κs. search needs)
     returns-2
     returns-3
     returns-4

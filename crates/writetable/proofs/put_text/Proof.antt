@@ -1,12 +1,10 @@
 -- `writetable::put_text` meets its contract. The invariant: i lines are written behind the first. Assumes nothing.
-use mathlib.Core.Path.{_≡_, sym, _∙_, ap}
-use Prim.Native.Nat.{ℕ, _+_, _-_, _≤_, _<_}
+use Prim.Native.Nat.{_-_}
 use native.Mathlib.Omega.{arith}
 use borrow.Author.Needs.{needs}
 use lib.ListN.{length}
 use Rattle.columns.specs.Columns.{Columns, columns}
-use Rattle.text.specs.Render.{header}
-use Rattle.writing.specs.Written.{Written, written-as}
+use Rattle.writing.specs.Written.{written-as}
 use Rattle.writetable.proofs.Laws.{EdgeHere, edge-here, sliced-line, render-length, Putting, putting-none, putting-next, putting-all, place, next-room}
 use Rattle.writetable.proofs.put_text.Statement.{statement}
 use Rattle.writetable.proofs.put_text.Tie as tie
@@ -35,12 +33,6 @@ start l = l .before .before .before .before .before .before .before .before .bef
 
 here : (l : tie.In-loop Inv-loop μ-loop) → EdgeHere (table (start l)) (l .before .loop .i)
 here l = edge-here _ _ (start l .pre .accepted) (l .loop-test .taken)
-
-mul-from : tie.Need-mul-from Inv-loop μ-loop
-mul-from c = search needs
-
-shared-slice-read-from : tie.Need-shared-slice-read-from Inv-loop μ-loop
-shared-slice-read-from c = search needs
 
 mul-from-2 : tie.Need-mul-from-2 Inv-loop μ-loop
 mul-from-2 c = let e = here (c .before) in omega arith
@@ -78,17 +70,8 @@ sub-put-edge c = let l = c .before .before .before .before in next-room _ _ _ _ 
 part-put-edge-start : tie.Need-part-put-edge-start Inv-loop μ-loop
 part-put-edge-start c = let r = sub-put-edge c in search (needs, r)
 
-part-put-edge-end : tie.Need-part-put-edge-end Inv-loop μ-loop
-part-put-edge-end c = search needs
-
 mul-put-edge : tie.Need-mul-put-edge Inv-loop μ-loop
 mul-put-edge c = let e = here (c .before .before .before .before .before) in omega arith
-
-sub-put-edge-2 : tie.Need-sub-put-edge-2 Inv-loop μ-loop
-sub-put-edge-2 c = search needs
-
-part-put-edge-start-2 : tie.Need-part-put-edge-start-2 Inv-loop μ-loop
-part-put-edge-start-2 c = search needs
 
 part-put-edge-end-2 : tie.Need-part-put-edge-end-2 Inv-loop μ-loop
 part-put-edge-end-2 c = let e = here (c .before .before .before .before .before) .span in search (needs, e)
@@ -108,12 +91,6 @@ add-at c =
     let a = place _ _ _ _ _ _ _ _ (loop-again c) (l .before .before .before .before .put-header .ensures) (start l .pre .fits) in
     omega (arith, start l .good)
 
-add-i : tie.Need-add-i Inv-loop μ-loop
-add-i c = search needs
-
-loop-less : tie.Need-loop-less Inv-loop μ-loop
-loop-less c = search needs
-
 returns : tie.Need-returns Inv-loop μ-loop
 returns c =
     let s = c .before .before .before .before .before .before .before .before .before .before .before in
@@ -130,8 +107,8 @@ put-text-spec =
     μ-loop
     put-header-requires
     loop-holds
-    mul-from
-    shared-slice-read-from
+    (λ c. search needs)
+    (λ c. search needs)
     mul-from-2
     shared-slice-read-from-2
     mul-from-3
@@ -144,15 +121,15 @@ put-text-spec =
     add-to-2
     sub-put-edge
     part-put-edge-start
-    part-put-edge-end
+    (λ c. search needs)
     mul-put-edge
-    sub-put-edge-2
-    part-put-edge-start-2
+    (λ c. search needs)
+    (λ c. search needs)
     part-put-edge-end-2
     put-edge-requires
     add-at
-    add-i
-    loop-less
+    (λ c. search needs)
+    (λ c. search needs)
     loop-again
     same-length
     returns)

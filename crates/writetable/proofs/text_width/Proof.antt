@@ -1,6 +1,6 @@
 -- `writetable::text_width` meets its contract. The invariant: the first line and i lines more are measured. Assumes nothing.
-use mathlib.Core.Path.{_≡_, _∙_, ap}
-use Prim.Native.Nat.{ℕ, _-_}
+use mathlib.Core.Path.{_∙_, ap}
+use Prim.Native.Nat.{_-_}
 use native.Mathlib.Omega.{arith}
 use borrow.Author.Needs.{needs}
 use lib.ListN.{length}
@@ -36,12 +36,6 @@ start l = l .before .before .before .before .before .before .before
 here : (l : tie.In-loop Inv-loop μ-loop) → EdgeHere (table (start l)) (l .before .loop .i)
 here l = edge-here _ _ (start l .pre) (l .loop-test .taken)
 
-mul-from : tie.Need-mul-from Inv-loop μ-loop
-mul-from c = search needs
-
-shared-slice-read-from : tie.Need-shared-slice-read-from Inv-loop μ-loop
-shared-slice-read-from c = search needs
-
 mul-from-2 : tie.Need-mul-from-2 Inv-loop μ-loop
 mul-from-2 c = let e = here (c .before) in omega arith
 
@@ -75,12 +69,6 @@ add-to-2 c = let e = here (c .before .before .before .before) in omega arith
 mul-edge-width : tie.Need-mul-edge-width Inv-loop μ-loop
 mul-edge-width c = let e = here (c .before .before .before .before) in omega arith
 
-sub-edge-width : tie.Need-sub-edge-width Inv-loop μ-loop
-sub-edge-width c = search needs
-
-part-edge-width-start : tie.Need-part-edge-width-start Inv-loop μ-loop
-part-edge-width-start c = search needs
-
 part-edge-width-end : tie.Need-part-edge-width-end Inv-loop μ-loop
 part-edge-width-end c = let e = here (c .before .before .before .before) .span in search (needs, e)
 
@@ -93,12 +81,6 @@ loop-again c = let l = c .before .before .before .before .before .before in meas
 add-width : tie.Need-add-width Inv-loop μ-loop
 add-width c = let m = loop-again c in let e = here (c .before .before .before .before .before .before) in omega arith
 
-add-i : tie.Need-add-i Inv-loop μ-loop
-add-i c = search needs
-
-loop-less : tie.Need-loop-less Inv-loop μ-loop
-loop-less c = search needs
-
 returns : tie.Need-returns Inv-loop μ-loop
 returns c = measured-all _ _ _ _ _ (c .before .before .header-width .ensures) (c .loop-test .left) (c .before .loop .inv)
 
@@ -110,8 +92,8 @@ text-width-spec =
     μ-loop
     header-width-requires
     loop-holds
-    mul-from
-    shared-slice-read-from
+    (λ c. search needs)
+    (λ c. search needs)
     mul-from-2
     shared-slice-read-from-2
     mul-from-3
@@ -123,12 +105,12 @@ text-width-spec =
     shared-slice-read-to
     add-to-2
     mul-edge-width
-    sub-edge-width
-    part-edge-width-start
+    (λ c. search needs)
+    (λ c. search needs)
     part-edge-width-end
     edge-width-requires
     add-width
-    add-i
-    loop-less
+    (λ c. search needs)
+    (λ c. search needs)
     loop-again
     returns)

@@ -15,12 +15,6 @@ use Rattle.writetable.proofs.write_table.Tie as tie
 abbrev table : tie.Start → Columns
 table s = columns (s .args .n) (s .args .heads .now) (s .args .own .now) (s .args .spans .now) (s .args .tails .now)
 
-check-table-requires : tie.Need-check-table-requires
-check-table-requires c κs = search needs
-
-enum-known-checked : tie.Need-enum-known-checked
-enum-known-checked c = search needs
-
 returns : tie.Need-returns
 returns c = write-refused _ _ _ _ (sym (c .before .before .before .check-table .ensures) ∙ c .before .checked .given .1)
 
@@ -47,9 +41,6 @@ roomy c = let w = c .before .text-width .ensures in let h = c .if1 .left in omeg
 put-text-requires : tie.Need-put-text-requires
 put-text-requires c κs = record { accepted = accepted (c .before .before .before); fits = roomy (c .before) }
 
-same-length : tie.Need-same-length
-same-length c = search needs
-
 returns-3 : tie.Need-returns-3
 returns-3 c =
     let p = c .before .before in
@@ -60,12 +51,12 @@ pub write-table-spec : {M : Type 1} → statement M
 write-table-spec =
     tie.close
     (tie.spec
-    check-table-requires
-    enum-known-checked
+    (λ c κs. search needs)
+    (λ c. search needs)
     returns
     enum-told
     text-width-requires
     returns-2
     put-text-requires
-    same-length
+    (λ c. search needs)
     returns-3)

@@ -1,14 +1,10 @@
 -- `writing::edge_width` meets its contract. Assumes nothing.
 use native.Mathlib.Omega.{arith}
 use borrow.Author.Needs.{needs}
-use lib.ListN.{length}
 use Rattle.text.specs.Tables.{edge}
 use Rattle.writing.specs.Widths.{line-width, line-most, edge-tail}
 use Rattle.writing.proofs.edge_width.Statement.{statement}
 use Rattle.writing.proofs.edge_width.Tie as tie
-
-number-width-requires : tie.Need-number-width-requires
-number-width-requires c κs = search needs
 
 own-width-requires : tie.Need-own-width-requires
 own-width-requires c κs = c .before .before .pre .own
@@ -51,7 +47,7 @@ pub edge-width-spec : {M : Type 1} → statement M
 edge-width-spec =
     tie.close
     (tie.spec
-    number-width-requires
+    (λ c κs. search needs)
     own-width-requires
     add-result
     tail-width-requires

@@ -1,6 +1,6 @@
 -- `writing::number_width` meets its contract. The invariant: the digits counted and those of what is left are those of the number. Assumes nothing.
 use mathlib.Core.Path.{_≡_}
-use Prim.Native.Nat.{ℕ, _+_, _≤_}
+use Prim.Native.Nat.{_+_, _≤_}
 use native.Mathlib.Omega.{arith}
 use lib.ListN.{length}
 use Rattle.text.specs.Render.{digits}

@@ -7,7 +7,7 @@ use borrow.Author.Needs.{needs}
 use lib.ListN.{length}
 use Rattle.text.specs.Tables.{edge}
 use Rattle.text.specs.Render.{digits, ownText, tailText}
-use Rattle.writing.specs.Written.{Written, lent-room, within, written-part, written-as, first-fits}
+use Rattle.writing.specs.Written.{lent-room, within, written-part, written-as, first-fits}
 use Rattle.writing.specs.Widths.{line-split}
 use Rattle.writing.proofs.put_edge.Statement.{statement}
 use Rattle.writing.proofs.put_edge.Tie as tie
@@ -24,9 +24,6 @@ sub-put-tail c = let s = c .before .before .before .before .before .before in wi
 
 part-put-tail-start : tie.Need-part-put-tail-start
 part-put-tail-start c = let r = sub-put-tail c in search (needs, r)
-
-part-put-tail-end : tie.Need-part-put-tail-end
-part-put-tail-end c = search needs
 
 put-tail-requires : tie.Need-put-tail-requires
 put-tail-requires c κs = let k = c .before in let s = k .before .before .before .before .before .before in lent-room (digits (s .args .head .0) ++ (32 ∷ ownText (s .args .own .0))) _ _ _ (k .before .before .put-stem .ensures) (tailText (s .args .tail .now) ++ 10 ∷ []) (whole s)
@@ -55,7 +52,7 @@ put-edge-spec =
     put-stem-requires
     sub-put-tail
     part-put-tail-start
-    part-put-tail-end
+    (λ c. search needs)
     put-tail-requires
     add-result
     same-length

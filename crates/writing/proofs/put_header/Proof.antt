@@ -5,7 +5,7 @@ use native.Mathlib.Omega.{arith}
 use borrow.Author.Needs.{needs}
 use lib.ListN.{length}
 use Rattle.text.specs.Render.{digits, opening, measureText, header}
-use Rattle.writing.specs.Written.{Written, lent-room, within, written-part, first-fits}
+use Rattle.writing.specs.Written.{lent-room, within, written-part, first-fits}
 use Rattle.writing.proofs.put_header.Statement.{statement}
 use Rattle.writing.proofs.put_header.Tie as tie
 
@@ -24,9 +24,6 @@ sub-put-measure c = let s = c .before .before .before .before .before in within 
 
 part-put-measure-start : tie.Need-part-put-measure-start
 part-put-measure-start c = let r = sub-put-measure c in search (needs, r)
-
-part-put-measure-end : tie.Need-part-put-measure-end
-part-put-measure-end c = search needs
 
 put-measure-requires : tie.Need-put-measure-requires
 unfolding header
@@ -57,7 +54,7 @@ put-header-spec =
     put-opening-requires
     sub-put-measure
     part-put-measure-start
-    part-put-measure-end
+    (λ c. search needs)
     put-measure-requires
     add-result
     same-length

@@ -10,18 +10,12 @@ use Rattle.writing.specs.Written.{written-as}
 use Rattle.writing.proofs.put_measure.Statement.{statement}
 use Rattle.writing.proofs.put_measure.Tie as tie
 
-is-default-requires : tie.Need-is-default-requires
-is-default-requires c κs = search needs
-
 -- what is to be written
 silent : (c : tie.Then1) → measureText (c .before .before .before .args .measure) ≡ 10 ∷ []
 silent c = default-end _ (sym (c .before .is-default .ensures) ∙ c .if1 .taken)
 
 named : (c : tie.Else1) → measureText (c .before .before .before .args .measure) ≡ word ++ 10 ∷ []
 named c = named-end _ (sym (c .before .is-default .ensures) ∙ c .if1 .left)
-
-slice-aggregate-put-bytes : tie.Need-slice-aggregate-put-bytes
-slice-aggregate-put-bytes c = search needs
 
 put-bytes-requires : tie.Need-put-bytes-requires
 put-bytes-requires c κs = let t = c .before .before in let e = ap length (silent t) in let p = t .before .before .before .pre in omega arith
@@ -31,9 +25,6 @@ returns c = let p = c .before .before in written-as _ _ _ (sym (silent (p .befor
 
 same-length : tie.Need-same-length
 same-length c = returns c .long
-
-slice-aggregate-put-bytes-2 : tie.Need-slice-aggregate-put-bytes-2
-slice-aggregate-put-bytes-2 c = search needs
 
 put-bytes-requires-2 : tie.Need-put-bytes-requires-2
 unfolding word
@@ -50,12 +41,12 @@ pub put-measure-spec : {M : Type 1} → statement M
 put-measure-spec =
     tie.close
     (tie.spec
-    is-default-requires
-    slice-aggregate-put-bytes
+    (λ c κs. search needs)
+    (λ c. search needs)
     put-bytes-requires
     same-length
     returns
-    slice-aggregate-put-bytes-2
+    (λ c. search needs)
     put-bytes-requires-2
     same-length-2
     returns-2)

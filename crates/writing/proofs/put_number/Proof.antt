@@ -1,10 +1,7 @@
 -- `writing::put_number` meets its contract. The invariant: the digits behind those of x are written. Assumes nothing.
-use mathlib.Core.Path.{_≡_}
-use Prim.Native.Nat.{ℕ}
 use native.Mathlib.Omega.{arith}
 use borrow.Author.Needs.{needs}
-use lib.ListN.{length, length-set}
-use Rattle.text.specs.Render.{digits}
+use lib.ListN.{length-set}
 use Rattle.writing.specs.Widths.{width-more, width-one}
 use Rattle.writing.proofs.Laws.{Digits, digits-none, digits-next, digits-written}
 use Rattle.writing.proofs.put_number.Statement.{statement}
@@ -15,9 +12,6 @@ Inv-loop room₀ v width i₀ x₀ room i x = Digits room₀ room i x v
 
 abbrev μ-loop : tie.MeasureT-loop
 μ-loop room₀ v width i₀ x₀ room i x = x
-
-number-width-requires : tie.Need-number-width-requires Inv-loop μ-loop
-number-width-requires c κs = search needs
 
 loop-holds : tie.Need-loop-holds Inv-loop μ-loop
 loop-holds c = let w = c .number-width .ensures in digits-none _ _ _ w (omega arith)
@@ -61,7 +55,7 @@ put-number-spec =
     (tie.spec
     Inv-loop
     μ-loop
-    number-width-requires
+    (λ c κs. search needs)
     loop-holds
     sub-i
     cast-room

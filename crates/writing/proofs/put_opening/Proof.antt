@@ -5,16 +5,13 @@ use native.Mathlib.Omega.{arith}
 use borrow.Author.Needs.{needs}
 use lib.ListN.{length}
 use Rattle.text.specs.Render.{digits, opening}
-use Rattle.writing.specs.Written.{Written, lent-room, within, written-part, first-fits}
+use Rattle.writing.specs.Written.{lent-room, within, written-part, first-fits}
 use Rattle.writing.proofs.put_opening.Statement.{statement}
 use Rattle.writing.proofs.put_opening.Tie as tie
 
 -- the two pieces have room
 whole : (c : tie.Start) → length (opening ++ digits (c .args .n)) ≤ length (c .args .room .now)
 whole c = c .pre
-
-slice-aggregate-put-bytes : tie.Need-slice-aggregate-put-bytes
-slice-aggregate-put-bytes c = search needs
 
 put-bytes-requires : tie.Need-put-bytes-requires
 unfolding opening
@@ -26,9 +23,6 @@ sub-put-number c = let s = c .before .before .before .before .before .before in 
 
 part-put-number-start : tie.Need-part-put-number-start
 part-put-number-start c = let r = sub-put-number c in search (needs, r)
-
-part-put-number-end : tie.Need-part-put-number-end
-part-put-number-end c = search needs
 
 put-number-requires : tie.Need-put-number-requires
 unfolding opening
@@ -56,11 +50,11 @@ pub put-opening-spec : {M : Type 1} → statement M
 put-opening-spec =
     tie.close
     (tie.spec
-    slice-aggregate-put-bytes
+    (λ c. search needs)
     put-bytes-requires
     sub-put-number
     part-put-number-start
-    part-put-number-end
+    (λ c. search needs)
     put-number-requires
     add-result
     same-length

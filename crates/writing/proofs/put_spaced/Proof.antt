@@ -2,14 +2,11 @@
 use mathlib.Core.List.{[], _∷_}
 use native.Mathlib.Omega.{arith}
 use borrow.Author.Needs.{needs}
-use lib.ListN.{length, set}
+use lib.ListN.{set}
 use Rattle.text.specs.Render.{digits}
 use Rattle.writing.specs.Written.{Written, written-none, written-byte, lent-room, within, written-part}
 use Rattle.writing.proofs.put_spaced.Statement.{statement}
 use Rattle.writing.proofs.put_spaced.Tie as tie
-
-slice-write-room : tie.Need-slice-write-room
-slice-write-room c = search needs
 
 -- the space is written
 spaced : (c : tie.After-slice-known) → Written (32 ∷ []) (c .before .args .room .now) 1 (set (c .before .args .room .now) 0 32)
@@ -21,14 +18,8 @@ sub-put-number c = within _ _ _ _ (spaced c) (digits (c .before .args .v)) (c .b
 part-put-number-start : tie.Need-part-put-number-start
 part-put-number-start c = let r = within _ _ _ _ (spaced c) (digits (c .before .args .v)) (c .before .pre) in search (needs, r)
 
-part-put-number-end : tie.Need-part-put-number-end
-part-put-number-end c = search needs
-
 put-number-requires : tie.Need-put-number-requires
 put-number-requires c κs = let s = c .before in lent-room _ _ _ _ (spaced s) (digits (s .before .args .v)) (s .before .pre)
-
-add-result : tie.Need-add-result
-add-result c = search needs
 
 returns : tie.Need-returns
 returns c =
@@ -43,11 +34,11 @@ pub put-spaced-spec : {M : Type 1} → statement M
 put-spaced-spec =
     tie.close
     (tie.spec
-    slice-write-room
+    (λ c. search needs)
     sub-put-number
     part-put-number-start
-    part-put-number-end
+    (λ c. search needs)
     put-number-requires
-    add-result
+    (λ c. search needs)
     same-length
     returns)

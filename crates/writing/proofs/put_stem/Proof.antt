@@ -5,7 +5,7 @@ use native.Mathlib.Omega.{arith}
 use borrow.Author.Needs.{needs}
 use lib.ListN.{length}
 use Rattle.text.specs.Render.{digits, ownText}
-use Rattle.writing.specs.Written.{Written, lent-room, within, written-part, first-fits}
+use Rattle.writing.specs.Written.{lent-room, within, written-part, first-fits}
 use Rattle.writing.proofs.put_stem.Statement.{statement}
 use Rattle.writing.proofs.put_stem.Tie as tie
 
@@ -21,9 +21,6 @@ sub-put-own c = let s = c .before .before .before .before .before in within (dig
 
 part-put-own-start : tie.Need-part-put-own-start
 part-put-own-start c = let r = sub-put-own c in search (needs, r)
-
-part-put-own-end : tie.Need-part-put-own-end
-part-put-own-end c = search needs
 
 put-own-requires : tie.Need-put-own-requires
 put-own-requires c κs = let k = c .before in let s = k .before .before .before .before .before in lent-room (digits (s .args .head .0)) _ _ _ (k .before .before .put-number .ensures) (32 ∷ ownText (s .args .own .0)) (whole s)
@@ -52,7 +49,7 @@ put-stem-spec =
     put-number-requires
     sub-put-own
     part-put-own-start
-    part-put-own-end
+    (λ c. search needs)
     put-own-requires
     add-result
     same-length

@@ -1,5 +1,5 @@
 -- `writing::put_tail` meets its contract. The invariant: the vertices so far are written. Assumes nothing.
-use Prim.Native.Nat.{ℕ, _+_, _-_, _≤_}
+use Prim.Native.Nat.{_+_, _-_, _≤_}
 use native.Mathlib.Omega.{arith}
 use borrow.Author.Needs.{needs}
 use lib.ListN.{length, take}
@@ -28,15 +28,6 @@ sub-put-spaced c = roomy c
 part-put-spaced-start : tie.Need-part-put-spaced-start Inv-loop μ-loop
 part-put-spaced-start c = let r = roomy c in search (needs, r)
 
-part-put-spaced-end : tie.Need-part-put-spaced-end Inv-loop μ-loop
-part-put-spaced-end c = search needs
-
-mul-put-spaced : tie.Need-mul-put-spaced Inv-loop μ-loop
-mul-put-spaced c = search needs
-
-shared-slice-read-put-spaced : tie.Need-shared-slice-read-put-spaced Inv-loop μ-loop
-shared-slice-read-put-spaced c = search needs
-
 put-spaced-requires : tie.Need-put-spaced-requires Inv-loop μ-loop
 put-spaced-requires c κs = let l = c .before .before in tail-room _ _ _ _ _ (l .loop-test .taken) (l .before .loop .inv .1) (l .before .before .before .before .pre) .1
 
@@ -53,12 +44,6 @@ add-at c =
     let a = listed-within (s .args .tail .now) (c .before .before .before .before .before .before .loop .j + 1) in
     let p = s .pre in
     omega arith
-
-add-j : tie.Need-add-j Inv-loop μ-loop
-add-j c = search needs
-
-loop-less : tie.Need-loop-less Inv-loop μ-loop
-loop-less c = search needs
 
 -- all are written, and there is room for the end of the line
 ended : (c : tie.After-loop Inv-loop μ-loop) → c .before .loop .at + 1 ≤ length (c .before .loop .room)
@@ -92,13 +77,13 @@ put-tail-spec =
     loop-holds
     sub-put-spaced
     part-put-spaced-start
-    part-put-spaced-end
-    mul-put-spaced
-    shared-slice-read-put-spaced
+    (λ c. search needs)
+    (λ c. search needs)
+    (λ c. search needs)
     put-spaced-requires
     add-at
-    add-j
-    loop-less
+    (λ c. search needs)
+    (λ c. search needs)
     loop-again
     slice-write-room
     add-result

@@ -1,6 +1,6 @@
 -- `writing::tail_width` meets its contract. The invariant: the vertices so far are measured. Assumes nothing.
 use mathlib.Core.Path.{_≡_, sym, _∙_}
-use Prim.Native.Nat.{ℕ, _+_, _*_, _-_, _≤_, _<_}
+use Prim.Native.Nat.{_+_, _*_, _-_, _≤_, _<_}
 use native.Mathlib.Omega.{arith}
 use borrow.Author.Needs.{needs}
 use lib.ListN.{length, take}
@@ -35,26 +35,11 @@ measured c =
     let i = l .loop .inv .1 in
     (omega arith, omega arith, h, l .before .before .pre .short)
 
-mul-number-width : tie.Need-mul-number-width Inv-loop μ-loop
-mul-number-width c = search needs
-
-shared-slice-read-number-width : tie.Need-shared-slice-read-number-width Inv-loop μ-loop
-shared-slice-read-number-width c = search needs
-
-number-width-requires : tie.Need-number-width-requires Inv-loop μ-loop
-number-width-requires c κs = search needs
-
 add-width : tie.Need-add-width Inv-loop μ-loop
 add-width c = let m = measured c .0 in omega arith
 
 add-width-2 : tie.Need-add-width-2 Inv-loop μ-loop
 add-width-2 c = let m = measured c in let a = m .0 in let b = m .2 in let d = m .3 in omega arith
-
-add-j : tie.Need-add-j Inv-loop μ-loop
-add-j c = search needs
-
-loop-less : tie.Need-loop-less Inv-loop μ-loop
-loop-less c = search needs
 
 loop-again : tie.Need-loop-again Inv-loop μ-loop
 loop-again c = let m = measured c in let a = m .0 in let b = m .2 in (omega arith, m .1, omega arith)
@@ -69,12 +54,12 @@ tail-width-spec =
     Inv-loop
     μ-loop
     loop-holds
-    mul-number-width
-    shared-slice-read-number-width
-    number-width-requires
+    (λ c. search needs)
+    (λ c. search needs)
+    (λ c κs. search needs)
     add-width
     add-width-2
-    add-j
-    loop-less
+    (λ c. search needs)
+    (λ c. search needs)
     loop-again
     returns)
