@@ -1,4 +1,3 @@
-pub mod Laws
+pub mod Clear
 pub mod Turning
 pub mod Whole
-pub mod Start

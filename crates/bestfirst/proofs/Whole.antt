@@ -16,7 +16,8 @@ use Rattle.columns.specs.Acceptance.{acceptance}
 use Rattle.columns.specs.Accepted.{table-accepted, well-formed}
 use Rattle.offers.specs.Lent.{Turning}
 use Rattle.offers.specs.Laws.{same-table, turning-columns}
-use Rattle.bestfirst.specs.Turns.{UseIndex, Waits, Underway}
+use Rattle.waiting.specs.Lines.{Lines}
+use Rattle.bestfirst.specs.Turns.{Waits, Underway}
 
 -- k turns on a table
 abbrev pub turnsOf : Measure → Columns → ℕ → Answers
@@ -38,19 +39,18 @@ module _ (m : Measure) (c : Columns) (p : acceptance c ≡ Accepted) {a : Answer
   turning h = turning-columns c a p sizes (λ v. omega (arith, so-far .shallow v, table-accepted c p .few))
 
   -- before the next turn
-  pub underway : {index list ms q : List ℕ} → k < c .vertices → UseIndex (hypergraph c) index list → Waits m c (a .weights) (a .depths) ms q → Underway m (same-table c (length (a .depths))) a index list ms q
-  underway {index} {list} {ms} {q} h i w =
-      subst (λ (n : ℕ). Underway m (same-table c n) a index list ms q) (sym (sizes .depths)) (record {
+  pub underway : {s : Lines} {q : List ℕ} → k < c .vertices → Waits m c (a .weights) (a .depths) s q → Underway m (same-table c (length (a .depths))) a s q
+  underway {s} {q} h w =
+      subst (λ (n : ℕ). Underway m (same-table c n) a s q) (sym (sizes .depths)) (record {
         turning = subst (λ (n : ℕ). Turning (same-table c n) a) (sizes .depths) (turning (omega arith));
         taken = k;
         more = h;
         shallow = so-far .shallow;
-        indexed = i;
         waits = w;
       })
 
-  pub waits-on : {ws ds ms q : List ℕ} → Waits m (same-table c (length (a .depths))) ws ds ms q → Waits m c ws ds ms q
-  waits-on {ws} {ds} {ms} {q} w = subst (λ (n : ℕ). Waits m (same-table c n) ws ds ms q) (sizes .depths) w
+  pub waits-on : {ws ds : List ℕ} {s : Lines} {q : List ℕ} → Waits m (same-table c (length (a .depths))) ws ds s q → Waits m c ws ds s q
+  waits-on {ws} {ds} {s} {q} w = subst (λ (n : ℕ). Waits m (same-table c n) ws ds s q) (sizes .depths) w
 
   -- one turn more
   pub turns-more : {b : Answers} → b ≡ turn (algebra m) (hypergraph (same-table c (length (a .depths)))) (ownAt c) a → b ≡ turnsOf m c (k + 1)

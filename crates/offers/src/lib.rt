@@ -13,7 +13,8 @@ ghost use Rattle.provenance.specs.Labelling.{offerOf};
 ghost use Rattle.columns.specs.Columns.{tailOf};
 ghost use Rattle.offers.specs.Lent.{cell, Legible, EdgeIn};
 
-fn deeper(a: u64, b: u64) -> u64
+// The greater of two depths.
+pub fn deeper(a: u64, b: u64) -> u64
     ensures { λ r. ⌜ r ≡ max a b ⌝ }
 {
     if a < b {

@@ -7,12 +7,14 @@ use Prim.Native.Nat.{ℕ, zero, suc, _+_, _*_, _≤_, _<_}
 use native.Mathlib.Numerals.{add-one}
 use native.Mathlib.Omega.{arith}
 use lib.ListN.{length, getD, set, replicate, length-append, length-replicate, getD-replicate}
+use Rattle.weights.specs.Lists.{member}
+use Rattle.weights.proofs.Lists.{true-or-false}
 use Rattle.weights.specs.Choice.{pick}
 use Rattle.columns.specs.Columns.{tailOf}
-use Rattle.uses.specs.Uses.{member, usesBelow, pairs, pairsIn}
+use Rattle.uses.specs.Uses.{usesBelow, pairs, pairsIn}
 use Rattle.uses.specs.Indexable.{Readable, Counting, markBelow, counted}
 use Rattle.uses.specs.Pairs.{pairs-ext, length-pairs, pairs-first, pairs-second, pair-set}
-use Rattle.uses.specs.Lists.{true-or-false, uses-few}
+use Rattle.uses.specs.Lists.{uses-few}
 use Rattle.uses.proofs.Seen.{seenIn, usesBy, seen-now, seen-other, seen-again}
 
 abbrev pub markBy : (tail : ℕ → List ℕ) → ℕ → (ℕ → Bool) → ℕ → ℕ

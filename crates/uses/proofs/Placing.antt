@@ -9,11 +9,12 @@ use native.Mathlib.Omega.{arith}
 use lib.ListN.{length, getD, set}
 use lib.Dec.{ltb}
 use borrow.Author.Tests.{ltb-true, ltb-false, lt-ltb, le-ltb}
+use Rattle.weights.proofs.Lists.{true-or-false}
 use Rattle.weights.specs.Choice.{pick}
 use Rattle.uses.specs.Uses.{usesBelow, useList, pairs, useOffset, useCount}
 use Rattle.uses.specs.Indexable.{markBelow, counted, running, placed}
 use Rattle.uses.specs.Pairs.{pairs-of, pairs-same, pairs-second, pair-set}
-use Rattle.uses.specs.Lists.{true-or-false, offset-next}
+use Rattle.uses.specs.Lists.{offset-next}
 
 -- the pairs of the vertices below v are placed, and the others as they were
 abbrev first : List ℕ → ℕ → ℕ → ℕ

@@ -9,13 +9,14 @@ use native.Mathlib.Omega.{arith}
 use lib.ListN.{length, getD, take, drop, length-take, length-drop}
 use lib.Seq.{take-suc, take-all, getD-take, getD-drop}
 use borrow.Author.Tests.{eq-eqb, ne-eqb}
+use Rattle.weights.specs.Lists.{member}
+use Rattle.weights.proofs.Lists.{either, member-at, member-snoc}
 use Rattle.weights.specs.Choice.{pick}
 use Rattle.columns.specs.Columns.{tailOf}
 use Rattle.columns.specs.Accepted.{below-at}
-use Rattle.uses.specs.Uses.{member, usesBelow}
+use Rattle.uses.specs.Uses.{usesBelow}
 use Rattle.uses.specs.Indexable.{TailReadable}
 use Rattle.uses.specs.Pairs.{same-or-not}
-use Rattle.uses.specs.Lists.{either, member-snoc, member-at}
 
 -- the vertices of a list
 abbrev pub seenIn : List ℕ → ℕ → Bool
@@ -38,10 +39,6 @@ module _ (vs : List ℕ) (w : ℕ) where
 
   pub seen-again : member w vs ≡ true → seenIn (vs ++ w ∷ []) ≡ seenIn vs
   seen-again p = fun-ext (λ v. ⊎-elim (λ e. rw e (seen-now ∙ sym p)) (λ d. seen-other v d) (same-or-not v w))
-
-  -- none is forgotten
-  pub seen-still : (v : ℕ) → member v vs ≡ true → member v (vs ++ w ∷ []) ≡ true
-  seen-still v p = member-snoc v vs w ∙ rw p
 
 -- place i of the tail of hyperedge e
 module _ {n : ℕ} {spans tails : List ℕ} {e : ℕ} (r : TailReadable n spans tails e) (i : ℕ) where

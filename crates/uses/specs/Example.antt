@@ -2,8 +2,9 @@
 use mathlib.Core.Path.{_≡_, refl}
 use mathlib.Core.List.{List, [], _∷_}
 use Prim.Native.Nat.{ℕ}
+use Rattle.weights.specs.Lists.{member}
 use Rattle.columns.specs.Columns.{tailOf}
-use Rattle.uses.specs.Uses.{member, usesBelow, useList, pairs, usePairs}
+use Rattle.uses.specs.Uses.{usesBelow, useList, pairs, usePairs}
 
 abbrev spans : List ℕ
 spans = 0 ∷ 0 ∷ 0 ∷ 0 ∷ 0 ∷ 2 ∷ 2 ∷ 0 ∷ 2 ∷ 3 ∷ 5 ∷ 1 ∷ []

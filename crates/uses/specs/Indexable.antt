@@ -5,10 +5,11 @@ use mathlib.Core.List.{List}
 use Prim.Native.Nat.{ℕ, zero, suc, _+_, _*_, _-_, _≤_, _<_}
 use lib.ListN.{length, getD}
 use lib.Dec.{eqb}
+use Rattle.weights.specs.Lists.{member}
 use Rattle.weights.specs.Choice.{pick}
 use Rattle.columns.specs.Columns.{tailOf}
 use Rattle.columns.specs.Acceptance.{allBelow}
-use Rattle.uses.specs.Uses.{member, usesBelow, useList, pairs, pairsIn, useOffset}
+use Rattle.uses.specs.Uses.{usesBelow, useList, pairs, pairsIn, useOffset}
 
 -- the tail of hyperedge e stands in the column, and its vertices are below n
 pub record TailReadable (n : ℕ) (spans tails : List ℕ) (e : ℕ) : Type 0 where

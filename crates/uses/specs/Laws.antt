@@ -1,29 +1,17 @@
 -- What an index of uses tells those who read it: for each vertex exactly the hyperedges that list it, ascending, at its offset; offsets from 0 without gaps.
 -- Assumes nothing.
-use mathlib.Core.Path.{_≡_, refl, sym, _∙_, ap}
-use mathlib.Core.Bool.{Bool, true, false}
-use mathlib.Core.List.{List, [], _∷_}
+use mathlib.Core.Path.{_≡_, _∙_, ap}
+use mathlib.Core.Bool.{true}
+use mathlib.Core.List.{List}
 use Prim.Native.Nat.{ℕ, suc, _+_, _*_, _≤_, _<_}
 use native.Mathlib.Numerals.{add-one}
 use native.Mathlib.Omega.{arith}
 use lib.ListN.{length, getD, drop, List·getD-append}
-use lib.Dec.{eqb}
-use borrow.Author.Tests.{eqb-true}
-use Rattle.weights.specs.Choice.{pick, apart}
+use Rattle.weights.specs.Lists.{member}
 use Rattle.columns.specs.Filled.{filled, length-filled}
-use Rattle.uses.specs.Uses.{member, usesBelow, useList, useOffset, useCount, usePairs, Index, indexed}
+use Rattle.uses.specs.Uses.{usesBelow, useList, useOffset, useCount, usePairs, Index, indexed}
 use Rattle.uses.specs.Pairs.{length-pairs, pairs-first, pairs-second}
 use Rattle.uses.specs.Lists.{uses-sound, uses-complete, uses-ascend, offset-next, offset-end, uses-at}
-
--- a member stands somewhere in the list (`member-at` of Lists is the converse)
-pub member-found : (v : ℕ) (vs : List ℕ) → member v vs ≡ true → (i : ℕ) × ((i < length vs) × (getD vs i 0 ≡ v))
-unfolding member
-member-found v [] p = apart p
-member-found v (u ∷ us) p = go (eqb v u) refl p (member-found v us)
-  where
-    go : (b : Bool) → eqb v u ≡ b → pick b true (member v us) ≡ true → (member v us ≡ true → (i : ℕ) × ((i < length us) × (getD us i 0 ≡ v))) → (i : ℕ) × ((i < length (u ∷ us)) × (getD (u ∷ us) i 0 ≡ v))
-    go true e q f = (0, (omega arith, sym (eqb-true v u e)))
-    go false e q f = let s = f q in (suc (s .0), (omega (arith, s .1 .0), s .1 .1))
 
 -- the three parts of what indexing leaves
 pub record Indexed (tail : ℕ → List ℕ) (m n : ℕ) (old : List ℕ) (total : ℕ) (index list : List ℕ) : Type 0 where

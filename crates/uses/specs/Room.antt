@@ -8,16 +8,18 @@ use native.Mathlib.Numerals.{add-one}
 use native.Mathlib.Omega.{arith}
 use lib.ListN.{length, drop, length-take}
 use borrow.Author.Tests.{eq-eqb, ne-eqb}
+use Rattle.weights.specs.Lists.{member}
+use Rattle.weights.proofs.Lists.{true-or-false}
 use Rattle.refusal.specs.declared.Answer.the-variants.{Accepted}
 use Rattle.weights.specs.Choice.{pick}
 use Rattle.columns.specs.Columns.{Columns, offsetAt, lengthAt, tailAt}
 use Rattle.columns.specs.Acceptance.{allBelow, edgeAt, edgesAcceptance, acceptance}
 use Rattle.columns.specs.Accepted.{below-at, below-all, both-accepted, edge-accepted, table-accepted}
-use Rattle.uses.specs.Uses.{member, usesBelow, useList, pairsIn}
+use Rattle.uses.specs.Uses.{usesBelow, useList, pairsIn}
 use Rattle.uses.specs.Laws.{Indexed}
 use Rattle.uses.specs.Indexable.{Indexable}
 use Rattle.uses.specs.Pairs.{same-or-not}
-use Rattle.uses.specs.Lists.{true-or-false, uses-same, more-length, offset-next}
+use Rattle.uses.specs.Lists.{uses-same, more-length, offset-next}
 
 -- how many of the vertices below n are in a list
 unfoldable hits : ℕ → List ℕ → ℕ

@@ -1,17 +1,11 @@
 -- The index of uses: for each vertex the hyperedges that list it, ascending and each once, struck ones too, in one list; and a column of pairs that says where the
 -- uses of a vertex stand there: the offset, then the length. Assumes nothing: these are definitions.
-use mathlib.Core.Bool.{Bool, true, false}
 use mathlib.Core.List.{List, [], _∷_, _++_}
 use Prim.Native.Nat.{ℕ, zero, suc, _/_}
 use lib.ListN.{length}
-use lib.Dec.{eqb}
 use Rattle.weights.specs.Choice.{pick}
+use Rattle.weights.specs.Lists.{member}
 use Rattle.columns.specs.Filled.{filled}
-
--- v is in the list
-unfoldable pub member : ℕ → List ℕ → Bool
-member v [] = false
-member v (w ∷ ws) = pick (eqb v w) true (member v ws)
 
 -- of the hyperedges below k those that list v
 unfoldable pub usesBelow : (tail : ℕ → List ℕ) → (v k : ℕ) → List ℕ

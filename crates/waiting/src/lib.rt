@@ -1,29 +1,337 @@
-// The key of a label: one number, 40 bits of weight, 11 of depth and 12 of hyperedge, so that
-// comparing two labels is comparing two numbers.
+// Hyperedges that wait: each that is not struck waits for one vertex of its tail, the first that is
+// not made, in a list kept with that vertex, and carries what the vertices before it join to. When
+// the vertex is made, what waited for it goes on: it reaches its end and is offered to its head, or
+// waits again. So each place of a tail is read once.
+use offers::deeper;
 use weights::Hyperedge;
 use weights::Label;
+use weights::Measure;
 use weights::Weight;
 ghost use mathlib.Core.Path.{_≡_};
-ghost use Rattle.waiting.specs.Keys.{packed, unpacked, Fits};
+ghost use Prim.Native.Nat.{_+_, _<_};
+ghost use lib.ListN.{length};
+ghost use Rattle.weights.specs.Measures.{algebra};
+ghost use Rattle.offers.specs.Lent.{lent, cell};
+ghost use Rattle.waiting.specs.Lines.{plain, Passable, lines, pushed, Carried, Gone, Pushable, Offerable, Going, Went, Wakeful, Starting, Waking, Rested, Empty};
 
-pub fn pack(l: Label) -> u64
-    requires { ⌜ Fits l ⌝ }
-    ensures { λ r. ⌜ r ≡ packed l ⌝ }
-{
-    let weight = l.weight;
-    let edge = l.edge;
-    weight.0 * 8388608 + l.depth * 4096 + edge.0
+// In place of a hyperedge, at the end of a list.
+const END: u16 = 65535;
+
+// How far a hyperedge has come: the next place of its tail, and what the places before it join to.
+struct Reached {
+    at: usize,
+    joined: Weight,
+    deepest: u64,
 }
 
-pub fn unpack(key: u64) -> Label
-    ensures { λ r. ⌜ r ≡ unpacked key ⌝ }
+// Two weights of a tail, joined. A sum is capped only at the end of the tail, where it has no more
+// than 16 weights.
+fn joining(measure: Measure, a: u64, b: u64) -> u64
+    requires { ⌜ a + b < 18446744073709551616 ⌝ }
+    ensures { λ r. ⌜ r ≡ plain measure a b ⌝ }
 {
-    let weight = key / 8388608;
-    let depth = key / 4096 % 2048;
-    let edge = key % 4096;
-    Label {
-        weight: Weight(weight),
+    match measure {
+        Measure::Cost => a + b,
+        Measure::Days => deeper(a, b),
+    }
+}
+
+// From a place of a tail on to the first vertex that is not made, or to the end.
+fn go_on(measure: Measure, from: Reached, tail: &[u64], weights: &[u64], depths: &[u64]) -> Reached
+    requires { ⌜ (Passable (now tail) (now weights) (now depths)) × Carried (algebra measure) (cell (now weights)) (cell (now depths)) (now tail) (from .at) (from .joined .0) (from .deepest) ⌝ }
+    ensures { λ r. ⌜ Gone (algebra measure) (cell (now (weights .entry))) (cell (now (depths .entry))) (now (tail .entry)) (r .at) (r .joined .0) (r .deepest) ⌝ }
+{
+    let mut at = from.at;
+    let mut joined = from.joined;
+    let mut deepest = from.deepest;
+    while at < tail.len() {
+        let v = tail[at] as usize;
+        let depth = depths[v];
+        if depth == 0 {
+            return Reached {
+                at,
+                joined,
+                deepest,
+            };
+        }
+        let weight = weights[v];
+        let sum = joining(measure, joined.0, weight);
+        joined = Weight(sum);
+        deepest = deeper(deepest, depth);
+        at += 1;
+    }
+    Reached {
+        at,
+        joined,
+        deepest,
+    }
+}
+
+// Hyperedge e waits for vertex v, having come so far.
+fn wait(
+    e: Hyperedge,
+    v: usize,
+    to: Reached,
+    first: &mut [u16],
+    next: &mut [u16],
+    at: &mut [u16],
+    joined: &mut [u64],
+    deepest: &mut [u16],
+)
+    requires { ⌜ Pushable (lines (now first) (now next) (now at) (now joined) (now deepest)) v (e .0) (to .at) (to .deepest) ⌝ }
+    ensures { λ r. ⌜ lines (now (first .exit)) (now (next .exit)) (now (at .exit)) (now (joined .exit)) (now (deepest .exit)) ≡ pushed (lines (now (first .entry)) (now (next .entry)) (now (at .entry)) (now (joined .entry)) (now (deepest .entry))) v (e .0) (to .at) (to .joined .0) (to .deepest) ⌝ }
+{
+    let i = e.0 as usize;
+    let weight = to.joined;
+    let before = first[v];
+    at[i] = to.at as u16;
+    joined[i] = weight.0;
+    deepest[i] = to.deepest as u16;
+    next[i] = before;
+    first[v] = i as u16;
+}
+
+// Hyperedge e, whose head is unmade, goes on from where it is: it waits again, or is offered.
+fn advance(
+    measure: Measure,
+    e: Hyperedge,
+    from: Reached,
+    heads: &[u64],
+    own: &[u64],
+    spans: &[u64],
+    tails: &[u64],
+    weights: &[u64],
+    depths: &[u64],
+    first: &mut [u16],
+    next: &mut [u16],
+    at: &mut [u16],
+    joined: &mut [u64],
+    deepest: &mut [u16],
+    queue: &mut [u64],
+)
+    requires { ⌜ (Offerable (lent (now heads) (now own) (now spans) (now tails) (now depths)) (now weights) (now depths) (now queue)) × Going measure (lent (now heads) (now own) (now spans) (now tails) (now depths)) (now weights) (now depths) (lines (now first) (now next) (now at) (now joined) (now deepest)) (e .0) (from .at) (from .joined .0) (from .deepest) ⌝ }
+    ensures { λ r. ⌜ Went (algebra measure) (lent (now (heads .entry)) (now (own .entry)) (now (spans .entry)) (now (tails .entry)) (now (depths .entry))) (cell (now (weights .entry))) (cell (now (depths .entry))) (e .0) (lines (now (first .entry)) (now (next .entry)) (now (at .entry)) (now (joined .entry)) (now (deepest .entry))) (lines (now (first .exit)) (now (next .exit)) (now (at .exit)) (now (joined .exit)) (now (deepest .exit))) (now (queue .entry)) (now (queue .exit)) ⌝ }
+{
+    let i = e.0 as usize;
+    let offset = spans[2 * i] as usize;
+    let size = spans[2 * i + 1] as usize;
+    let stop = offset + size;
+    let to = go_on(measure, from, &tails[offset..stop], weights, depths);
+    let k = to.at;
+    if k < size {
+        let v = tails[offset + k] as usize;
+        wait(e, v, to, first, next, at, joined, deepest);
+        return;
+    }
+    let figure = own[i];
+    let sum = to.joined;
+    let weight = Weight(figure).finish(measure, sum);
+    let depth = to.deepest + 1;
+    let l = Label {
+        weight,
         depth,
-        edge: Hyperedge(edge),
+        edge: e,
+    };
+    let key = queue::pack(l);
+    let h = heads[i] as usize;
+    minima::lower(queue, h, key);
+}
+
+// Hyperedge e waited for a vertex that is made now: it goes on, unless its head is made too.
+fn wake(
+    measure: Measure,
+    e: Hyperedge,
+    heads: &[u64],
+    own: &[u64],
+    spans: &[u64],
+    tails: &[u64],
+    weights: &[u64],
+    depths: &[u64],
+    first: &mut [u16],
+    next: &mut [u16],
+    at: &mut [u16],
+    joined: &mut [u64],
+    deepest: &mut [u16],
+    queue: &mut [u64],
+)
+    requires { ⌜ (Offerable (lent (now heads) (now own) (now spans) (now tails) (now depths)) (now weights) (now depths) (now queue)) × Wakeful measure (lent (now heads) (now own) (now spans) (now tails) (now depths)) (now weights) (now depths) (lines (now first) (now next) (now at) (now joined) (now deepest)) (e .0) ⌝ }
+    ensures { λ r. ⌜ Went (algebra measure) (lent (now (heads .entry)) (now (own .entry)) (now (spans .entry)) (now (tails .entry)) (now (depths .entry))) (cell (now (weights .entry))) (cell (now (depths .entry))) (e .0) (lines (now (first .entry)) (now (next .entry)) (now (at .entry)) (now (joined .entry)) (now (deepest .entry))) (lines (now (first .exit)) (now (next .exit)) (now (at .exit)) (now (joined .exit)) (now (deepest .exit))) (now (queue .entry)) (now (queue .exit)) ⌝ }
+{
+    let i = e.0 as usize;
+    let h = heads[i] as usize;
+    if depths[h] != 0 {
+        return;
+    }
+    let place = at[i] as usize;
+    let weight = joined[i];
+    let depth = deepest[i] as u64;
+    let from = Reached {
+        at: place,
+        joined: Weight(weight),
+        deepest: depth,
+    };
+    advance(
+        measure,
+        e,
+        from,
+        heads,
+        own,
+        spans,
+        tails,
+        weights,
+        depths,
+        first,
+        next,
+        at,
+        joined,
+        deepest,
+        queue,
+    );
+}
+
+// Vertex v is made: what waited for it goes on.
+pub fn wake_all(
+    measure: Measure,
+    v: usize,
+    heads: &[u64],
+    own: &[u64],
+    spans: &[u64],
+    tails: &[u64],
+    weights: &[u64],
+    depths: &[u64],
+    first: &mut [u16],
+    next: &mut [u16],
+    at: &mut [u16],
+    joined: &mut [u64],
+    deepest: &mut [u16],
+    queue: &mut [u64],
+)
+    requires { ⌜ (Offerable (lent (now heads) (now own) (now spans) (now tails) (now depths)) (now weights) (now depths) (now queue)) × ((v < length (now depths)) × Waking measure (lent (now heads) (now own) (now spans) (now tails) (now depths)) (now weights) (now depths) (lines (now first) (now next) (now at) (now joined) (now deepest)) (now queue) v (cell (now first) v)) ⌝ }
+    ensures { λ r. ⌜ Rested measure (lent (now (heads .entry)) (now (own .entry)) (now (spans .entry)) (now (tails .entry)) (now (depths .entry))) (now (weights .entry)) (now (depths .entry)) (lines (now (first .exit)) (now (next .exit)) (now (at .exit)) (now (joined .exit)) (now (deepest .exit))) (now (queue .exit)) ⌝ }
+{
+    let mut l = first[v];
+    while l != END {
+        let i = l as usize;
+        let after = next[i];
+        let number = l as u64;
+        let e = Hyperedge(number);
+        wake(
+            measure,
+            e,
+            heads,
+            own,
+            spans,
+            tails,
+            weights,
+            depths,
+            first,
+            next,
+            at,
+            joined,
+            deepest,
+            queue,
+        );
+        l = after;
+    }
+}
+
+// Hyperedge e, unless it is struck, waits for the first vertex of its tail or is offered.
+fn begin(
+    measure: Measure,
+    e: Hyperedge,
+    heads: &[u64],
+    own: &[u64],
+    spans: &[u64],
+    tails: &[u64],
+    weights: &[u64],
+    depths: &[u64],
+    first: &mut [u16],
+    next: &mut [u16],
+    at: &mut [u16],
+    joined: &mut [u64],
+    deepest: &mut [u16],
+    queue: &mut [u64],
+)
+    requires { ⌜ (Offerable (lent (now heads) (now own) (now spans) (now tails) (now depths)) (now weights) (now depths) (now queue)) × ((e .0 < length (now heads)) × Starting measure (lent (now heads) (now own) (now spans) (now tails) (now depths)) (now weights) (now depths) (lines (now first) (now next) (now at) (now joined) (now deepest)) (now queue) (e .0)) ⌝ }
+    ensures { λ r. ⌜ Starting measure (lent (now (heads .entry)) (now (own .entry)) (now (spans .entry)) (now (tails .entry)) (now (depths .entry))) (now (weights .entry)) (now (depths .entry)) (lines (now (first .exit)) (now (next .exit)) (now (at .exit)) (now (joined .exit)) (now (deepest .exit))) (now (queue .exit)) (e .0 + 1) ⌝ }
+{
+    let i = e.0 as usize;
+    let figure = own[i];
+    let struck = Weight(figure).is_struck();
+    if struck {
+        return;
+    }
+    let unit = Weight::unit(measure);
+    let from = Reached {
+        at: 0,
+        joined: unit,
+        deepest: 0,
+    };
+    let offset = spans[2 * i] as usize;
+    let size = spans[2 * i + 1];
+    if size != 0 {
+        let v = tails[offset] as usize;
+        wait(e, v, from, first, next, at, joined, deepest);
+        return;
+    }
+    advance(
+        measure,
+        e,
+        from,
+        heads,
+        own,
+        spans,
+        tails,
+        weights,
+        depths,
+        first,
+        next,
+        at,
+        joined,
+        deepest,
+        queue,
+    );
+}
+
+// Every hyperedge that is not struck waits or is offered.
+pub fn start(
+    measure: Measure,
+    heads: &[u64],
+    own: &[u64],
+    spans: &[u64],
+    tails: &[u64],
+    weights: &[u64],
+    depths: &[u64],
+    first: &mut [u16],
+    next: &mut [u16],
+    at: &mut [u16],
+    joined: &mut [u64],
+    deepest: &mut [u16],
+    queue: &mut [u64],
+)
+    requires { ⌜ (Offerable (lent (now heads) (now own) (now spans) (now tails) (now depths)) (now weights) (now depths) (now queue)) × Empty (lent (now heads) (now own) (now spans) (now tails) (now depths)) (now depths) (lines (now first) (now next) (now at) (now joined) (now deepest)) (now queue) ⌝ }
+    ensures { λ r. ⌜ Rested measure (lent (now (heads .entry)) (now (own .entry)) (now (spans .entry)) (now (tails .entry)) (now (depths .entry))) (now (weights .entry)) (now (depths .entry)) (lines (now (first .exit)) (now (next .exit)) (now (at .exit)) (now (joined .exit)) (now (deepest .exit))) (now (queue .exit)) ⌝ }
+{
+    let mut i = 0;
+    while i < heads.len() {
+        let number = i as u64;
+        let e = Hyperedge(number);
+        begin(
+            measure,
+            e,
+            heads,
+            own,
+            spans,
+            tails,
+            weights,
+            depths,
+            first,
+            next,
+            at,
+            joined,
+            deepest,
+            queue,
+        );
+        i += 1;
     }
 }

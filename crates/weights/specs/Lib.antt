@@ -5,3 +5,4 @@ pub mod Labels
 pub mod Laws
 pub mod Weighing
 pub mod Order
+pub mod Lists

@@ -1,4 +1,6 @@
 -- `uses::fill_edge` meets its contract. The invariant: the uses below e stand, and e for the vertices passed. Assumes nothing.
+use Rattle.weights.specs.Lists.{member}
+use Rattle.weights.proofs.Lists.{member-take}
 use Rattle.uses.proofs.fill_edge.Statement.{statement}
 use Rattle.uses.proofs.fill_edge.Tie as tie
 use mathlib.Core.Path.{_≡_, sym, _∙_, ap, subst, subst₂}
@@ -11,10 +13,9 @@ use borrow.Author.Needs.{needs}
 use borrow.Author.Tests.{not-true, not-false}
 use lib.ListN.{length, getD, take}
 use Rattle.columns.specs.Columns.{tailOf}
-use Rattle.uses.specs.Uses.{member, pairsIn, useOffset}
+use Rattle.uses.specs.Uses.{pairsIn, useOffset}
 use Rattle.uses.specs.Indexable.{TailReadable, endsIn}
 use Rattle.uses.specs.Pairs.{length-pairs}
-use Rattle.uses.specs.Lists.{member-take}
 use Rattle.uses.proofs.Seen.{seenIn, usesBy, vertex-below, vertex-listed, one-more, whole}
 use Rattle.uses.proofs.Filling.{FilledBy, fill-first, fill-last, start-is, size-is, end-within, ends-seen, fill-again, place-free, fill-new}
 

@@ -1,0 +1,44 @@
+-- Before the first turn: the columns to work in are clear, so nothing waits and nothing is queued. Assumes nothing.
+use Prim.Native.Nat.{ℕ, _<_}
+use mathlib.Core.Path.{_≡_, _∙_, ap}
+use mathlib.Core.List.{List}
+use native.Mathlib.Omega.{arith}
+use lib.ListN.{length, length-replicate, getD-replicate}
+use Rattle.weights.specs.declared.Measure.{Measure}
+use Rattle.provenance.specs.BestFirst.{Answers, turns}
+use Rattle.provenance.specs.Existence.{zeros}
+use Rattle.columns.specs.Columns.{Columns}
+use Rattle.columns.specs.Acceptance.{mostVertices}
+use Rattle.columns.specs.Accepted.{table-accepted}
+use Rattle.offers.specs.Lent.{cell}
+use Rattle.minima.specs.Minima.{none, size}
+use Rattle.queue.specs.Keys.{heavy}
+use Rattle.waiting.specs.Lines.{end, Lines, Offerable, Rested, Empty}
+use Rattle.bestfirst.specs.Turns.{Unmade, Ready, Cleared}
+
+module _ {m : Measure} {c : Columns} {a : Answers} {s : Lines} {q : List ℕ} (u : Unmade m c a) (k : Cleared (length (c .heads)) s q) where
+  light : (v : ℕ) → cell (a .weights) v < heavy
+  unfolding turns
+  light v = omega (arith, ap (λ (b : Answers). cell (b .weights) v) (u .blank), zeros (c .vertices) v)
+
+  deep-none : (v : ℕ) → cell (a .depths) v ≡ 0
+  unfolding turns
+  deep-none v = ap (λ (b : Answers). cell (b .depths) v) (u .blank) ∙ zeros (c .vertices) v
+
+  pub offerable : Offerable c (a .weights) (a .depths) q
+  offerable = record {
+    usable = u .turning .usable;
+    fitted = record { weight = light; depth = λ v. omega (arith, u .turning .usable .shallow v) };
+    sized = ap length (k .queue) ∙ length-replicate size none;
+  }
+
+  pub emptied : Empty c (a .depths) s q
+  emptied = record {
+    sizes = k .sizes;
+    unmade = deep-none;
+    empty = λ v h. ap (λ (z : List ℕ). cell z v) (k .first) ∙ getD-replicate mostVertices v end 0 (omega (arith, table-accepted c (u .turning .usable .accepted) .few));
+    nothing = k .queue;
+  }
+
+  pub ready : {s′ : Lines} {q′ : List ℕ} → Rested m c (a .weights) (a .depths) s′ q′ → Ready m c a s′ q′
+  ready r = record { unmade = u; waits = record { light = light; rested = r } }

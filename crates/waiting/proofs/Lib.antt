@@ -1,0 +1,6 @@
+pub mod Keeping
+pub mod Steps
+pub mod Short
+pub mod Walking
+pub mod Starts
+pub mod Queueing

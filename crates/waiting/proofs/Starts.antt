@@ -1,0 +1,99 @@
+-- Before the first turn: nothing waits at first, and one hyperedge after another waits or is offered. Assumes nothing.
+use Prim.Native.Nat.{ℕ, _+_, _≤_, _<_}
+use mathlib.Core.Path.{_≡_, sym, _∙_, ap, subst}
+use mathlib.Core.Logic.{_⊎_, inl, inr, _≢_}
+use mathlib.Core.Bool.{true, false}
+use mathlib.Core.List.{List, [], List·Memᴰ·not-nil}
+use native.Mathlib.Omega.{arith}
+use native.Mathlib.Decide.{ℕ-discrete}
+use lib.ListN.{length}
+use Rattle.weights.specs.declared.Measure.{Measure}
+use Rattle.weights.specs.Choice.{apart}
+use Rattle.weights.specs.Figures.{isStruck}
+use Rattle.weights.specs.Measures.{algebra}
+use Rattle.columns.specs.Columns.{Columns, headAt, ownAt, offsetAt, lengthAt, tailAt}
+use Rattle.offers.specs.Lent.{cell}
+use Rattle.minima.specs.Minima.{Grouped}
+use Rattle.minima.specs.Laws.{no-keys, no-keys-grouped}
+use Rattle.waiting.specs.Lines.{Lines, pushed, Carried, Gone, Pushable, ended, kept, Moved, stays, waits, Went, Offerable, Going, Starting, Rested, Empty}
+use Rattle.waiting.proofs.Keeping.{carried-none, pushed-sizes, went-stays, went-waits}
+use Rattle.waiting.proofs.Steps.{few, edge-room, head-key, tail-length, tail-at, tail-below, edge-fits, went-on, pushable}
+use Rattle.waiting.proofs.Walking.{waiting-on}
+
+pub nothing-waits : {m : Measure} {c : Columns} {ws ds : List ℕ} {s : Lines} {q : List ℕ} → Empty c ds s q → Starting m c ws ds s q 0
+nothing-waits {q = q} x = record {
+  sizes = x .sizes;
+  unmade = x .unmade;
+  waiting = record {
+    lists = λ v. [];
+    chained = λ v h z. ended (x .empty v h);
+    covered = λ e h u z. kept (omega arith);
+    apart = λ v e h z i b. List·Memᴰ·not-nil i;
+    grouped = subst Grouped (sym (x .nothing)) no-keys-grouped;
+    offers = λ u h. inl (ap (λ (z : List ℕ). cell z u) (x .nothing) ∙ no-keys u h);
+  };
+}
+
+next-or : (i x : ℕ) → i ≤ x → (x ≡ i) ⊎ (i + 1 ≤ x)
+next-or i x h = go (ℕ-discrete x i)
+  where
+    go : Dec (x ≡ i) → (x ≡ i) ⊎ (i + 1 ≤ x)
+    go (yes e) = inl e
+    go (no n) = inr (omega arith)
+
+module _ {m : Measure} {c : Columns} {ws ds : List ℕ} {s : Lines} {q : List ℕ} {i : ℕ} (x : Starting m c ws ds s q i) where
+  -- a struck hyperedge is passed over
+  pub struck-next : isStruck (ownAt c i) ≡ true → Starting m c ws ds s q (i + 1)
+  struck-next t = record { sizes = x .sizes; unmade = x .unmade; waiting = waiting-on (λ e h u b. go e u (next-or i e b)) (λ e b. omega arith) (x .waiting) }
+    where
+      go : (e : ℕ) → isStruck (ownAt c e) ≡ false → (e ≡ i) ⊎ (i + 1 ≤ e) → i + 1 ≤ e
+      go e u (inl p) = apart (sym u ∙ ap (λ (z : ℕ). isStruck (ownAt c z)) p ∙ t)
+      go e u (inr h) = h
+
+  -- any other goes on from the start of its tail
+  module _ (o : Offerable c ws ds q) (h : i < length (c .heads)) (u : isStruck (ownAt c i) ≡ false) where
+    pub going : {j : ℕ} → j ≡ algebra m .unit → Going m c ws ds s i 0 j 0
+    going {j} p = record {
+      sizes = x .sizes;
+      numbered = h;
+      unstruck = u;
+      fresh = x .unmade (headAt c i);
+      passed = subst (λ (z : ℕ). Carried (algebra m) (cell ws) (cell ds) (tailAt c i) 0 z 0) (sym p) (carried-none (algebra m) (cell ws) (cell ds) (tailAt c i));
+    }
+
+    -- nothing of the tail is passed, as no vertex is made
+    pub gone-none : {j : ℕ} → j ≡ algebra m .unit → Gone (algebra m) (cell ws) (cell ds) (tailAt c i) 0 j 0
+    gone-none p = record { passed = going p .passed; stopped = λ h. x .unmade (cell (tailAt c i) 0) }
+
+    pub tail-first : lengthAt c i ≢ 0 → (0 < length (tailAt c i)) × (cell (tailAt c i) 0 ≡ cell (c .tails) (offsetAt c i))
+    tail-first n =
+        let z : offsetAt c i + 0 ≡ offsetAt c i = omega arith in
+        (omega (arith, tail-length o i h), tail-at o i h 0 (omega arith) ∙ ap (cell (c .tails)) z)
+
+    pub first-pushable : {j : ℕ} → j ≡ algebra m .unit → lengthAt c i ≢ 0 → Pushable s (cell (c .tails) (offsetAt c i)) i 0 0
+    first-pushable {j} p n = pushable o (going p) (cell (c .tails) (offsetAt c i)) 0 j 0 (gone-none p) (tail-first n .0) (tail-first n .1)
+
+    -- so it waits for the first vertex of its tail
+    pub first-waits : {s′ : Lines} {j : ℕ} → j ≡ algebra m .unit → lengthAt c i ≢ 0 → s′ ≡ pushed s (cell (c .tails) (offsetAt c i)) i 0 j 0 → Went (algebra m) c (cell ws) (cell ds) i s s′ q q
+    first-waits {j = j} p n y = went-on (algebra m) c (cell ws) (cell ds) i q (cell (c .tails) (offsetAt c i)) 0 j 0 (gone-none p) (tail-first n .0) (tail-first n .1) y
+
+    pub went-next : {s′ : Lines} {q′ : List ℕ} → Went (algebra m) c (cell ws) (cell ds) i s s′ q q′ → Starting m c ws ds s′ q′ (i + 1)
+    went-next {s′} {q′} y = go (y .moved)
+      where
+        go : Moved (algebra m) c (cell ws) (cell ds) i s s′ → Starting m c ws ds s′ q′ (i + 1)
+        go (stays z b) =
+            subst (λ (a : Lines). Starting m c ws ds a q′ (i + 1)) (sym z) (record {
+              sizes = x .sizes;
+              unmade = x .unmade;
+              waiting = went-stays (algebra m) c (cell ws) (cell ds) (head-key o) (λ e k. edge-fits o e k m) (x .waiting) i h (y .heard) (next-or i) (λ e b. omega arith) b;
+            })
+        go (waits k j g b z a r) =
+            subst (λ (a : Lines). Starting m c ws ds a q′ (i + 1)) (sym r) (record {
+              sizes = pushed-sizes (algebra m) c (cell ws) (cell ds) s (cell (tailAt c i) k) i k j g (x .sizes) (edge-room o i h) (omega (arith, few o i h, tail-below o i h k b));
+              unmade = x .unmade;
+              waiting = went-waits (algebra m) c (cell ws) (cell ds) (head-key o) (λ e k. edge-fits o e k m) (x .waiting) i h (y .heard) (next-or i) (λ e b. omega arith)
+                  k j g (x .sizes) (edge-room o i h) (tail-below o i h) (few o i h) (omega arith) (λ b. omega arith) u b z a;
+            })
+
+  pub all-started : length (c .heads) ≤ i → Rested m c ws ds s q
+  all-started h = record { sizes = x .sizes; waiting = waiting-on (λ e k u b. omega arith) (λ e z. absurd z) (x .waiting) }

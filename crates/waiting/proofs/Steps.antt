@@ -1,0 +1,155 @@
+-- The laws by which one hyperedge goes on: where its tail stands, and what it offers at the end of it. Assumes nothing.
+use Prim.Native.Nat.{ℕ, _+_, _-_, _≤_, _<_, max}
+use mathlib.Core.Path.{_≡_, refl, sym, _∙_, ap, subst}
+use mathlib.Core.Logic.{_≢_}
+use mathlib.Core.Bool.{Bool, true, false}
+use mathlib.Core.List.{List}
+use native.Mathlib.Omega.{arith}
+use lib.ListN.{length, drop, length-take, length-drop}
+use lib.Seq.{getD-take, getD-drop}
+use lib.Dec.{leb}
+use borrow.Author.Tests.{eq-eqb, le-leb, lt-leb, leb-true}
+use Rattle.weights.proofs.Lists.{member-at}
+use Rattle.weights.specs.declared.Measure.{Measure}
+use Rattle.weights.specs.declared.Label.{Label}
+use Rattle.weights.specs.declared.Offer.{Offer}
+use Rattle.weights.specs.declared.Offer.the-variants.{Nothing, Found}
+use Rattle.weights.specs.Choice.{pick}
+use Rattle.weights.specs.Figures.{isStruck}
+use Rattle.weights.specs.Labels.{label}
+use Rattle.weights.specs.Measures.{Algebra, algebra, fold}
+use Rattle.provenance.specs.Hypergraph.{Hypergraph}
+use Rattle.provenance.specs.Labelling.{each, greatest, noneZero}
+use Rattle.provenance.specs.BestFirst.{opening}
+use Rattle.columns.specs.Columns.{Columns, headAt, ownAt, offsetAt, lengthAt, tailAt, hypergraph}
+use Rattle.columns.specs.Accepted.{table-accepted, below-at}
+use Rattle.offers.specs.Lent.{cell}
+use Rattle.offers.specs.Laws.{edge-in}
+use Rattle.offers.proofs.Laws.{rest, rest-end, rest-whole}
+use Rattle.minima.specs.Minima.{keys}
+use Rattle.queue.specs.Keys.{Fits, Fitting, nothing, found}
+use Rattle.queue.specs.Queue.{offered}
+use Rattle.queue.proofs.Laws.{open-fits, open-unmade, open-made}
+use Rattle.waiting.specs.Lines.{Passable, Lines, places, pushed, Carried, Gone, stays, waits, Went, Offerable, Going, Pushable}
+use Rattle.waiting.proofs.Keeping.{extends-refl}
+
+pub places-few : (k : ℕ) → k ≤ 256 → places k ≡ 256
+unfolding places
+places-few k h = rw (le-leb k 256 h)
+
+pub places-many : (k : ℕ) → 256 < k → places k ≡ 4096
+unfolding places
+places-many k h = rw (lt-leb k 256 h)
+
+-- there is a place for every hyperedge
+pub places-enough : (k : ℕ) → k ≤ 4096 → k ≤ places k
+unfolding places
+places-enough k h = go (leb k 256) refl
+  where
+    go : (b : Bool) → leb k 256 ≡ b → k ≤ pick b 256 4096
+    go true p = omega (arith, leb-true k 256 p)
+    go false p = h
+
+pub vertices-few : {c : Columns} {ws ds q : List ℕ} → Offerable c ws ds q → length ds ≤ 1024
+vertices-few {c} r = omega (arith, r .usable .vertices, table-accepted c (r .usable .accepted) .few)
+
+-- a hyperedge of a usable table: its tail, its head, and what it offers
+module _ {c : Columns} {ws ds q : List ℕ} (r : Offerable c ws ds q) (e : ℕ) (h : e < length (c .heads)) where
+  pub few : c .vertices ≤ 1024
+  few = table-accepted c (r .usable .accepted) .few
+
+  pub edge-few : e < 4096
+  edge-few = omega (arith, table-accepted c (r .usable .accepted) .edges)
+
+  pub edge-room : e < places (length (c .heads))
+  edge-room = omega (arith, places-enough (length (c .heads)) (table-accepted c (r .usable .accepted) .edges))
+
+  pub head-below : headAt c e < c .vertices
+  head-below = table-accepted c (r .usable .accepted) .each e h .1 .head
+
+  pub head-key : headAt c e < keys
+  head-key = omega (arith, few, head-below)
+
+  pub within : offsetAt c e + lengthAt c e ≤ length (c .tails)
+  within = table-accepted c (r .usable .accepted) .each e h .1 .within
+
+  pub tails-few : length (c .tails) ≤ 16384
+  tails-few = table-accepted c (r .usable .accepted) .tails
+
+  pub short : lengthAt c e ≤ 16
+  short = table-accepted c (r .usable .accepted) .each e h .1 .short
+
+  pub tail-length : length (tailAt c e) ≡ lengthAt c e
+  tail-length = omega (arith, within, length-take (lengthAt c e) (drop (offsetAt c e) (c .tails)), length-drop (offsetAt c e) (c .tails))
+
+  pub tail-at : (k : ℕ) → k < lengthAt c e → cell (tailAt c e) k ≡ cell (c .tails) (offsetAt c e + k)
+  tail-at k l = getD-take (lengthAt c e) (drop (offsetAt c e) (c .tails)) k 0 l ∙ getD-drop (offsetAt c e) (c .tails) k 0
+
+  pub tail-below : (k : ℕ) → k < length (tailAt c e) → cell (tailAt c e) k < c .vertices
+  tail-below k l = below-at _ _ (table-accepted c (r .usable .accepted) .each e h .1 .listed) k l
+
+  pub passable : Passable (tailAt c e) ws ds
+  passable = record { legible = edge-in (r .usable) e h .legible; light = r .fitted .weight; short = omega (arith, tail-length, short) }
+
+  pub edge-fits : (m : Measure) → Fitting (opening (algebra m) (hypergraph c) (cell (c .own)) (cell ws) (cell ds) e)
+  edge-fits m = open-fits m (hypergraph c) (cell (c .own)) (cell ws) (cell ds) e (r .fitted) (omega (arith, table-accepted c (r .usable .accepted) .each e h .1 .own)) edge-few
+
+pub found-fits : {l : Label} {o : Offer} → Fitting o → Found l ≡ o → Fits l
+found-fits nothing p = absurd (let z : _≡_ {A = ℕ} 0 1 = cc in omega arith)
+found-fits {l} (found {l = k} f) p = let e : k ≡ l = cc in subst Fits e f
+
+-- a part of a column that is lent is as long as the span says
+pub span-length : (off len : ℕ) → off + len - off ≡ len
+span-length off len = omega arith
+
+module _ (A : Algebra) (c : Columns) (w d : ℕ → ℕ) (e : ℕ) where
+  abbrev H : Hypergraph
+  H = hypergraph c
+
+  abbrev here : Offer
+  here = opening A H (cell (c .own)) w d e
+
+  module _ {i j g : ℕ} (p : Carried A w d (tailAt c e) i j g) (l : length (tailAt c e) ≤ i) where
+    at-end : Found (label (A .finish (ownAt c e) j) (g + 1) e) ≡ rest A e (ownAt c e) w d (A .unit) 0 (tailAt c e)
+    at-end = rest-end A e (ownAt c e) w d j g (tailAt c e) i l ∙ p .carried e (ownAt c e) w d (extends-refl w d)
+
+    -- past the end of the tail every vertex of it is made
+    pub all-made : noneZero d (tailAt c e) ≡ true
+    unfolding rest
+    all-made = go (noneZero d (tailAt c e)) (Found (label (A .finish (ownAt c e) (fold (A .join) (A .unit) (each w (tailAt c e)))) (max 0 (greatest d (tailAt c e)) + 1) e)) at-end
+      where
+        go : (b : Bool) (m : Offer) {l : Label} → Found l ≡ pick b m Nothing → b ≡ true
+        go true m z = refl
+        go false m z = absurd (let y : _≡_ {A = ℕ} 0 1 = cc in omega arith)
+
+    pub end-open : isStruck (ownAt c e) ≡ false → d (headAt c e) ≡ 0 → Found (label (A .finish (ownAt c e) j) (g + 1) e) ≡ here
+    unfolding opening
+    end-open u f = at-end ∙ rest-whole A e (ownAt c e) w d (tailAt c e) u ∙ rw (eq-eqb _ _ f)
+
+  -- at a vertex that is unmade nothing is offered
+  pub heard-nothing : (q : List ℕ) (i : ℕ) → i < length (tailAt c e) → d (cell (tailAt c e) i) ≡ 0 → q ≡ offered q (headAt c e) here
+  heard-nothing q i l z = ap (offered q (headAt c e)) (sym (open-unmade A H (cell (c .own)) w d (cell (tailAt c e) i) e z (member-at (tailAt c e) i l)))
+
+  pub heard-made : (q : List ℕ) → d (headAt c e) ≢ 0 → q ≡ offered q (headAt c e) here
+  heard-made q n = ap (offered q (headAt c e)) (sym (open-made A H (cell (c .own)) w d e n))
+
+  pub went-on : {s s′ : Lines} (q : List ℕ) (v i j g : ℕ) → Gone A w d (tailAt c e) i j g → i < length (tailAt c e) → cell (tailAt c e) i ≡ v → s′ ≡ pushed s v e i j g → Went A c w d e s s′ q q
+  went-on {s} q v i j g p l y x = record {
+    moved = waits i j g l (p .stopped l) (p .passed) (x ∙ ap (λ (z : ℕ). pushed s z e i j g) (sym y));
+    heard = heard-nothing q i l (p .stopped l);
+  }
+
+  pub went-out : (s : Lines) {q q′ : List ℕ} (i j g : ℕ) → Gone A w d (tailAt c e) i j g → length (tailAt c e) ≤ i → q′ ≡ offered q (headAt c e) here → Went A c w d e s s q q′
+  went-out s i j g p l x = record { moved = stays refl (λ _. all-made (p .passed) l); heard = x }
+
+-- there is room for a hyperedge that waits
+pub pushable : {m : Measure} {c : Columns} {ws ds q : List ℕ} {s : Lines} {e a b k : ℕ} → Offerable c ws ds q → Going m c ws ds s e a b k → (v i j g : ℕ) → Gone (algebra m) (cell ws) (cell ds) (tailAt c e) i j g → i < length (tailAt c e) → cell (tailAt c e) i ≡ v → Pushable s v e i g
+pushable {e = e} r y v i j g p l x = record {
+  sizes = y .sizes;
+  vertex = omega (arith, few r e (y .numbered), tail-below r e (y .numbered) i l);
+  edges = _;
+  edge = edge-room r e (y .numbered);
+  small = omega (arith, edge-few r e (y .numbered));
+  place = omega (arith, tail-length r e (y .numbered), short r e (y .numbered));
+  depth = omega (arith, p .passed .shallow);
+}

@@ -1,0 +1,190 @@
+-- Hyperedges that wait, each for one vertex of its tail: the first that is not made. In columns: `first` has for each vertex the first hyperedge that waits for it, `next`
+-- for each hyperedge the next in the same list; `at`, `joined` and `deepest` how far a hyperedge has come in its tail, and what the places before join to.
+-- What holds of them between two steps is said by `Waiting`. Assumes nothing: these are definitions.
+use Prim.Native.Nat.{ℕ, _+_, _*_, _≤_, _<_, max}
+use mathlib.Core.Path.{_≡_}
+use mathlib.Core.Logic.{_⊎_, _≢_}
+use mathlib.Core.Bool.{true, false}
+use mathlib.Core.List.{List, [], _∷_, List·Memᴰ}
+use lib.ListN.{length, drop, set, replicate}
+use lib.Dec.{leb}
+use Rattle.weights.specs.declared.Measure.{Measure}
+use Rattle.weights.specs.declared.Measure.the-variants.{Cost, Days}
+use Rattle.weights.specs.Figures.{isStruck}
+use Rattle.weights.specs.Measures.{Algebra, algebra}
+use Rattle.provenance.specs.Labelling.{noneZero}
+use Rattle.provenance.specs.BestFirst.{opening}
+use Rattle.columns.specs.Columns.{Columns, headAt, ownAt, tailAt, hypergraph}
+use Rattle.columns.specs.Acceptance.{mostVertices, mostEdges, longestTail}
+use Rattle.weights.specs.Choice.{pick}
+use Rattle.offers.specs.Lent.{cell, Legible, Usable}
+use Rattle.offers.proofs.Laws.{rest}
+use Rattle.minima.specs.Minima.{none, keys, size, Grouped}
+use Rattle.queue.specs.Keys.{heavy}
+use Rattle.queue.specs.Queue.{keyAt, offered, Fitted}
+
+-- in place of a hyperedge, at the end of a list
+abbrev pub end : ℕ
+end = 65535
+
+-- the columns
+pub record Lines : Type 0 where
+  pub first : List ℕ
+  pub next : List ℕ
+  pub at : List ℕ
+  pub joined : List ℕ
+  pub deepest : List ℕ
+
+abbrev pub lines : (first next at joined deepest : List ℕ) → Lines
+lines first next at joined deepest = record { first = first; next = next; at = at; joined = joined; deepest = deepest }
+
+-- how many hyperedges the columns have places for: a table of few is given few, as every place has to be cleared
+abbrev pub fewEdges : ℕ
+fewEdges = 256
+
+unfoldable pub places : (edges : ℕ) → ℕ
+places k = pick (leb k fewEdges) fewEdges mostEdges
+
+-- a place for every vertex, and for every hyperedge of a table of k
+pub record Sizes (k : ℕ) (s : Lines) : Type 0 where
+  pub first : length (s .first) ≡ mostVertices
+  pub next : length (s .next) ≡ places k
+  pub at : length (s .at) ≡ places k
+  pub joined : length (s .joined) ≡ places k
+  pub deepest : length (s .deepest) ≡ places k
+
+-- hyperedge e is put first in the list of v, i places of its tail passed, which join to j and are g deep
+abbrev pub pushed : Lines → (v e i j g : ℕ) → Lines
+pushed s v e i j g = record { first = set (s .first) v e; next = set (s .next) e (cell (s .first) v); at = set (s .at) e i; joined = set (s .joined) e j; deepest = set (s .deepest) e g }
+
+-- Labels -----------------------------------------------------------------------------------------------------------------------------------------------
+
+-- later labels: what is made stays as it is
+pub record Extends (w d w′ d′ : ℕ → ℕ) : Type 0 where
+  pub weight : (u : ℕ) → d u ≢ 0 → w′ u ≡ w u
+  pub depth : (u : ℕ) → d u ≢ 0 → d′ u ≡ d u
+
+-- two weights of a tail joined, and not capped
+abbrev pub plain : Measure → ℕ → ℕ → ℕ
+plain Cost a b = a + b
+plain Days a b = max a b
+
+-- a tail can be passed: it can be read, and its weights can be summed
+pub record Passable (tail ws ds : List ℕ) : Type 0 where
+  pub legible : Legible tail ws ds
+  pub light : (v : ℕ) → cell ws v < heavy
+  pub short : length tail ≤ longestTail
+
+-- i places of a tail are passed: they join to j and are g deep, whatever is made besides, so what is left has the answer of the whole
+pub record Carried (A : Algebra) (w d : ℕ → ℕ) (tail : List ℕ) (i j g : ℕ) : Type 0 where
+  pub inside : i ≤ length tail
+  pub shallow : g ≤ mostVertices
+  pub light : j ≤ A .unit + i * heavy
+  pub carried : (e own : ℕ) (w′ d′ : ℕ → ℕ) → Extends w d w′ d′ → rest A e own w′ d′ j g (drop i tail) ≡ rest A e own w′ d′ (A .unit) 0 tail
+
+-- the same as far as possible: to the end, or to a vertex that is unmade
+pub record Gone (A : Algebra) (w d : ℕ → ℕ) (tail : List ℕ) (i j g : ℕ) : Type 0 where
+  pub passed : Carried A w d tail i j g
+  pub stopped : i < length tail → d (cell tail i) ≡ 0
+
+-- Lists ------------------------------------------------------------------------------------------------------------------------------------------------
+
+-- from f along `next` stand these, none of them twice, and each has P
+pub data Chain (P : ℕ → Type 0) (next : List ℕ) : ℕ → List ℕ → Type 0 where
+  ended : {f : ℕ} → f ≡ end → Chain P next f []
+  linked : {f : ℕ} {es : List ℕ} → P f → ¬ List·Memᴰ f es → Chain P next (cell next f) es → Chain P next f (f ∷ es)
+
+module _ (A : Algebra) (c : Columns) (w d : ℕ → ℕ) where
+  -- hyperedge e waits for v
+  pub record Waiter (s : Lines) (v e : ℕ) : Type 0 where
+    pub numbered : e < length (c .heads)
+    pub unstruck : isStruck (ownAt c e) ≡ false
+    pub before : cell (s .at) e < length (tailAt c e)
+    pub here : cell (tailAt c e) (cell (s .at) e) ≡ v
+    pub passed : Carried A w d (tailAt c e) (cell (s .at) e) (cell (s .joined) e) (cell (s .deepest) e)
+
+  -- the key of what e has to offer
+  abbrev pub keyOn : ℕ → ℕ
+  keyOn e = keyAt A (hypergraph c) (cell (c .own)) w d e
+
+  -- where e is: still to be looked at, in the list of an unmade vertex, or offered
+  pub data Placed (lists : ℕ → List ℕ) (q : List ℕ) (busy : ℕ → Type 0) (e : ℕ) : Type 0 where
+    kept : busy e → Placed lists q busy e
+    waits : (v : ℕ) → v < c .vertices → d v ≡ 0 → List·Memᴰ e (lists v) → Placed lists q busy e
+    heard : noneZero d (tailAt c e) ≡ true → cell q (headAt c e) ≤ keyOn e → Placed lists q busy e
+
+  -- every unstruck hyperedge whose head is unmade is in one of these; and what is queued is offered by some hyperedge
+  pub record Waiting (s : Lines) (q : List ℕ) (busy : ℕ → Type 0) : Type 0 where
+    pub lists : ℕ → List ℕ
+    pub chained : (v : ℕ) → v < c .vertices → d v ≡ 0 → Chain (Waiter s v) (s .next) (cell (s .first) v) (lists v)
+    pub covered : (e : ℕ) → e < length (c .heads) → isStruck (ownAt c e) ≡ false → d (headAt c e) ≡ 0 → Placed lists q busy e
+    pub apart : (v e : ℕ) → v < c .vertices → d v ≡ 0 → List·Memᴰ e (lists v) → busy e → ⊥
+    pub grouped : Grouped q
+    pub offers : (u : ℕ) → u < keys → (cell q u ≡ none) ⊎ ((e : ℕ) × ((e < length (c .heads)) × ((headAt c e ≡ u) × (cell q u ≡ keyOn e))))
+
+  -- what a hyperedge does when it goes on: it stays out of the lists, offered unless its head is made, or waits for another vertex
+  pub data Moved (e : ℕ) (s s′ : Lines) : Type 0 where
+    stays : s′ ≡ s → (d (headAt c e) ≡ 0 → noneZero d (tailAt c e) ≡ true) → Moved e s s′
+    waits : (i j g : ℕ) → i < length (tailAt c e) → d (cell (tailAt c e) i) ≡ 0 → Carried A w d (tailAt c e) i j g → s′ ≡ pushed s (cell (tailAt c e) i) e i j g → Moved e s s′
+
+  pub record Went (e : ℕ) (s s′ : Lines) (q q′ : List ℕ) : Type 0 where
+    pub moved : Moved e s s′
+    pub heard : q′ ≡ offered q (headAt c e) (opening A (hypergraph c) (cell (c .own)) w d e)
+
+-- What functions ask -----------------------------------------------------------------------------------------------------------------------------------
+
+-- columns with room for it
+pub record Pushable (s : Lines) (v e i g : ℕ) : Type 0 where
+  pub edges : ℕ
+  pub sizes : Sizes edges s
+  pub vertex : v < mostVertices
+  pub edge : e < places edges
+  pub small : e < 65536
+  pub place : i < 65536
+  pub depth : g < 65536
+
+-- hyperedges can be offered to their heads
+pub record Offerable (c : Columns) (ws ds q : List ℕ) : Type 0 where
+  pub usable : Usable c ws ds
+  pub fitted : Fitted (cell ws) (cell ds)
+  pub sized : length q ≡ size
+
+-- hyperedge e, whose head is unmade, can go on
+pub record Going (m : Measure) (c : Columns) (ws ds : List ℕ) (s : Lines) (e i j g : ℕ) : Type 0 where
+  pub sizes : Sizes (length (c .heads)) s
+  pub numbered : e < length (c .heads)
+  pub unstruck : isStruck (ownAt c e) ≡ false
+  pub fresh : cell ds (headAt c e) ≡ 0
+  pub passed : Carried (algebra m) (cell ws) (cell ds) (tailAt c e) i j g
+
+-- hyperedge e waits for a vertex
+pub record Wakeful (m : Measure) (c : Columns) (ws ds : List ℕ) (s : Lines) (e : ℕ) : Type 0 where
+  pub sizes : Sizes (length (c .heads)) s
+  pub vertex : ℕ
+  pub waiter : Waiter (algebra m) c (cell ws) (cell ds) s vertex e
+
+-- no vertex is made, and the hyperedges from i on are still to be looked at
+pub record Starting (m : Measure) (c : Columns) (ws ds : List ℕ) (s : Lines) (q : List ℕ) (i : ℕ) : Type 0 where
+  pub sizes : Sizes (length (c .heads)) s
+  pub unmade : (v : ℕ) → cell ds v ≡ 0
+  pub waiting : Waiting (algebra m) c (cell ws) (cell ds) s q (λ e. i ≤ e)
+
+-- vertex v is made, and what waited for it is still to be looked at
+pub record Waking (m : Measure) (c : Columns) (ws ds : List ℕ) (s : Lines) (q : List ℕ) (v l : ℕ) : Type 0 where
+  pub sizes : Sizes (length (c .heads)) s
+  pub made : cell ds v ≢ 0
+  pub left : List ℕ
+  pub chain : Chain (Waiter (algebra m) c (cell ws) (cell ds) s v) (s .next) l left
+  pub waiting : Waiting (algebra m) c (cell ws) (cell ds) s q (λ e. List·Memᴰ e left)
+
+-- nothing is still to be looked at
+pub record Rested (m : Measure) (c : Columns) (ws ds : List ℕ) (s : Lines) (q : List ℕ) : Type 0 where
+  pub sizes : Sizes (length (c .heads)) s
+  pub waiting : Waiting (algebra m) c (cell ws) (cell ds) s q (λ e. ⊥)
+
+-- no vertex is made, nothing waits, and nothing is queued
+pub record Empty (c : Columns) (ds : List ℕ) (s : Lines) (q : List ℕ) : Type 0 where
+  pub sizes : Sizes (length (c .heads)) s
+  pub unmade : (v : ℕ) → cell ds v ≡ 0
+  pub empty : (v : ℕ) → v < c .vertices → cell (s .first) v ≡ end
+  pub nothing : q ≡ replicate size none
