@@ -1,6 +1,7 @@
 /*
- * The calls by hand, as one would write them in C without a proof: best-first with an index of the
- * lines that use a part, and a binary heap of the lines that are ready. The same checks are made.
+ * The calls by hand, as one would write them in C without a proof, for few instructions: best-first,
+ * where each line waits for one part that it needs, the first that is not made, and goes on when that
+ * is. The same checks are made.
  */
 #include <string.h>
 
@@ -9,49 +10,73 @@
 
 #define REFUSED(number, place) ((uint64_t)(number) << 32 | (place))
 
+/* Inlined once for each measure, which is a constant there. */
+#define FOR_MEASURE static inline __attribute__((always_inline))
+
 /* A table whose columns have been checked. */
 struct view {
-    uint64_t measure, n, lines;
+    uint64_t n, lines;
     const uint64_t *heads, *own, *spans, *tails;
 };
 
-static const uint64_t *tail(const struct view *t, uint64_t line)
+/*
+ * Whether x is above a bound, in the top bit, so that a column's words are gathered without a branch.
+ * A bound is below 2^63, or it is n - 1 without parts, which every x counts as above.
+ */
+static inline uint64_t above(uint64_t x, uint64_t bound)
 {
-    return t->tails + t->spans[2 * line];
+    return x | (bound - x);
 }
 
-static uint64_t length(const struct view *t, uint64_t line)
+static uint64_t any_above(const uint64_t *column, size_t count, uint64_t bound)
 {
-    return t->spans[2 * line + 1];
+    uint64_t gathered = 0;
+    size_t i;
+
+    for (i = 0; i < count; i++)
+        gathered |= above(column[i], bound);
+    return gathered;
 }
 
-static uint64_t join(uint64_t measure, uint64_t a, uint64_t b)
+/* In the top bit, whether a span is too long, passes the end of tails or the start of the next. */
+static uint64_t any_misplaced(const uint64_t *spans, size_t lines, uint64_t tails_count)
 {
-    if (measure == TOZBIERDU_DAYS)
-        return a > b ? a : b;
-    return a + b > TOZBIERDU_CEILING ? TOZBIERDU_OVER : a + b;
+    uint64_t gathered = 0;
+    size_t i;
+
+    for (i = 0; i < 2 * lines; i += 2)
+        gathered |= above(spans[i], tails_count) | above(spans[i + 1], TOZBIERDU_LONGEST_TAIL);
+    for (i = 2; i < 2 * lines; i += 2)
+        gathered |= spans[i] - spans[i - 2] - spans[i - 1];
+    return lines == 0 ? 0 : gathered | (tails_count - spans[i - 2] - spans[i - 1]);
 }
 
-static uint64_t check_line(const struct view *t, uint64_t line, uint64_t end, size_t tails_count)
+/* The first of refusals 3 to 6; 0 if all that is off are places of tails between the spans. */
+static uint64_t first_refusal(const struct view *t, size_t tails_count)
 {
-    uint64_t offset = t->spans[2 * line], size = length(t, line), i;
+    uint64_t line, i, end = 0;
 
-    if (t->heads[line] >= t->n)
-        return REFUSED(TOZBIERDU_REFUSED_HEAD, line);
-    if (t->own[line] > TOZBIERDU_STRUCK)
-        return REFUSED(TOZBIERDU_REFUSED_OWN, line);
-    if (offset < end || size > TOZBIERDU_LONGEST_TAIL || offset > tails_count || size > tails_count - offset)
-        return REFUSED(TOZBIERDU_REFUSED_SPAN, line);
-    for (i = 0; i < size; i++)
-        if (tail(t, line)[i] >= t->n)
-            return REFUSED(TOZBIERDU_REFUSED_TAIL, line);
+    for (line = 0; line < t->lines; line++) {
+        uint64_t offset = t->spans[2 * line], size = t->spans[2 * line + 1];
+        if (t->heads[line] >= t->n)
+            return REFUSED(TOZBIERDU_REFUSED_HEAD, line);
+        if (t->own[line] > TOZBIERDU_STRUCK)
+            return REFUSED(TOZBIERDU_REFUSED_OWN, line);
+        if (offset < end || size > TOZBIERDU_LONGEST_TAIL || offset > tails_count
+            || size > tails_count - offset)
+            return REFUSED(TOZBIERDU_REFUSED_SPAN, line);
+        end = offset + size;
+        for (i = offset; i < end; i++)
+            if (t->tails[i] >= t->n)
+                return REFUSED(TOZBIERDU_REFUSED_TAIL, line);
+    }
     return 0;
 }
 
-/* Refusals 16 and 1 to 7. */
+/* Refusals 16 and 1 to 7. Whole columns are looked through, and line by line only if one is off. */
 static uint64_t check(struct view *t, uint64_t measure, uint64_t n, TABLE_COLUMNS, ANSWER_COLUMNS)
 {
-    uint64_t line, end = 0, result;
+    uint64_t off, result;
 
     (void)figures, (void)depths, (void)lines;
     if (measure > TOZBIERDU_DAYS)
@@ -61,161 +86,266 @@ static uint64_t check(struct view *t, uint64_t measure, uint64_t n, TABLE_COLUMN
     if (own_count != heads_count || heads_count > TOZBIERDU_MOST_LINES || spans_count != 2 * heads_count
         || tails_count > TOZBIERDU_MOST_TAILS)
         return REFUSED(TOZBIERDU_REFUSED_LENGTHS, 0);
-    *t = (struct view){ measure, n, heads_count, heads, own, spans, tails };
-    for (line = 0; line < t->lines; line++) {
-        result = check_line(t, line, end, tails_count);
-        if (result != 0)
-            return result;
-        end = spans[2 * line] + length(t, line);
-    }
+    *t = (struct view){ n, heads_count, heads, own, spans, tails };
+    off = any_above(heads, heads_count, n - 1) | any_above(own, own_count, TOZBIERDU_STRUCK)
+        | any_misplaced(spans, heads_count, tails_count) | any_above(tails, tails_count, n - 1);
+    if (off >> 63 != 0 && (result = first_refusal(t, tails_count)) != 0)
+        return result;
     if (figures_count != n || depths_count != n || lines_count != n)
         return REFUSED(TOZBIERDU_REFUSED_ANSWER_LENGTHS, 0);
     return 0;
 }
 
-/* What best-first knows of the lines: figure and depth so far, parts still missing, the ready ones. */
-struct search {
-    uint64_t weight[TOZBIERDU_MOST_LINES];
-    uint16_t depth[TOZBIERDU_MOST_LINES], missing[TOZBIERDU_MOST_LINES];
-    uint64_t heap[TOZBIERDU_MOST_LINES];
-    unsigned ready;
-    uint16_t first[TOZBIERDU_MOST_PARTS + 2], uses[TOZBIERDU_MOST_TAILS];
+#define NO_KEY UINT64_MAX
+
+/* A label in one number, ordered as labels are: by figure, then depth, then line. */
+static inline uint64_t key(uint64_t figure, uint64_t depth, uint64_t line)
+{
+    return figure << 23 | depth << 12 | line;
+}
+
+static inline uint64_t greater(uint64_t a, uint64_t b)
+{
+    return a > b ? a : b;
+}
+
+static inline uint64_t lesser(uint64_t a, uint64_t b)
+{
+    return a < b ? a : b;
+}
+
+/* Sums are capped at the end: an own figure and 16 others stay below 2^45. */
+static inline uint64_t join(uint64_t measure, uint64_t a, uint64_t b)
+{
+    return measure == TOZBIERDU_DAYS ? greater(a, b) : a + b;
+}
+
+static inline uint64_t capped(uint64_t figure)
+{
+    return lesser(figure, TOZBIERDU_OVER);
+}
+
+/*
+ * The least key offered to each part, from place `leaves` on, and above them at place i the least of
+ * places 4 i to 4 i + 3, so at place 1 the least of all. Place 0 holds 0, which ends the way up.
+ */
+struct queue {
+    uint64_t leaves, keys[2 * TOZBIERDU_MOST_PARTS];
 };
 
-/* Figure, then depth, then the line's number, in one number. */
-static uint64_t key(const struct search *s, unsigned line)
+static inline uint64_t least_of_group(const uint64_t *group)
 {
-    return s->weight[line] << 23 | (uint64_t)s->depth[line] << 12 | line;
+    return lesser(lesser(group[0], group[1]), lesser(group[2], group[3]));
 }
 
-static void push(struct search *s, unsigned line)
+static inline void clear_queue(struct queue *q, uint64_t n)
 {
-    unsigned at = s->ready++;
-    uint64_t k = key(s, line);
-
-    for (; at > 0 && k < s->heap[(at - 1) / 2]; at = (at - 1) / 2)
-        s->heap[at] = s->heap[(at - 1) / 2];
-    s->heap[at] = k;
+    for (q->leaves = 1; q->leaves < n; q->leaves *= 4)
+        continue;
+    memset(q->keys + q->leaves, 0xff, n * sizeof *q->keys);
+    q->keys[0] = 0;
 }
 
-static unsigned pop(struct search *s)
+/* The places above the leaves, when those are set; a last group that is not full is filled up. */
+static inline void build_queue(struct queue *q, uint64_t n)
 {
-    uint64_t least = s->heap[0], last = s->heap[--s->ready];
-    unsigned at = 0, next;
+    uint64_t level, i;
 
-    while ((next = 2 * at + 1) < s->ready) {
-        next += next + 1 < s->ready && s->heap[next + 1] < s->heap[next];
-        if (s->heap[next] >= last)
-            break;
-        s->heap[at] = s->heap[next];
-        at = next;
-    }
-    s->heap[at] = last;
-    return least & 4095;
-}
-
-/* For each part the lines that need it, once for each time. */
-static void index_uses(struct search *s, const struct view *t)
-{
-    uint64_t line, i, part;
-
-    memset(s->first, 0, (t->n + 2) * sizeof *s->first);
-    for (line = 0; line < t->lines; line++)
-        if (t->own[line] != TOZBIERDU_STRUCK)
-            for (i = 0; i < length(t, line); i++)
-                s->first[tail(t, line)[i] + 2]++;
-    for (part = 2; part < t->n + 2; part++)
-        s->first[part] += s->first[part - 1];
-    for (line = 0; line < t->lines; line++)
-        if (t->own[line] != TOZBIERDU_STRUCK)
-            for (i = 0; i < length(t, line); i++)
-                s->uses[s->first[tail(t, line)[i] + 1]++] = line;
-}
-
-static void best_first(const struct view *t, uint64_t *figures, uint64_t *depths, uint64_t *lines)
-{
-    struct search s;
-    uint64_t line, part, i;
-
-    index_uses(&s, t);
-    memset(figures, 0, t->n * sizeof *figures);
-    memset(depths, 0, t->n * sizeof *depths);
-    memset(lines, 0, t->n * sizeof *lines);
-    s.ready = 0;
-    for (line = 0; line < t->lines; line++) {
-        s.weight[line] = t->own[line];
-        s.depth[line] = 0;
-        s.missing[line] = length(t, line);
-        if (s.missing[line] == 0 && t->own[line] != TOZBIERDU_STRUCK)
-            push(&s, line);
-    }
-    while (s.ready > 0) {
-        line = pop(&s);
-        part = t->heads[line];
-        if (depths[part] != 0)
-            continue;
-        figures[part] = s.weight[line];
-        depths[part] = s.depth[line] + 1;
-        lines[part] = line;
-        for (i = s.first[part]; i < s.first[part + 1]; i++) {
-            unsigned use = s.uses[i];
-            s.weight[use] = join(t->measure, s.weight[use], figures[part]);
-            if (s.depth[use] < depths[part])
-                s.depth[use] = depths[part];
-            if (--s.missing[use] == 0 && depths[t->heads[use]] == 0)
-                push(&s, use);
-        }
+    for (level = q->leaves; level > 1; level /= 4) {
+        for (; n % 4 != 0; n++)
+            q->keys[level + n] = NO_KEY;
+        n /= 4;
+        for (i = level / 4; i < level / 4 + n; i++)
+            q->keys[i] = least_of_group(q->keys + 4 * i);
     }
 }
 
-/* The label that a line gives its head; 0 if it is struck or a part of it is unmade. */
-static int candidate(const struct view *t, uint64_t line, const uint64_t *figures, const uint64_t *depths,
-                     uint64_t *figure, uint64_t *depth)
+static inline void lower(struct queue *q, uint64_t part, uint64_t key)
 {
     uint64_t i;
 
-    if (t->own[line] == TOZBIERDU_STRUCK)
+    for (i = q->leaves + part; key < q->keys[i]; i /= 4)
+        q->keys[i] = key;
+}
+
+static inline void take_out(struct queue *q, uint64_t part)
+{
+    uint64_t i = q->leaves + part;
+
+    q->keys[i] = NO_KEY;
+    while (i > 1) {
+        const uint64_t *group = q->keys + i / 4 * 4;
+        q->keys[i /= 4] = least_of_group(group);
+    }
+}
+
+/*
+ * A line that waits for the part at place `at` of tails: what its own figure and the parts before
+ * that place join to, the greatest depth of those, the end of its span, and the next line that waits
+ * for the same part.
+ */
+struct waiter {
+    uint64_t joined;
+    uint16_t deepest, at, end, next;
+};
+
+#define NO_LINE UINT16_MAX
+
+/* Waiters are set before they are read: only the queue and the lists' first lines are cleared. */
+struct search {
+    struct queue queue;
+    struct waiter waiters[TOZBIERDU_MOST_LINES];
+    uint16_t first[TOZBIERDU_MOST_PARTS];
+};
+
+/* Each line that is not struck waits for the first part that it needs; if it needs none it is queued. */
+static inline void start(struct search *s, struct view t)
+{
+    uint64_t line;
+
+    memset(s->first, 0xff, t.n * sizeof *s->first);
+    clear_queue(&s->queue, t.n);
+    for (line = 0; line < t.lines; line++) {
+        uint64_t own = t.own[line], offset = t.spans[2 * line], size = t.spans[2 * line + 1];
+        if (own == TOZBIERDU_STRUCK)
+            continue;
+        if (size == 0) {
+            uint64_t *leaf = &s->queue.keys[s->queue.leaves + t.heads[line]];
+            *leaf = lesser(*leaf, key(own, 1, line));
+        } else {
+            uint16_t *first = &s->first[t.tails[offset]];
+            s->waiters[line] = (struct waiter){ own, 0, offset, offset + size, *first };
+            *first = line;
+        }
+    }
+    build_queue(&s->queue, t.n);
+}
+
+/* A part that a line waited for is made: the line waits for the next that is not, or is queued. */
+FOR_MEASURE void go_on(struct search *s, struct view t, uint64_t measure, const uint64_t *figures,
+                       const uint64_t *depths, uint64_t line, uint64_t figure, uint64_t depth)
+{
+    struct waiter *w = &s->waiters[line];
+    uint64_t joined = join(measure, w->joined, figure), deepest = greater(w->deepest, depth);
+    uint64_t at, end = w->end;
+
+    for (at = w->at + 1; at != end; at++) {
+        uint64_t part = t.tails[at];
+        if (depths[part] == 0) {
+            *w = (struct waiter){ joined, deepest, at, end, s->first[part] };
+            s->first[part] = line;
+            return;
+        }
+        joined = join(measure, joined, figures[part]);
+        deepest = greater(deepest, depths[part]);
+    }
+    lower(&s->queue, t.heads[line], key(capped(joined), deepest + 1, line));
+}
+
+FOR_MEASURE void best_first(struct view t, uint64_t measure, uint64_t *restrict figures,
+                            uint64_t *restrict depths, uint64_t *restrict lines)
+{
+    struct search s;
+    uint64_t best, line, next, part;
+
+    memset(depths, 0, t.n * sizeof *depths);
+    start(&s, t);
+    while ((best = s.queue.keys[1]) != NO_KEY) {
+        uint64_t figure = best >> 23, depth = best >> 12 & 2047;
+        line = best & 4095;
+        part = t.heads[line];
+        figures[part] = figure;
+        depths[part] = depth;
+        lines[part] = line;
+        take_out(&s.queue, part);
+        for (line = s.first[part]; line != NO_LINE; line = next) {
+            next = s.waiters[line].next;
+            if (depths[t.heads[line]] == 0)
+                go_on(&s, t, measure, figures, depths, line, figure, depth);
+        }
+    }
+    for (part = 0; part < t.n; part++)
+        if (depths[part] == 0)
+            figures[part] = lines[part] = 0;
+}
+
+/* Fills the answers. A table without parts has none, and no place for a key. */
+static void fill(struct view t, uint64_t measure, uint64_t *figures, uint64_t *depths, uint64_t *lines)
+{
+    if (t.n == 0)
+        return;
+    if (measure == TOZBIERDU_DAYS)
+        best_first(t, TOZBIERDU_DAYS, figures, depths, lines);
+    else
+        best_first(t, TOZBIERDU_COST, figures, depths, lines);
+}
+
+/* Whether a line gives its head a label, and its key: not if it is struck or needs an unmade part. */
+FOR_MEASURE int gives(struct view t, uint64_t measure, uint64_t line, const uint64_t *figures,
+                      const uint64_t *depths, uint64_t *given)
+{
+    uint64_t joined = t.own[line], deepest = 0, at = t.spans[2 * line], end = at + t.spans[2 * line + 1];
+
+    if (joined == TOZBIERDU_STRUCK)
         return 0;
-    *figure = t->own[line];
-    *depth = 0;
-    for (i = 0; i < length(t, line); i++) {
-        uint64_t part = tail(t, line)[i];
+    for (; at != end; at++) {
+        uint64_t part = t.tails[at];
         if (depths[part] == 0)
             return 0;
-        *figure = join(t->measure, *figure, figures[part]);
-        if (*depth < depths[part])
-            *depth = depths[part];
+        joined = join(measure, joined, figures[part]);
+        deepest = greater(deepest, depths[part]);
     }
-    ++*depth;
+    *given = key(capped(joined), deepest + 1, line);
     return 1;
 }
 
-/* Each label is one that a line gives, and no line gives a better one. */
-static int right(const struct view *t, const uint64_t *figures, const uint64_t *depths, const uint64_t *lines)
+/* The lent answers as keys; the count of the made parts, or more than n if one can't be an answer. */
+static inline uint64_t pack(struct view t, const uint64_t *figures, const uint64_t *depths,
+                            const uint64_t *lines, uint64_t *labels)
 {
-    uint64_t part, line, figure, depth;
+    uint64_t part, made = 0;
 
-    for (part = 0; part < t->n; part++)
-        if (figures[part] > TOZBIERDU_OVER || depths[part] > t->n)
-            return 0;
-    for (part = 0; part < t->n; part++)
+    for (part = 0; part < t.n; part++)
         if (depths[part] == 0) {
             if (figures[part] != 0 || lines[part] != 0)
-                return 0;
-        } else if (lines[part] >= t->lines || t->heads[lines[part]] != part
-                   || !candidate(t, lines[part], figures, depths, &figure, &depth)
-                   || figure != figures[part] || depth != depths[part]) {
-            return 0;
+                return t.n + 1;
+            labels[part] = NO_KEY;
+        } else {
+            if (figures[part] > TOZBIERDU_OVER || depths[part] > t.n || lines[part] >= t.lines)
+                return t.n + 1;
+            labels[part] = key(figures[part], depths[part], lines[part]);
+            made++;
         }
-    for (line = 0; line < t->lines; line++) {
-        if (!candidate(t, line, figures, depths, &figure, &depth))
+    return made;
+}
+
+/* No line gives less than its head's label, and as many give just that as there are made parts. */
+FOR_MEASURE int all_right(struct view t, uint64_t measure, const uint64_t *figures, const uint64_t *depths,
+                          const uint64_t *lines)
+{
+    uint64_t labels[TOZBIERDU_MOST_PARTS], left = pack(t, figures, depths, lines, labels), line, given;
+
+    if (left > t.n)
+        return 0;
+    for (line = 0; line < t.lines; line++) {
+        uint64_t label = labels[t.heads[line]];
+        if (key(t.own[line], 0, 0) > label)
+            continue; /* its own figure alone is too much */
+        if (!gives(t, measure, line, figures, depths, &given) || given > label)
             continue;
-        part = t->heads[line];
-        if (depths[part] == 0 || figure < figures[part]
-            || (figure == figures[part] && (depth < depths[part] || (depth == depths[part] && line < lines[part]))))
+        if (given < label)
             return 0;
+        left--;
     }
-    return 1;
+    return left == 0;
+}
+
+static int right(struct view t, uint64_t measure, const uint64_t *figures, const uint64_t *depths,
+                 const uint64_t *lines)
+{
+    if (measure == TOZBIERDU_DAYS)
+        return all_right(t, TOZBIERDU_DAYS, figures, depths, lines);
+    return all_right(t, TOZBIERDU_COST, figures, depths, lines);
 }
 
 #define GIVEN_TABLE heads, heads_count, own, own_count, spans, spans_count, tails, tails_count
@@ -227,7 +357,7 @@ uint64_t plain_settle(uint64_t measure, uint64_t n, TABLE_COLUMNS, WRITTEN_COLUM
     uint64_t result = check(&t, measure, n, GIVEN_TABLE, GIVEN_ANSWERS);
 
     if (result == 0)
-        best_first(&t, figures, depths, lines);
+        fill(t, measure, figures, depths, lines);
     return result;
 }
 
@@ -236,7 +366,7 @@ uint64_t plain_check_answers(uint64_t measure, uint64_t n, TABLE_COLUMNS, ANSWER
     struct view t;
     uint64_t result = check(&t, measure, n, GIVEN_TABLE, GIVEN_ANSWERS);
 
-    return result != 0 ? result : (uint64_t)right(&t, figures, depths, lines);
+    return result != 0 ? result : (uint64_t)right(t, measure, figures, depths, lines);
 }
 
 uint64_t plain_reprice(uint64_t measure, uint64_t n, CHANGED_COLUMNS, WRITTEN_COLUMNS, uint64_t line,
@@ -251,39 +381,54 @@ uint64_t plain_reprice(uint64_t measure, uint64_t n, CHANGED_COLUMNS, WRITTEN_CO
         return REFUSED(TOZBIERDU_REFUSED_LINE, 0);
     if (figure > TOZBIERDU_GREATEST)
         return REFUSED(TOZBIERDU_REFUSED_FIGURE, 0);
-    if (!right(&t, figures, depths, lines))
+    if (!right(t, measure, figures, depths, lines))
         return REFUSED(TOZBIERDU_REFUSED_ANSWERS, 0);
     own[line] = figure;
-    best_first(&t, figures, depths, lines);
+    fill(t, measure, figures, depths, lines);
     return 0;
 }
 
-/* The length of a part's bill, each part's once; cut at one more than the room. */
-static uint64_t measured(const struct view *t, const uint64_t *lines, uint64_t part, uint64_t most, uint64_t *known)
-{
-    uint64_t i, sum = 1, line = lines[part];
+/* Of the parts of a bill: how long each one's bill is, 0 if unknown, and where one has been printed. */
+struct printer {
+    const uint64_t *spans, *tails, *lines;
+    uint64_t most, *room;
+    uint64_t length[TOZBIERDU_MOST_PARTS], place[TOZBIERDU_MOST_PARTS];
+};
 
-    if (known[part] != 0)
-        return known[part];
-    for (i = 0; i < length(t, line) && sum <= most; i++)
-        sum += measured(t, lines, tail(t, line)[i], most, known);
-    return known[part] = sum > most ? most + 1 : sum;
+#define NO_PLACE UINT64_MAX
+
+/* The length of a part's bill, each part's once; cut at one more than the room. */
+static uint64_t bill_length(struct printer *p, uint64_t part)
+{
+    const uint64_t *span = p->spans + 2 * p->lines[part];
+    const uint64_t *needed = p->tails + span[0], *end = needed + span[1];
+    uint64_t sum = 1;
+
+    for (; needed != end && sum <= p->most; needed++)
+        sum += p->length[*needed] != 0 ? p->length[*needed] : bill_length(p, *needed);
+    p->place[part] = NO_PLACE;
+    return p->length[part] = lesser(sum, p->most + 1);
 }
 
-static uint64_t *written(const struct view *t, const uint64_t *lines, uint64_t part, uint64_t *room)
+/* Prints a part's bill at a place of the room; a bill that stands there already is copied. */
+static void print(struct printer *p, uint64_t part, uint64_t place)
 {
-    uint64_t i, line = lines[part];
+    const uint64_t *span = p->spans + 2 * p->lines[part];
+    const uint64_t *needed = p->tails + span[0], *end = needed + span[1];
 
-    *room++ = line;
-    for (i = 0; i < length(t, line); i++)
-        room = written(t, lines, tail(t, line)[i], room);
-    return room;
+    p->place[part] = place;
+    p->room[place++] = p->lines[part];
+    for (; needed != end; place += p->length[*needed++])
+        if (p->place[*needed] == NO_PLACE)
+            print(p, *needed, place);
+        else
+            memcpy(p->room + place, p->room + p->place[*needed], p->length[*needed] * sizeof *p->room);
 }
 
 uint64_t plain_bill(uint64_t measure, uint64_t n, TABLE_COLUMNS, ANSWER_COLUMNS, uint64_t part,
                     uint64_t *room, size_t room_count)
 {
-    uint64_t known[TOZBIERDU_MOST_PARTS] = { 0 }, size, most;
+    struct printer p;
     struct view t;
     uint64_t result = check(&t, measure, n, GIVEN_TABLE, GIVEN_ANSWERS);
 
@@ -291,14 +436,15 @@ uint64_t plain_bill(uint64_t measure, uint64_t n, TABLE_COLUMNS, ANSWER_COLUMNS,
         return result;
     if (part >= n)
         return REFUSED(TOZBIERDU_REFUSED_PART, 0);
-    if (!right(&t, figures, depths, lines))
+    if (!right(t, measure, figures, depths, lines))
         return REFUSED(TOZBIERDU_REFUSED_ANSWERS, 0);
     if (depths[part] == 0)
         return REFUSED(TOZBIERDU_REFUSED_UNMADE, 0);
-    most = room_count < TOZBIERDU_MOST_ROOM ? room_count : TOZBIERDU_MOST_ROOM;
-    size = measured(&t, lines, part, most, known);
-    if (size > most)
+    p.spans = spans, p.tails = tails, p.lines = lines, p.room = room;
+    p.most = lesser(room_count, TOZBIERDU_MOST_ROOM);
+    memset(p.length, 0, n * sizeof *p.length);
+    if (bill_length(&p, part) > p.most)
         return REFUSED(TOZBIERDU_REFUSED_ROOM, 0);
-    written(&t, lines, part, room);
-    return size;
+    print(&p, part, 0);
+    return p.length[part];
 }
