@@ -1,7 +1,8 @@
 /*
  * The library's calls beside the same written by hand in C, in one process: medians of many runs, in
- * microseconds. Results are compared first. Arguments: [cost | days], or `once` KIND N, which makes
- * each call once, for a tool that counts instructions.
+ * microseconds; a row has a table's kind, its parts, and for each call the library's figure and then
+ * plain C's. Results are compared first. Arguments: [cost | days], or `once` KIND N, which makes each
+ * call once and compares, for a tool that counts instructions.
  */
 #include <stdio.h>
 #include <stdlib.h>
@@ -103,6 +104,12 @@ static int agree(const struct job *given)
     return agree_on(1, &a, &b);
 }
 
+static void disagreed(int kind, uint64_t n)
+{
+    fprintf(stderr, "%s of %u parts: the two disagree\n", kind_names[kind], (unsigned)n);
+    exit(1);
+}
+
 static void prepare(struct job *j, uint64_t measure, int kind, uint64_t n)
 {
     memset(j, 0, sizeof *j);
@@ -110,10 +117,8 @@ static void prepare(struct job *j, uint64_t measure, int kind, uint64_t n)
     make_table(&j->t, kind, n);
     plain_settle(j->measure, n, TABLE(j), ANSWERS(j));
     choose(j);
-    if (!agree(j)) {
-        fprintf(stderr, "%s of %u parts: the two disagree\n", kind_names[kind], (unsigned)n);
-        exit(1);
-    }
+    if (!agree(j))
+        disagreed(kind, n);
 }
 
 static double now(void)
@@ -161,10 +166,10 @@ static void row(uint64_t measure, int kind, uint64_t n)
     int which;
 
     prepare(&j, measure, kind, n);
-    printf("%-9s %5u", kind_names[kind], (unsigned)n);
+    printf("%s %u", kind_names[kind], (unsigned)n);
     for (which = 0; which < CALLS; which++) {
         double ours = median(&library, which, &j), theirs = median(&plain, which, &j);
-        printf(" | %9.1f %8.1f %6.2f", ours, theirs, ours / theirs);
+        printf(" %.3f %.3f", ours, theirs);
     }
     printf("\n");
     fflush(stdout);
@@ -172,19 +177,22 @@ static void row(uint64_t measure, int kind, uint64_t n)
 
 static int once(const char *kind, uint64_t n)
 {
-    static struct job j;
+    static struct job a, b;
     int k, which;
 
     for (k = 0; k < KINDS && strcmp(kind, kind_names[k]) != 0; k++)
         continue;
     if (k == KINDS)
         return 2;
-    make_table(&j.t, k, n);
+    make_table(&a.t, k, n);
+    b = a;
     for (which = 0; which < CALLS; which++) {
-        call(&library, which, &j);
-        call(&plain, which, &j);
-        if (which == 0)
-            choose(&j);
+        if (!agree_on(which, &a, &b))
+            disagreed(k, n);
+        if (which == 0) {
+            choose(&a);
+            choose(&b);
+        }
     }
     return 0;
 }
@@ -198,8 +206,6 @@ int main(int count, char **given)
 
     if (count == 4 && strcmp(given[1], "once") == 0)
         return once(given[2], strtoull(given[3], NULL, 10));
-    printf("microseconds: library, plain C, ratio\n");
-    printf("%-9s %5s | %-25s | %-25s | %-25s | %-25s\n", "table", "parts", "settle", "check answers", "reprice", "bill");
     for (kind = 0; kind < KINDS; kind++)
         for (i = 0; i < sizeof sizes / sizeof *sizes; i++)
             row(measure, kind, sizes[i]);
