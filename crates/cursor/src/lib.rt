@@ -1,8 +1,9 @@
-// What stands at a place of a text: a byte, a number, an own weight, a separator. Each is read from
-// left to right, and nothing behind the byte that ends it is looked at.
+// What stands at a place of a text: a byte, a number, an own weight, a separator, the text's end. Each
+// is read from left to right, and nothing behind the byte that ends it is looked at.
 use weights::Weight;
 ghost use mathlib.Core.Path.{_≡_};
-ghost use lib.ListN.{getD};
+ghost use lib.ListN.{length, getD};
+ghost use lib.Dec.{leb};
 ghost use Rattle.text.specs.Machine.{digitOf};
 ghost use Rattle.cursor.specs.Cursor.{numberAt, weightAt, separatorAt};
 
@@ -114,4 +115,11 @@ pub fn separator_at(text: &[u8], at: usize) -> Separator
         return Separator::LineEnd(next);
     }
     Separator::Neither
+}
+
+// Whether no byte stands at a place.
+pub fn at_end(text: &[u8], at: usize) -> bool
+    ensures { λ r. ⌜ r ≡ leb (length (now (text .entry))) at ⌝ }
+{
+    at >= text.len()
 }

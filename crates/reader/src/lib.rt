@@ -1,11 +1,18 @@
 // A reader that holds the lent text and its place, for programs that walk a table's text field by
-// field. Each function takes it apart and leaves the work to one of `cursor`, on the slice and the
-// number; what a field says of the place behind it is where the reader is moved to.
+// field. Each function takes it apart and leaves the work to one on the slice and the number; what a
+// field says of the place behind it is where the reader is moved to.
 use cursor::Found;
 use cursor::FoundWeight;
 use cursor::Separator;
+use reading::FirstLine;
+use reading::Line;
 ghost use mathlib.Core.Path.{_≡_};
+ghost use Prim.Native.Nat.{min};
+ghost use lib.ListN.{length};
+ghost use lib.Dec.{leb};
+ghost use Rattle.columns.specs.Acceptance.{longestTail};
 ghost use Rattle.cursor.specs.Cursor.{numberAt, weightAt, separatorAt};
+ghost use Rattle.reading.specs.Lines.{firstLine, rowAt, lineOf};
 
 pub struct Reader<'a> {
     pub text: &'a [u8],
@@ -33,7 +40,22 @@ pub fn moved<'a>(r: Reader<'a>, at: usize) -> Reader<'a>
     Reader { text: r.text, at }
 }
 
-// The number at a reader's place, below the limit.
+// Whether a reader's place is the text's end.
+pub fn at_end<'a>(r: Reader<'a>) -> bool
+    ensures { λ b. ⌜ b ≡ leb (length (now (r .entry .text))) (r .entry .at) ⌝ }
+{
+    cursor::at_end(r.text, r.at)
+}
+
+// The first line of the text, with its words: how many vertices there are, the measure, and the place
+// of the next line.
+pub fn first_line<'a>(r: Reader<'a>) -> FirstLine
+    ensures { λ f. ⌜ f ≡ firstLine (now (r .entry .text)) ⌝ }
+{
+    reading::first_line(r.text)
+}
+
+// The number at a reader's place, below the limit: a head or a listed vertex.
 pub fn next_number<'a>(r: Reader<'a>, limit: u64) -> Found
     ensures { λ f. ⌜ f ≡ numberAt (now (r .entry .text)) (r .entry .at) limit ⌝ }
 {
@@ -54,10 +76,26 @@ pub fn next_separator<'a>(r: Reader<'a>) -> Separator
     cursor::separator_at(r.text, r.at)
 }
 
-// The number at the start of a text, by way of a reader: whoever calls this one, whose parameters are
-// plain, needs no walk by hand.
-pub fn first_number(text: &[u8], limit: u64) -> Found
-    ensures { λ f. ⌜ f ≡ numberAt (now (text .entry)) 0 limit ⌝ }
+// A table line of vertices below n that lists at most so many of them: its vertices go into an array
+// of its own, and their count is told.
+fn line_at(text: &[u8], at: usize, n: u64, most: usize) -> Line
+    ensures { λ r. ⌜ r ≡ lineOf (rowAt (now (text .entry)) n (min most longestTail) at) ⌝ }
 {
-    next_number(start(text), limit)
+    let mut room = [0u64; 16];
+    reading::line_at(text, at, n, most, &mut room)
+}
+
+// The table line at a reader's place, whole.
+pub fn next_line<'a>(r: Reader<'a>, n: u64, most: usize) -> Line
+    ensures { λ l. ⌜ l ≡ lineOf (rowAt (now (r .entry .text)) n (min most longestTail) (r .entry .at)) ⌝ }
+{
+    line_at(r.text, r.at, n, most)
+}
+
+// The table line at a place, by way of a reader: whoever calls this one, whose parameters are plain,
+// needs no walk by hand.
+pub fn line_from(text: &[u8], at: usize, n: u64, most: usize) -> Line
+    ensures { λ l. ⌜ l ≡ lineOf (rowAt (now (text .entry)) n (min most longestTail) at) ⌝ }
+{
+    next_line(moved(start(text), at), n, most)
 }
