@@ -1,4 +1,4 @@
--- `listing::read_input` meets its contract. The invariant: what was read lies within the buffer, whose length stays. Assumes nothing.
+-- `input::read_input` meets its contract. The invariant: what was read lies within the buffer, whose length stays. Assumes nothing.
 use mathlib.Core.Path.{_≡_, refl, sym, _∙_, ap}
 use mathlib.Core.List.{List, _++_}
 use Prim.Native.Nat.{ℕ, _+_, _-_, _≤_}
@@ -7,8 +7,8 @@ use borrow.Author.Needs.{needs}
 use lib.ListN.{length, take, drop, length-append, length-drop}
 use lib.Seq.{length-take-le}
 use Rattle.columns.specs.Filled.{part-whole, part-back}
-use Rattle.listing.proofs.read_input.Statement.{statement}
-use Rattle.listing.proofs.read_input.Tie as tie
+use Rattle.input.proofs.read_input.Statement.{statement}
+use Rattle.input.proofs.read_input.Tie as tie
 
 abbrev Inv-loop : tie.InvT-loop
 Inv-loop buf₀ at₀ buf at = (at ≤ length buf) × (length buf ≡ length buf₀)
