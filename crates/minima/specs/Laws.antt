@@ -9,7 +9,7 @@ use native.Mathlib.Omega.{arith}
 use native.Mathlib.Decide.{ℕ-discrete}
 use lib.ListN.{length, getD, set, replicate, length-set, length-replicate}
 use lib.Seq.{getD-set-same, getD-set-other}
-use Rattle.minima.specs.Minima.{none, keys, eights, heaps, size, eightOf, heapOf, leastFrom, Grouped, lowerAt, lowered, raised}
+use Rattle.minima.specs.Minima.{none, keys, eights, blocks, size, eightOf, blockOf, leastFrom, Grouped, lowerAt, lowered, raised}
 
 pub least-at-most : (q : List ℕ) (at k : ℕ) → leastFrom q at k ≤ none
 unfolding leastFrom
@@ -59,8 +59,8 @@ regroup q at base (suc k) f =
     let e : 8 * suc k ≡ 8 * k + 8 = omega arith in
     ap₂ min (regroup q at base k (λ g h. f g (omega arith))) (f k (omega arith)) ∙ sym a ∙ sym (ap (leastFrom q at) e)
 
-pub least-key : {q : List ℕ} → Grouped q → leastFrom q (keys + eights) heaps ≡ leastFrom q 0 keys
-least-key {q} r = regroup q keys (keys + eights) heaps (r .heap) ∙ regroup q 0 keys eights (λ g h. r .eight g h ∙ ap (λ (z : ℕ). leastFrom q z 8) (from-zero g))
+pub least-key : {q : List ℕ} → Grouped q → leastFrom q (keys + eights) blocks ≡ leastFrom q 0 keys
+least-key {q} r = regroup q keys (keys + eights) blocks (r .block) ∙ regroup q 0 keys eights (λ g h. r .eight g h ∙ ap (λ (z : ℕ). leastFrom q z 8) (from-zero g))
   where
     from-zero : (g : ℕ) → 8 * g ≡ 0 + 8 * g
     from-zero g = omega arith
@@ -95,11 +95,11 @@ differ q q′ at (suc k) j x h p f = go (λ l. differ q q′ at k j x l p (λ i 
 record Mended (q q′ : List ℕ) (v : ℕ) : Type 0 where
   sized : length q′ ≡ size
   eight : getD q′ (eightOf v) 0 ≡ leastFrom q′ (8 * (v / 8)) 8
-  heap : getD q′ (heapOf v) 0 ≡ leastFrom q′ (keys + 8 * (v / 64)) 8
-  elsewhere : (i : ℕ) → i ≢ v → i ≢ eightOf v → i ≢ heapOf v → getD q′ i 0 ≡ getD q i 0
+  block : getD q′ (blockOf v) 0 ≡ leastFrom q′ (keys + 8 * (v / 64)) 8
+  elsewhere : (i : ℕ) → i ≢ v → i ≢ eightOf v → i ≢ blockOf v → getD q′ i 0 ≡ getD q i 0
 
 mended-grouped : {q q′ : List ℕ} {v : ℕ} → v < keys → Grouped q → Mended q q′ v → Grouped q′
-mended-grouped {q} {q′} {v} h r m = record { sized = m .sized; eight = λ g k. eight g k (ℕ-discrete g (v / 8)); heap = λ g k. heap g k (ℕ-discrete g (v / 64)) }
+mended-grouped {q} {q′} {v} h r m = record { sized = m .sized; eight = λ g k. eight g k (ℕ-discrete g (v / 8)); block = λ g k. block g k (ℕ-discrete g (v / 64)) }
   where
     eight : (g : ℕ) → g < eights → Dec (g ≡ v / 8) → getD q′ (keys + g) 0 ≡ leastFrom q′ (8 * g) 8
     eight g k (yes e) = ap (λ (z : ℕ). getD q′ (keys + z) 0) e ∙ m .eight ∙ ap (λ (z : ℕ). leastFrom q′ (8 * z) 8) (sym e)
@@ -108,38 +108,38 @@ mended-grouped {q} {q′} {v} h r m = record { sized = m .sized; eight = λ g k.
         ∙ r .eight g k
         ∙ sym (agree q q′ (8 * g) 8 (λ i l. m .elsewhere (8 * g + i) (λ e. n (omega arith)) (λ e. omega arith) (λ e. omega arith)))
 
-    heap : (g : ℕ) → g < heaps → Dec (g ≡ v / 64) → getD q′ (keys + eights + g) 0 ≡ leastFrom q′ (keys + 8 * g) 8
-    heap g k (yes e) = ap (λ (z : ℕ). getD q′ (keys + eights + z) 0) e ∙ m .heap ∙ ap (λ (z : ℕ). leastFrom q′ (keys + 8 * z) 8) (sym e)
-    heap g k (no n) =
+    block : (g : ℕ) → g < blocks → Dec (g ≡ v / 64) → getD q′ (keys + eights + g) 0 ≡ leastFrom q′ (keys + 8 * g) 8
+    block g k (yes e) = ap (λ (z : ℕ). getD q′ (keys + eights + z) 0) e ∙ m .block ∙ ap (λ (z : ℕ). leastFrom q′ (keys + 8 * z) 8) (sym e)
+    block g k (no n) =
         m .elsewhere (keys + eights + g) (λ e. omega arith) (λ e. omega arith) (λ e. n (omega arith))
-        ∙ r .heap g k
+        ∙ r .block g k
         ∙ sym (agree q q′ (keys + 8 * g) 8 (λ i l. m .elsewhere (keys + 8 * g + i) (λ e. omega arith) (λ e. n (omega arith)) (λ e. omega arith)))
 
 -- three places written
 abbrev pub thrice : List ℕ → (v x y z : ℕ) → List ℕ
-thrice q v x y z = set (set (set q v x) (eightOf v) y) (heapOf v) z
+thrice q v x y z = set (set (set q v x) (eightOf v) y) (blockOf v) z
 
 module _ (q : List ℕ) (v x y z : ℕ) (h : v < keys) where
   pub thrice-length : length (thrice q v x y z) ≡ length q
-  thrice-length = length-set (set (set q v x) (eightOf v) y) (heapOf v) z ∙ length-set (set q v x) (eightOf v) y ∙ length-set q v x
+  thrice-length = length-set (set (set q v x) (eightOf v) y) (blockOf v) z ∙ length-set (set q v x) (eightOf v) y ∙ length-set q v x
 
-  thrice-elsewhere : (i : ℕ) → i ≢ v → i ≢ eightOf v → i ≢ heapOf v → getD (thrice q v x y z) i 0 ≡ getD q i 0
-  thrice-elsewhere i a b c = getD-set-other (set (set q v x) (eightOf v) y) (heapOf v) i z 0 c ∙ getD-set-other (set q v x) (eightOf v) i y 0 b ∙ getD-set-other q v i x 0 a
+  thrice-elsewhere : (i : ℕ) → i ≢ v → i ≢ eightOf v → i ≢ blockOf v → getD (thrice q v x y z) i 0 ≡ getD q i 0
+  thrice-elsewhere i a b c = getD-set-other (set (set q v x) (eightOf v) y) (blockOf v) i z 0 c ∙ getD-set-other (set q v x) (eightOf v) i y 0 b ∙ getD-set-other q v i x 0 a
 
   module _ (s : length q ≡ size) where
     thrice-key : getD (thrice q v x y z) v 0 ≡ x
     thrice-key =
-        getD-set-other (set (set q v x) (eightOf v) y) (heapOf v) v z 0 (λ e. omega arith)
+        getD-set-other (set (set q v x) (eightOf v) y) (blockOf v) v z 0 (λ e. omega arith)
         ∙ getD-set-other (set q v x) (eightOf v) v y 0 (λ e. omega arith)
         ∙ getD-set-same q v x 0 (omega arith)
 
     thrice-eight : getD (thrice q v x y z) (eightOf v) 0 ≡ y
     thrice-eight =
-        getD-set-other (set (set q v x) (eightOf v) y) (heapOf v) (eightOf v) z 0 (λ e. omega arith)
+        getD-set-other (set (set q v x) (eightOf v) y) (blockOf v) (eightOf v) z 0 (λ e. omega arith)
         ∙ getD-set-same (set q v x) (eightOf v) y 0 (omega (arith, length-set q v x))
 
-    thrice-heap : getD (thrice q v x y z) (heapOf v) 0 ≡ z
-    thrice-heap = getD-set-same (set (set q v x) (eightOf v) y) (heapOf v) z 0 (omega (arith, length-set q v x, length-set (set q v x) (eightOf v) y))
+    thrice-block : getD (thrice q v x y z) (blockOf v) 0 ≡ z
+    thrice-block = getD-set-same (set (set q v x) (eightOf v) y) (blockOf v) z 0 (omega (arith, length-set q v x, length-set (set q v x) (eightOf v) y))
 
 -- Lowering a key ----------------------------------------------------------------------------------------------------------------------------------
 
@@ -150,61 +150,61 @@ module _ (q : List ℕ) (v x : ℕ) (h : v < keys) where
   abbrev eight-low : ℕ
   eight-low = min (getD (lowerAt q v x) (eightOf v) 0) x
 
-  abbrev heap-low : ℕ
-  heap-low = min (getD (lowerAt (lowerAt q v x) (eightOf v) x) (heapOf v) 0) x
+  abbrev block-low : ℕ
+  block-low = min (getD (lowerAt (lowerAt q v x) (eightOf v) x) (blockOf v) 0) x
 
-  pub lowered-is : {a b c : List ℕ} → a ≡ lowerAt q v x → b ≡ lowerAt a (eightOf v) x → c ≡ lowerAt b (heapOf v) x → c ≡ lowered q v x
+  pub lowered-is : {a b c : List ℕ} → a ≡ lowerAt q v x → b ≡ lowerAt a (eightOf v) x → c ≡ lowerAt b (blockOf v) x → c ≡ lowered q v x
   unfolding lowered
-  lowered-is p s t = t ∙ ap (λ (z : List ℕ). lowerAt z (heapOf v) x) (s ∙ ap (λ (z : List ℕ). lowerAt z (eightOf v) x) p)
+  lowered-is p s t = t ∙ ap (λ (z : List ℕ). lowerAt z (blockOf v) x) (s ∙ ap (λ (z : List ℕ). lowerAt z (eightOf v) x) p)
 
   pub lowered-length : length (lowered q v x) ≡ length q
   unfolding lowered
-  lowered-length = thrice-length q v key-low eight-low heap-low h
+  lowered-length = thrice-length q v key-low eight-low block-low h
 
   pub lowered-other : (u : ℕ) → u < keys → u ≢ v → getD (lowered q v x) u 0 ≡ getD q u 0
   unfolding lowered
-  lowered-other u k n = thrice-elsewhere q v key-low eight-low heap-low h u n (λ e. omega arith) (λ e. omega arith)
+  lowered-other u k n = thrice-elsewhere q v key-low eight-low block-low h u n (λ e. omega arith) (λ e. omega arith)
 
   pub lowered-same : length q ≡ size → getD (lowered q v x) v 0 ≡ min (getD q v 0) x
   unfolding lowered
-  lowered-same s = thrice-key q v key-low eight-low heap-low h s
+  lowered-same s = thrice-key q v key-low eight-low block-low h s
 
   abbrev low : List ℕ
-  low = thrice q v key-low eight-low heap-low
+  low = thrice q v key-low eight-low block-low
 
   lowered-mended : Grouped q → Mended q (lowered q v x) v
   unfolding lowered
-  lowered-mended r = record { sized = thrice-length q v key-low eight-low heap-low h ∙ r .sized; eight = eight; heap = heap; elsewhere = elsewhere }
+  lowered-mended r = record { sized = thrice-length q v key-low eight-low block-low h ∙ r .sized; eight = eight; block = block; elsewhere = elsewhere }
     where
-      elsewhere : (i : ℕ) → i ≢ v → i ≢ eightOf v → i ≢ heapOf v → getD low i 0 ≡ getD q i 0
-      elsewhere = thrice-elsewhere q v key-low eight-low heap-low h
+      elsewhere : (i : ℕ) → i ≢ v → i ≢ eightOf v → i ≢ blockOf v → getD low i 0 ≡ getD q i 0
+      elsewhere = thrice-elsewhere q v key-low eight-low block-low h
 
       eight-is : getD low (eightOf v) 0 ≡ min (getD q (eightOf v) 0) x
-      eight-is = thrice-eight q v key-low eight-low heap-low h (r .sized) ∙ ap (λ (z : ℕ). min z x) (getD-set-other q v (eightOf v) key-low 0 (λ e. omega arith))
+      eight-is = thrice-eight q v key-low eight-low block-low h (r .sized) ∙ ap (λ (z : ℕ). min z x) (getD-set-other q v (eightOf v) key-low 0 (λ e. omega arith))
 
-      heap-is : getD low (heapOf v) 0 ≡ min (getD q (heapOf v) 0) x
-      heap-is =
-          thrice-heap q v key-low eight-low heap-low h (r .sized)
-          ∙ ap (λ (z : ℕ). min z x) (getD-set-other (lowerAt q v x) (eightOf v) (heapOf v) eight-low 0 (λ e. omega arith) ∙ getD-set-other q v (heapOf v) key-low 0 (λ e. omega arith))
+      block-is : getD low (blockOf v) 0 ≡ min (getD q (blockOf v) 0) x
+      block-is =
+          thrice-block q v key-low eight-low block-low h (r .sized)
+          ∙ ap (λ (z : ℕ). min z x) (getD-set-other (lowerAt q v x) (eightOf v) (blockOf v) eight-low 0 (λ e. omega arith) ∙ getD-set-other q v (blockOf v) key-low 0 (λ e. omega arith))
 
       in-eight : 8 * (v / 8) + v % 8 ≡ v
       in-eight = omega arith
 
-      in-heap : keys + 8 * (v / 64) + v / 8 % 8 ≡ eightOf v
-      in-heap = omega arith
+      in-block : keys + 8 * (v / 64) + v / 8 % 8 ≡ eightOf v
+      in-block = omega arith
 
       eight : getD low (eightOf v) 0 ≡ leastFrom low (8 * (v / 8)) 8
       eight =
           eight-is ∙ ap (λ (z : ℕ). min z x) (r .eight (v / 8) (omega arith))
           ∙ sym (differ q low (8 * (v / 8)) 8 (v % 8) x (omega arith)
-          (ap (λ (z : ℕ). getD low z 0) in-eight ∙ thrice-key q v key-low eight-low heap-low h (r .sized) ∙ ap (λ (z : ℕ). min (getD q z 0) x) (sym in-eight))
+          (ap (λ (z : ℕ). getD low z 0) in-eight ∙ thrice-key q v key-low eight-low block-low h (r .sized) ∙ ap (λ (z : ℕ). min (getD q z 0) x) (sym in-eight))
           (λ i l n. elsewhere (8 * (v / 8) + i) (λ e. n (omega arith)) (λ e. omega arith) (λ e. omega arith)))
 
-      heap : getD low (heapOf v) 0 ≡ leastFrom low (keys + 8 * (v / 64)) 8
-      heap =
-          heap-is ∙ ap (λ (z : ℕ). min z x) (r .heap (v / 64) (omega arith))
+      block : getD low (blockOf v) 0 ≡ leastFrom low (keys + 8 * (v / 64)) 8
+      block =
+          block-is ∙ ap (λ (z : ℕ). min z x) (r .block (v / 64) (omega arith))
           ∙ sym (differ q low (keys + 8 * (v / 64)) 8 (v / 8 % 8) x (omega arith)
-          (ap (λ (z : ℕ). getD low z 0) in-heap ∙ eight-is ∙ ap (λ (z : ℕ). min (getD q z 0) x) (sym in-heap))
+          (ap (λ (z : ℕ). getD low z 0) in-block ∙ eight-is ∙ ap (λ (z : ℕ). min (getD q z 0) x) (sym in-block))
           (λ i l n. elsewhere (keys + 8 * (v / 64) + i) (λ e. omega arith) (λ e. n (omega arith)) (λ e. omega arith)))
 
   pub lowered-grouped : Grouped q → Grouped (lowered q v x)
@@ -216,40 +216,40 @@ module _ (q : List ℕ) (v : ℕ) (h : v < keys) where
   abbrev pub eight-again : ℕ
   eight-again = leastFrom (set q v none) (8 * (v / 8)) 8
 
-  abbrev pub heap-again : ℕ
-  heap-again = leastFrom (set (set q v none) (eightOf v) eight-again) (keys + 8 * (v / 64)) 8
+  abbrev pub block-again : ℕ
+  block-again = leastFrom (set (set q v none) (eightOf v) eight-again) (keys + 8 * (v / 64)) 8
 
   pub raised-is : {a b : ℕ} → a ≡ eight-again → b ≡ leastFrom (set (set q v none) (eightOf v) a) (keys + 8 * (v / 64)) 8 → thrice q v none a b ≡ raised q v
   unfolding raised
   raised-is {a} {b} p s =
-      let s′ : b ≡ heap-again = s ∙ ap (λ (z : ℕ). leastFrom (set (set q v none) (eightOf v) z) (keys + 8 * (v / 64)) 8) p in
+      let s′ : b ≡ block-again = s ∙ ap (λ (z : ℕ). leastFrom (set (set q v none) (eightOf v) z) (keys + 8 * (v / 64)) 8) p in
       ap₂ (thrice q v none) p s′
 
   pub raised-length : length (raised q v) ≡ length q
   unfolding raised
-  raised-length = thrice-length q v none eight-again heap-again h
+  raised-length = thrice-length q v none eight-again block-again h
 
   pub raised-other : (u : ℕ) → u < keys → u ≢ v → getD (raised q v) u 0 ≡ getD q u 0
   unfolding raised
-  raised-other u k n = thrice-elsewhere q v none eight-again heap-again h u n (λ e. omega arith) (λ e. omega arith)
+  raised-other u k n = thrice-elsewhere q v none eight-again block-again h u n (λ e. omega arith) (λ e. omega arith)
 
   pub raised-same : length q ≡ size → getD (raised q v) v 0 ≡ none
   unfolding raised
-  raised-same s = thrice-key q v none eight-again heap-again h s
+  raised-same s = thrice-key q v none eight-again block-again h s
 
   abbrev high : List ℕ
-  high = thrice q v none eight-again heap-again
+  high = thrice q v none eight-again block-again
 
   raised-mended : length q ≡ size → Mended q (raised q v) v
   unfolding raised
   raised-mended s = record {
-    sized = thrice-length q v none eight-again heap-again h ∙ s;
-    eight = thrice-eight q v none eight-again heap-again h s ∙ sym (agree (set q v none) high (8 * (v / 8)) 8 (λ i l.
-        getD-set-other (set (set q v none) (eightOf v) eight-again) (heapOf v) (8 * (v / 8) + i) heap-again 0 (λ e. omega arith)
+    sized = thrice-length q v none eight-again block-again h ∙ s;
+    eight = thrice-eight q v none eight-again block-again h s ∙ sym (agree (set q v none) high (8 * (v / 8)) 8 (λ i l.
+        getD-set-other (set (set q v none) (eightOf v) eight-again) (blockOf v) (8 * (v / 8) + i) block-again 0 (λ e. omega arith)
         ∙ getD-set-other (set q v none) (eightOf v) (8 * (v / 8) + i) eight-again 0 (λ e. omega arith)));
-    heap = thrice-heap q v none eight-again heap-again h s ∙ sym (agree (set (set q v none) (eightOf v) eight-again) high (keys + 8 * (v / 64)) 8 (λ i l.
-        getD-set-other (set (set q v none) (eightOf v) eight-again) (heapOf v) (keys + 8 * (v / 64) + i) heap-again 0 (λ e. omega arith)));
-    elsewhere = thrice-elsewhere q v none eight-again heap-again h;
+    block = thrice-block q v none eight-again block-again h s ∙ sym (agree (set (set q v none) (eightOf v) eight-again) high (keys + 8 * (v / 64)) 8 (λ i l.
+        getD-set-other (set (set q v none) (eightOf v) eight-again) (blockOf v) (keys + 8 * (v / 64) + i) block-again 0 (λ e. omega arith)));
+    elsewhere = thrice-elsewhere q v none eight-again block-again h;
   }
 
   pub raised-grouped : Grouped q → Grouped (raised q v)
@@ -274,5 +274,5 @@ pub no-keys-grouped : Grouped (replicate size none)
 no-keys-grouped = record {
   sized = length-replicate size none;
   eight = λ g h. getD-replicate size none (keys + g) (omega arith) ∙ sym (no-keys-least (8 * g) 8 (omega arith));
-  heap = λ g h. getD-replicate size none (keys + eights + g) (omega arith) ∙ sym (no-keys-least (keys + 8 * g) 8 (omega arith));
+  block = λ g h. getD-replicate size none (keys + eights + g) (omega arith) ∙ sym (no-keys-least (keys + 8 * g) 8 (omega arith));
 }

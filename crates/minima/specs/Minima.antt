@@ -16,8 +16,8 @@ keys = 1024
 abbrev pub eights : ℕ
 eights = 128
 
-abbrev pub heaps : ℕ
-heaps = 16
+abbrev pub blocks : ℕ
+blocks = 16
 
 abbrev pub size : ℕ
 size = 1168
@@ -26,8 +26,8 @@ size = 1168
 abbrev pub eightOf : ℕ → ℕ
 eightOf v = keys + v / 8
 
-abbrev pub heapOf : ℕ → ℕ
-heapOf v = keys + eights + v / 64
+abbrev pub blockOf : ℕ → ℕ
+blockOf v = keys + eights + v / 64
 
 -- the least of k places from a place on
 unfoldable pub leastFrom : List ℕ → (at k : ℕ) → ℕ
@@ -38,7 +38,7 @@ leastFrom q at (suc k) = min (leastFrom q at k) (getD q (at + k) 0)
 pub record Grouped (q : List ℕ) : Type 0 where
   pub sized : length q ≡ size
   pub eight : (g : ℕ) → g < eights → getD q (keys + g) 0 ≡ leastFrom q (8 * g) 8
-  pub heap : (g : ℕ) → g < heaps → getD q (keys + eights + g) 0 ≡ leastFrom q (keys + 8 * g) 8
+  pub block : (g : ℕ) → g < blocks → getD q (keys + eights + g) 0 ≡ leastFrom q (keys + 8 * g) 8
 
 -- a place holds x, or less where it held less
 abbrev pub lowerAt : List ℕ → (i x : ℕ) → List ℕ
@@ -46,14 +46,14 @@ lowerAt q i x = set q i (min (getD q i 0) x)
 
 -- key v is lowered to x, and with it the least of its groups
 unfoldable pub lowered : List ℕ → (v x : ℕ) → List ℕ
-lowered q v x = lowerAt (lowerAt (lowerAt q v x) (eightOf v) x) (heapOf v) x
+lowered q v x = lowerAt (lowerAt (lowerAt q v x) (eightOf v) x) (blockOf v) x
 
 -- key v is taken out, and its groups are looked through again
 abbrev pub eightAgain : List ℕ → ℕ → List ℕ
 eightAgain q v = set q (eightOf v) (leastFrom q (8 * (v / 8)) 8)
 
-abbrev pub heapAgain : List ℕ → ℕ → List ℕ
-heapAgain q v = set q (heapOf v) (leastFrom q (keys + 8 * (v / 64)) 8)
+abbrev pub blockAgain : List ℕ → ℕ → List ℕ
+blockAgain q v = set q (blockOf v) (leastFrom q (keys + 8 * (v / 64)) 8)
 
 unfoldable pub raised : List ℕ → ℕ → List ℕ
-raised q v = heapAgain (eightAgain (set q v none) v) v
+raised q v = blockAgain (eightAgain (set q v none) v) v

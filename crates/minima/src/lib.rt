@@ -66,8 +66,8 @@ pub fn raise(q: &mut [u64], v: usize)
     q[v] = NONE;
     let eight = least_from(q, 8 * (v / 8), 8);
     q[KEYS + v / 8] = eight;
-    let heap = least_from(q, KEYS + 8 * (v / 64), 8);
-    q[KEYS + EIGHTS + v / 64] = heap;
+    let block = least_from(q, KEYS + 8 * (v / 64), 8);
+    q[KEYS + EIGHTS + v / 64] = block;
 }
 
 // The least key.

@@ -20,7 +20,7 @@ use Rattle.refusal.specs.declared.Extent.the-variants as extent
 
 -- a number and a place
 abbrev pub code : (number place : ℕ) → Code
-code n p = record { 0 = n; 1 = p }
+code n p = record { number = n; place = p }
 
 -- the paper's table: a table line as place for 3 to 6, a text line for 14, otherwise 0
 abbrev pub codeOf : Refusal → Code
@@ -43,10 +43,10 @@ codeOf MeasureNumber = code 16 0
 codeOf InputLength = code 17 0
 
 abbrev pub numberOf : Refusal → ℕ
-numberOf r = codeOf r .0
+numberOf r = codeOf r .number
 
 abbrev pub placeOf : Refusal → ℕ
-placeOf r = codeOf r .1
+placeOf r = codeOf r .place
 
 -- the greatest place that a result in C can hold
 abbrev pub lastPlace : ℕ
@@ -54,9 +54,9 @@ lastPlace = 4_294_967_295
 
 -- in C: the number times 2^32, plus the place. A table has at most 4,096 lines, so no place of a call is cut: `exact`
 abbrev pub resultOf : Code → ℕ
-resultOf c = c .0 * 4_294_967_296 + min (c .1) lastPlace
+resultOf c = c .number * 4_294_967_296 + min (c .place) lastPlace
 
-pub exact : (c : Code) → c .1 ≤ lastPlace → resultOf c ≡ c .0 * 4_294_967_296 + c .1
+pub exact : (c : Code) → c .place ≤ lastPlace → resultOf c ≡ c .number * 4_294_967_296 + c .place
 exact c h = omega arith
 
 -- there are seventeen, numbered from 1

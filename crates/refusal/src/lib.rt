@@ -3,7 +3,7 @@
 use weights::Hyperedge;
 use weights::Measure;
 ghost use mathlib.Core.Path.{_≡_};
-ghost use Rattle.refusal.specs.Refusals.{codeOf, numberOf, placeOf, resultOf, answerResult, verdictResult, extentResult, measureOf};
+ghost use Rattle.refusal.specs.Refusals.{code, codeOf, numberOf, placeOf, resultOf, answerResult, verdictResult, extentResult, measureOf};
 
 // A line of a text, counted from 1.
 pub struct TextLine(pub u64);
@@ -47,7 +47,18 @@ pub enum Refusal {
 }
 
 // A refusal's number, and its place: the hyperedge or the text line that it names, else 0.
-pub struct Code(pub u64, pub u64);
+pub struct Code {
+    pub number: u64,
+    pub place: u64,
+}
+
+impl Code {
+    fn of(number: u64, place: u64) -> Code
+        ensures { λ r. ⌜ r ≡ code number place ⌝ }
+    {
+        Code { number, place }
+    }
+}
 
 impl Refusal {
     // The paper's table, line by line.
@@ -55,36 +66,36 @@ impl Refusal {
         ensures { λ r. ⌜ r ≡ codeOf self ⌝ }
     {
         match self {
-            Refusal::TooManyVertices => Code(1, 0),
-            Refusal::Lengths => Code(2, 0),
-            Refusal::Head(e) => Code(3, e.0),
-            Refusal::Own(e) => Code(4, e.0),
-            Refusal::Span(e) => Code(5, e.0),
-            Refusal::Tail(e) => Code(6, e.0),
-            Refusal::AnswerLength => Code(7, 0),
-            Refusal::WrongAnswers => Code(8, 0),
-            Refusal::NoSuchEdge => Code(9, 0),
-            Refusal::NewWeight => Code(10, 0),
-            Refusal::NoSuchVertex => Code(11, 0),
-            Refusal::Underivable => Code(12, 0),
-            Refusal::BillRoom => Code(13, 0),
-            Refusal::Text(l) => Code(14, l.0),
-            Refusal::TextRoom => Code(15, 0),
-            Refusal::MeasureNumber => Code(16, 0),
-            Refusal::InputLength => Code(17, 0),
+            Refusal::TooManyVertices => Code::of(1, 0),
+            Refusal::Lengths => Code::of(2, 0),
+            Refusal::Head(e) => Code::of(3, e.0),
+            Refusal::Own(e) => Code::of(4, e.0),
+            Refusal::Span(e) => Code::of(5, e.0),
+            Refusal::Tail(e) => Code::of(6, e.0),
+            Refusal::AnswerLength => Code::of(7, 0),
+            Refusal::WrongAnswers => Code::of(8, 0),
+            Refusal::NoSuchEdge => Code::of(9, 0),
+            Refusal::NewWeight => Code::of(10, 0),
+            Refusal::NoSuchVertex => Code::of(11, 0),
+            Refusal::Underivable => Code::of(12, 0),
+            Refusal::BillRoom => Code::of(13, 0),
+            Refusal::Text(l) => Code::of(14, l.0),
+            Refusal::TextRoom => Code::of(15, 0),
+            Refusal::MeasureNumber => Code::of(16, 0),
+            Refusal::InputLength => Code::of(17, 0),
         }
     }
 
     pub fn number(self) -> u64
         ensures { λ r. ⌜ r ≡ numberOf self ⌝ }
     {
-        self.code().0
+        self.code().number
     }
 
     pub fn place(self) -> u64
         ensures { λ r. ⌜ r ≡ placeOf self ⌝ }
     {
-        self.code().1
+        self.code().place
     }
 
     // The number and the place in one number, for C.

@@ -1,4 +1,4 @@
-use mathlib.Core.Path.{sym, ap}
+use mathlib.Core.Path.{sym, _∙_, ap}
 use Rattle.refusal.specs.Refusals.{codeOf}
 use borrow.Author.Needs.{needs}
 use Rattle.refusal.proofs.Refusal.code.Statement.{statement}
@@ -8,77 +8,94 @@ enum-told : tie.Need-enum-told
 enum-told c = search needs
 
 returns : tie.Need-returns
-returns c = sym (ap codeOf (c .enum-told .given .1))
+returns c = c .of .ensures ∙ sym (ap codeOf (c .before .enum-told .given .1))
 
 returns-2 : tie.Need-returns-2
-returns-2 c = sym (ap codeOf (c .enum-told2 .given .1))
+returns-2 c = c .of2 .ensures ∙ sym (ap codeOf (c .before .enum-told2 .given .1))
 
 returns-3 : tie.Need-returns-3
-returns-3 c = sym (ap codeOf (c .before .self .given .1))
+returns-3 c = c .of3 .ensures ∙ sym (ap codeOf (c .before .before .self .given .1))
 
 returns-4 : tie.Need-returns-4
-returns-4 c = sym (ap codeOf (c .before .self2 .given .1))
+returns-4 c = c .of4 .ensures ∙ sym (ap codeOf (c .before .before .self2 .given .1))
 
 returns-5 : tie.Need-returns-5
-returns-5 c = sym (ap codeOf (c .before .self3 .given .1))
+returns-5 c = c .of5 .ensures ∙ sym (ap codeOf (c .before .before .self3 .given .1))
 
 returns-6 : tie.Need-returns-6
-returns-6 c = sym (ap codeOf (c .before .self4 .given .1))
+returns-6 c = c .of6 .ensures ∙ sym (ap codeOf (c .before .before .self4 .given .1))
 
 returns-7 : tie.Need-returns-7
-returns-7 c = sym (ap codeOf (c .enum-told3 .given .1))
+returns-7 c = c .of7 .ensures ∙ sym (ap codeOf (c .before .enum-told3 .given .1))
 
 returns-8 : tie.Need-returns-8
-returns-8 c = sym (ap codeOf (c .enum-told4 .given .1))
+returns-8 c = c .of8 .ensures ∙ sym (ap codeOf (c .before .enum-told4 .given .1))
 
 returns-9 : tie.Need-returns-9
-returns-9 c = sym (ap codeOf (c .enum-told5 .given .1))
+returns-9 c = c .of9 .ensures ∙ sym (ap codeOf (c .before .enum-told5 .given .1))
 
 returns-10 : tie.Need-returns-10
-returns-10 c = sym (ap codeOf (c .enum-told6 .given .1))
+returns-10 c = c .of10 .ensures ∙ sym (ap codeOf (c .before .enum-told6 .given .1))
 
 returns-11 : tie.Need-returns-11
-returns-11 c = sym (ap codeOf (c .enum-told7 .given .1))
+returns-11 c = c .of11 .ensures ∙ sym (ap codeOf (c .before .enum-told7 .given .1))
 
 returns-12 : tie.Need-returns-12
-returns-12 c = sym (ap codeOf (c .enum-told8 .given .1))
+returns-12 c = c .of12 .ensures ∙ sym (ap codeOf (c .before .enum-told8 .given .1))
 
 returns-13 : tie.Need-returns-13
-returns-13 c = sym (ap codeOf (c .enum-told9 .given .1))
+returns-13 c = c .of13 .ensures ∙ sym (ap codeOf (c .before .enum-told9 .given .1))
 
 returns-14 : tie.Need-returns-14
-returns-14 c = sym (ap codeOf (c .before .self5 .given .1))
+returns-14 c = c .of14 .ensures ∙ sym (ap codeOf (c .before .before .self5 .given .1))
 
 returns-15 : tie.Need-returns-15
-returns-15 c = sym (ap codeOf (c .enum-told10 .given .1))
+returns-15 c = c .of15 .ensures ∙ sym (ap codeOf (c .before .enum-told10 .given .1))
 
 returns-16 : tie.Need-returns-16
-returns-16 c = sym (ap codeOf (c .enum-told11 .given .1))
+returns-16 c = c .of16 .ensures ∙ sym (ap codeOf (c .before .enum-told11 .given .1))
 
 returns-17 : tie.Need-returns-17
-returns-17 c = sym (ap codeOf (c .enum-told12 .given .1))
+returns-17 c = c .of17 .ensures ∙ sym (ap codeOf (c .before .enum-told12 .given .1))
 
 pub code-spec : {M : Type 1} → statement M
 code-spec =
     tie.close
     (tie.spec
     enum-told
+    (λ c κs. search needs)
     (λ c. search needs)
+    (λ c κs. search needs)
     (λ c. search needs)
+    (λ c κs. search needs)
     (λ c. search needs)
+    (λ c κs. search needs)
     (λ c. search needs)
+    (λ c κs. search needs)
     (λ c. search needs)
+    (λ c κs. search needs)
     (λ c. search needs)
+    (λ c κs. search needs)
     (λ c. search needs)
+    (λ c κs. search needs)
     (λ c. search needs)
+    (λ c κs. search needs)
     (λ c. search needs)
+    (λ c κs. search needs)
     (λ c. search needs)
+    (λ c κs. search needs)
     (λ c. search needs)
+    (λ c κs. search needs)
     (λ c. search needs)
+    (λ c κs. search needs)
     (λ c. search needs)
+    (λ c κs. search needs)
     (λ c. search needs)
+    (λ c κs. search needs)
     (λ c. search needs)
+    (λ c κs. search needs)
     (λ c. search needs)
+    (λ c κs. search needs)
     returns
     returns-2
     returns-3
