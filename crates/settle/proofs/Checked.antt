@@ -1,5 +1,5 @@
--- The laws by which `check_answers` goes: where every test passes the answers are the table's, and where one fails they are not. Assumes nothing.
-use mathlib.Core.Path.{_≡_, sym, _∙_, ap, subst}
+-- The laws by which `answers_right` and `check_answers` go: where every test passes the answers are the table's, and where one fails they are not. Assumes nothing.
+use mathlib.Core.Path.{_≡_, refl, sym, _∙_, ap, subst}
 use mathlib.Core.Bool.{Bool, true, false}
 use Prim.Native.Nat.{ℕ, _+_, _≤_, _<_}
 use native.Mathlib.Omega.{arith}
@@ -12,6 +12,7 @@ use Rattle.weights.specs.Laws.{lawful}
 use Rattle.refusal.specs.declared.Refusal.{Refusal}
 use Rattle.refusal.specs.declared.Answer.the-variants.{Accepted, Refused}
 use Rattle.refusal.specs.declared.Verdict.the-variants as verdict
+use Rattle.provenance.specs.Labelling.{Fixpoint}
 use Rattle.provenance.specs.BestFirst.{Answers, labels}
 use Rattle.provenance.specs.Existence.{exists-shallow}
 use Rattle.provenance.specs.Local.{every, vertexRight, edgeRight, all-right, not-fixpoint, vertex-fails, edge-fails}
@@ -21,7 +22,7 @@ use Rattle.columns.specs.Accepted.{AcceptedColumns, table-accepted, well-formed
 use Rattle.columns.specs.Same.{same, same-refl, same-not}
 use Rattle.offers.specs.Lent.{Turning}
 use Rattle.settle.specs.Settling.{answersOf}
-use Rattle.settle.specs.Checking.{checked}
+use Rattle.settle.specs.Checking.{verdict as judged, checked}
 use Rattle.offers.specs.Laws.{same-table, turning-columns}
 
 module _ (m : Measure) (c : Columns) (a : Answers) where
@@ -29,24 +30,20 @@ module _ (m : Measure) (c : Columns) (a : Answers) where
   unfolding checked
   checked-refused r p = rw p
 
-  pub checked-yes : lentAcceptance c a ≡ Accepted → a ≡ answersOf m c → verdict.Yes ≡ checked m c a
+  pub checked-told : (b : Bool) → lentAcceptance c a ≡ Accepted → same a (answersOf m c) ≡ b → judged Accepted b ≡ checked m c a
   unfolding checked
-  checked-yes p e =
-      let q : same a (answersOf m c) ≡ true = subst (λ (b : Answers). same a b ≡ true) e (same-refl a) in
-      rw (p, q)
-
-  pub checked-no : lentAcceptance c a ≡ Accepted → ¬ (a ≡ answersOf m c) → verdict.No ≡ checked m c a
-  unfolding checked
-  checked-no p n = rw (p, same-not a (answersOf m c) n)
+  checked-told b p q = rw (p, q)
 
 module _ (m : Measure) (c : Columns) (a : Answers) (l : AcceptedColumns c a) where
+  others : ¬ (a ≡ answersOf m c) → false ≡ same a (answersOf m c)
+  others n = sym (same-not a (answersOf m c) n)
+
   -- a depth above the number of vertices is none of the table's
-  pub too-deep : allBelow (c .vertices + 1) (a .depths) ≡ false → ¬ (a ≡ answersOf m c)
+  pub too-deep : allBelow (c .vertices + 1) (a .depths) ≡ false → false ≡ same a (answersOf m c)
   unfolding answersOf
-  too-deep q e =
-      let f : (k : ℕ) → k < length (a .depths) → getD (a .depths) k 0 < c .vertices + 1 =
-      λ k h. omega (arith, exists-shallow (lawful m) (ownAt c) (well-formed c (l .table)) k, ap (λ (b : Answers). getD (b .depths) k 0) e) in
-      apart (sym q ∙ below-all _ _ f)
+  too-deep q =
+      let low = exists-shallow (lawful m) (ownAt c) (well-formed c (l .table)) in
+      others (λ e. apart (sym q ∙ below-all _ _ (λ k h. omega (arith, low k, ap (λ (b : Answers). getD (b .depths) k 0) e))))
 
   -- else the columns can be looked at
   shallow : allBelow (c .vertices + 1) (a .depths) ≡ true → (v : ℕ) → Dec (length (a .depths) ≤ v) → getD (a .depths) v 0 ≤ mostVertices
@@ -69,14 +66,21 @@ module _ (m : Measure) (c : Columns) (a : Answers) (l : AcceptedColumns c a) whe
   edges-at : {b : Bool} → edges ≡ b → every (edgeRight (algebra m) (hypergraph c) (ownAt c) (labels a)) (length (c .heads)) ≡ b
   edges-at {b} q = subst (λ (n : ℕ). every (edgeRight (algebra m) (hypergraph (same-table c n)) (ownAt c) (labels a)) (length (c .heads)) ≡ b) (l .sized .depths) q
 
-  pub wrong-vertex : vertices ≡ false → ¬ (a ≡ answersOf m c)
+  fixpoint-only : ¬ Fixpoint (algebra m) (hypergraph c) (ownAt c) (labels a) → false ≡ same a (answersOf m c)
   unfolding answersOf
-  wrong-vertex q = not-fixpoint (lawful m) (hypergraph c) (ownAt c) a (l .sized) (well-formed c (l .table)) (vertex-fails (lawful m) (hypergraph c) (ownAt c) a (l .sized) (vertices-at q))
+  fixpoint-only n = others (not-fixpoint (lawful m) (hypergraph c) (ownAt c) a (l .sized) (well-formed c (l .table)) n)
 
-  pub wrong-edge : edges ≡ false → ¬ (a ≡ answersOf m c)
-  unfolding answersOf
-  wrong-edge q = not-fixpoint (lawful m) (hypergraph c) (ownAt c) a (l .sized) (well-formed c (l .table)) (edge-fails (lawful m) (hypergraph c) (ownAt c) a (l .sized) (edges-at q))
+  pub wrong-vertex : vertices ≡ false → false ≡ same a (answersOf m c)
+  wrong-vertex q = fixpoint-only (vertex-fails (lawful m) (hypergraph c) (ownAt c) a (l .sized) (vertices-at q))
 
-  pub right-all : vertices ≡ true → edges ≡ true → a ≡ answersOf m c
+  right-all : vertices ≡ true → edges ≡ true → a ≡ answersOf m c
   unfolding answersOf
   right-all p q = all-right (lawful m) (hypergraph c) (ownAt c) a (l .sized) (well-formed c (l .table)) (vertices-at p) (edges-at q)
+
+  -- where every vertex is right, the hyperedges decide
+  pub edges-decide : vertices ≡ true → edges ≡ same a (answersOf m c)
+  edges-decide p = go edges refl
+    where
+      go : (b : Bool) → edges ≡ b → b ≡ same a (answersOf m c)
+      go true q = subst (λ (x : Answers). true ≡ same a x) (right-all p q) (sym (same-refl a))
+      go false q = fixpoint-only (edge-fails (lawful m) (hypergraph c) (ownAt c) a (l .sized) (edges-at q))

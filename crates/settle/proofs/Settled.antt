@@ -1,4 +1,4 @@
--- From best-first to the whole call: the laws by which `settle` goes. Assumes nothing.
+-- From best-first to the whole call: the laws by which `label` and `settle` go. Assumes nothing.
 use mathlib.Core.Path.{_≡_, sym, _∙_, ap, subst}
 use mathlib.Core.List.{List}
 use Prim.Native.Nat.{ℕ}
@@ -22,8 +22,8 @@ module _ (m : Measure) (c : Columns) (a : Answers) where
   unfolding settled
   settled-refused r p = rw p
 
-  pub settled-all : (b : Answers) → lentAcceptance c a ≡ Accepted → b ≡ best-first (algebra m) (hypergraph c) (ownAt c) → record { result = Accepted; left = b } ≡ settled m c a
-  unfolding settled answersOf
+  pub settled-all : (b : Answers) → lentAcceptance c a ≡ Accepted → b ≡ answersOf m c → record { result = Accepted; left = b } ≡ settled m c a
+  unfolding settled
   settled-all b p q = rw (p, q)
 
   -- the columns are set to 0
@@ -47,5 +47,14 @@ module _ (m : Measure) (c : Columns) (a : Answers) where
       blank = subst (λ (n : ℕ). answers ws ds es ≡ turns (algebra m) (hypergraph (same-table c n)) (ownAt c) 0) (sym depths-long) cleared;
     }
 
-    pub labelled : {b : Answers} → b ≡ best-first (algebra m) (hypergraph (same-table c (length ds))) (ownAt c) → b ≡ best-first (algebra m) (hypergraph c) (ownAt c)
+    pub labelled : {b : Answers} → b ≡ best-first (algebra m) (hypergraph (same-table c (length ds))) (ownAt c) → b ≡ answersOf m c
+    unfolding answersOf
     labelled {b} e = subst (λ (n : ℕ). b ≡ best-first (algebra m) (hypergraph (same-table c n)) (ownAt c)) depths-long e
+
+-- accepted columns tell the number of vertices, so `label` is not given it
+module _ (c : Columns) (a : Answers) (h : AcceptedColumns c a) where
+  pub told-accepted : AcceptedColumns (same-table c (length (a .depths))) a
+  told-accepted = subst (λ (n : ℕ). AcceptedColumns (same-table c n) a) (sym (h .sized .depths)) h
+
+  pub told-answers : (m : Measure) {b : Answers} → b ≡ answersOf m (same-table c (length (a .depths))) → b ≡ answersOf m c
+  told-answers m {b} e = subst (λ (n : ℕ). b ≡ answersOf m (same-table c n)) (h .sized .depths) e

@@ -18,9 +18,31 @@ ghost use Rattle.weights.specs.Labels.{entryOf};
 ghost use Rattle.provenance.specs.BestFirst.{labels};
 ghost use Rattle.provenance.specs.Local.{every, gives, keepsUp, vertexRight, edgeRight};
 ghost use Rattle.columns.specs.Columns.{columns, answers, hypergraph};
+ghost use Rattle.columns.specs.Accepted.{AcceptedColumns};
+ghost use Rattle.columns.specs.Same.{same};
 ghost use Rattle.offers.specs.Lent.{lent, cell, Turning};
-ghost use Rattle.settle.specs.Settling.{settled};
+ghost use Rattle.settle.specs.Settling.{answersOf, settled};
 ghost use Rattle.settle.specs.Checking.{checked};
+
+// The answers of an accepted table go into the three answer columns, whatever they held.
+pub fn label(
+    measure: Measure,
+    heads: &[u64],
+    own: &[u64],
+    spans: &[u64],
+    tails: &[u64],
+    weights: &mut [u64],
+    depths: &mut [u64],
+    edges: &mut [u64],
+)
+    requires { ⌜ AcceptedColumns (lent (now heads) (now own) (now spans) (now tails) (now depths)) (answers (now weights) (now depths) (now edges)) ⌝ }
+    ensures { λ r. ⌜ answers (now (weights .exit)) (now (depths .exit)) (now (edges .exit)) ≡ answersOf measure (lent (now (heads .entry)) (now (own .entry)) (now (spans .entry)) (now (tails .entry)) (now (depths .entry))) ⌝ }
+{
+    columns::set_all(weights, 0);
+    columns::set_all(depths, 0);
+    columns::set_all(edges, 0);
+    bestfirst::label_all(measure, heads, own, spans, tails, weights, depths, edges);
+}
 
 // Leaves the table's answers in the three answer columns, or refuses and leaves them as they are.
 pub fn settle(
@@ -41,10 +63,7 @@ pub fn settle(
         Answer::Refused(r) => return Answer::Refused(r),
         Answer::Accepted => {}
     }
-    columns::set_all(weights, 0);
-    columns::set_all(depths, 0);
-    columns::set_all(edges, 0);
-    bestfirst::label_all(measure, heads, own, spans, tails, weights, depths, edges);
+    label(measure, heads, own, spans, tails, weights, depths, edges);
     Answer::Accepted
 }
 
@@ -190,8 +209,32 @@ fn edges_right(
     true
 }
 
-// Whether the answer columns hold the table's answers, whoever wrote them. A depth above n is none
-// of them, so no sum below wraps.
+// Whether the answer columns hold the answers of an accepted table, whoever wrote them. A depth
+// above n is none of them, so no sum below wraps.
+pub fn answers_right(
+    measure: Measure,
+    n: u64,
+    heads: &[u64],
+    own: &[u64],
+    spans: &[u64],
+    tails: &[u64],
+    weights: &[u64],
+    depths: &[u64],
+    edges: &[u64],
+) -> bool
+    requires { ⌜ AcceptedColumns (columns n (now heads) (now own) (now spans) (now tails)) (answers (now weights) (now depths) (now edges)) ⌝ }
+    ensures { λ r. ⌜ r ≡ same (answers (now (weights .entry)) (now (depths .entry)) (now (edges .entry))) (answersOf measure (columns n (now (heads .entry)) (now (own .entry)) (now (spans .entry)) (now (tails .entry)))) ⌝ }
+{
+    if !columns::all_below(n + 1, depths) {
+        return false;
+    }
+    if !vertices_right(measure, heads, own, spans, tails, weights, depths, edges) {
+        return false;
+    }
+    edges_right(measure, heads, own, spans, tails, weights, depths, edges)
+}
+
+// The same of any table, or why it is refused.
 pub fn check_answers(
     measure: Measure,
     n: u64,
@@ -210,16 +253,10 @@ pub fn check_answers(
         Answer::Refused(r) => return Verdict::Refused(r),
         Answer::Accepted => {}
     }
-    if !columns::all_below(n + 1, depths) {
-        return Verdict::No;
+    if answers_right(measure, n, heads, own, spans, tails, weights, depths, edges) {
+        return Verdict::Yes;
     }
-    if !vertices_right(measure, heads, own, spans, tails, weights, depths, edges) {
-        return Verdict::No;
-    }
-    if !edges_right(measure, heads, own, spans, tails, weights, depths, edges) {
-        return Verdict::No;
-    }
-    Verdict::Yes
+    Verdict::No
 }
 
 // What a column holds for a vertex, and 0 for a vertex beyond its end.
