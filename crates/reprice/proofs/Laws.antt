@@ -1,6 +1,6 @@
 -- The laws by which the changes go. Assumes nothing.
-use mathlib.Core.Path.{_≡_, refl, _∙_, ap}
-use mathlib.Core.Bool.{Bool, true, false, not}
+use mathlib.Core.Path.{_≡_, _∙_, ap}
+use mathlib.Core.Bool.{true, false, not}
 use Prim.Native.Nat.{ℕ, _≤_, _<_}
 use native.Mathlib.Omega.{arith}
 use lib.ListN.{length, set}
@@ -13,66 +13,51 @@ use Rattle.refusal.specs.declared.Refusal.{Refusal}
 use Rattle.refusal.specs.declared.Refusal.the-variants.{WrongAnswers, NoSuchEdge, NewWeight}
 use Rattle.refusal.specs.declared.Answer.{Answer}
 use Rattle.refusal.specs.declared.Answer.the-variants.{Accepted, Refused}
-use Rattle.refusal.specs.declared.Verdict.{Verdict}
-use Rattle.refusal.specs.declared.Verdict.the-variants as verdict
 use Rattle.provenance.specs.BestFirst.{Answers}
-use Rattle.columns.specs.Columns.{Columns, ownAt, withOwn}
-use Rattle.columns.specs.Acceptance.{mostEdges, test, andThen, lentAcceptance}
-use Rattle.columns.specs.Accepted.{test-passed, both-accepted, columns-accepted, table-accepted}
-use Rattle.columns.specs.Repriced.{lent-kept}
+use Rattle.columns.specs.Columns.{Columns, columns, ownAt, withOwn}
+use Rattle.columns.specs.Acceptance.{lentAcceptance}
+use Rattle.columns.specs.Accepted.{AcceptedColumns, test-passed, both-accepted, columns-accepted, table-accepted}
+use Rattle.columns.specs.Repriced.{acceptance-kept}
 use Rattle.columns.specs.Same.{same}
-use Rattle.settle.specs.Settling.{Outcome, answersOf, settled}
-use Rattle.settle.specs.Checking as checking
-use Rattle.settle.specs.Checking.{checked}
-use Rattle.settle.specs.Demands.{settled-left, settled-result}
-use Rattle.reprice.specs.Repricing.{stands, lineAcceptance, answersAcceptance, repriceAcceptance, strikeAcceptance, Change, changed, repriced, stricken}
-
--- what the answer check said, as an answer
-abbrev pub answer-of : Verdict → Answer
-answer-of verdict.Yes = Accepted
-answer-of verdict.No = Refused WrongAnswers
-answer-of (verdict.Refused r) = Refused r
-
-judged : (x : Answer) (b : Bool) → answer-of (checking.verdict x b) ≡ andThen x (test b WrongAnswers Accepted)
-judged Accepted true = refl
-judged Accepted false = refl
-judged (Refused r) b = refl
-
-pub right-is : (m : Measure) (c : Columns) (a : Answers) {v : Verdict} → v ≡ checked m c a → answer-of v ≡ andThen (lentAcceptance c a) (answersAcceptance m c a)
-unfolding checked
-right-is m c a p = ap answer-of p ∙ judged (lentAcceptance c a) (same a (answersOf m c))
+use Rattle.settle.specs.Settling.{answersOf}
+use Rattle.settle.proofs.Settled.{told-accepted, told-answers}
+use Rattle.reprice.specs.Repricing.{stands, lineAcceptance, answersAcceptance, repriceAcceptance, strikeAcceptance, Change, changed, Changeable, repriced, stricken}
 
 -- an accepted line
 module _ (c : Columns) (a : Answers) (e : ℕ) (p : lineAcceptance c a e ≡ Accepted) where
-  pub line-lent : lentAcceptance c a ≡ Accepted
+  line-lent : lentAcceptance c a ≡ Accepted
   unfolding lineAcceptance
   line-lent = both-accepted (lentAcceptance c a) _ p .0
 
-  pub line-stands : stands c e ≡ true
+  line-stands : stands c e ≡ true
   unfolding lineAcceptance
   line-stands = test-passed (stands c e) NoSuchEdge Accepted (both-accepted (lentAcceptance c a) _ p .1) .0
 
   line-numbered : e < length (c .heads)
   line-numbered = ltb-true _ _ (both-true {a = ltb e (length (c .heads))} {b = not (isStruck (ownAt c e))} line-stands .0)
 
-  -- it has an own figure
-  pub line-placed : e < length (c .own)
-  line-placed = omega (arith, line-numbered, table-accepted c (columns-accepted c a line-lent .table) .own)
+  -- it can be changed
+  pub line-changeable : (w : ℕ) → w ≤ struck → Changeable c a e w
+  line-changeable w h =
+      let l = columns-accepted c a line-lent in
+      record { accepted = l; placed = omega (arith, line-numbered, table-accepted c (l .table) .own); allowed = h }
 
-  pub line-few : e < mostEdges
-  line-few = omega (arith, line-numbered, table-accepted c (columns-accepted c a line-lent .table) .edges)
+-- a line that can be changed: the table as it then is, whose number of parts `label` takes from the answer columns, is accepted
+module _ (c : Columns) (a : Answers) (e w : ℕ) (h : Changeable c a e w) where
+  kept : AcceptedColumns (withOwn c e w) a
+  kept = record { table = acceptance-kept c e w (h .placed) (h .allowed) (h .accepted .table); sized = h .accepted .sized }
 
-  -- what settling leaves once another figure is stored
-  pub stored : (m : Measure) (w : ℕ) → w ≤ struck → {x : Answer} {b : Answers} → record { result = x; left = b } ≡ settled m (withOwn c e w) a → record { result = x; own = set (c .own) e w; left = b } ≡ changed m c a e w Accepted
-  stored m w h {x} {b} q =
-      let k = lent-kept c e w line-placed h a line-lent in
-      let r : x ≡ Accepted = ap (λ (o : Outcome). o .result) q ∙ settled-result m (withOwn c e w) a ∙ k in
-      let l : b ≡ answersOf m (withOwn c e w) = ap (λ (o : Outcome). o .left) q ∙ settled-left m (withOwn c e w) a k in
-      λ i. record { result = r i; own = set (c .own) e w; left = l i }
+  abbrev told : Columns
+  told = columns (length (a .depths)) (c .heads) (set (c .own) e w) (c .spans) (c .tails)
 
-  -- where the line was accepted, the answer check's own refusals do not arise
-  pub right-alone : (m : Measure) {x : Answer} → x ≡ andThen (lentAcceptance c a) (answersAcceptance m c a) → x ≡ answersAcceptance m c a
-  right-alone m q = q ∙ rw line-lent
+  pub change-accepted : AcceptedColumns told a
+  change-accepted = told-accepted (withOwn c e w) a kept
+
+  pub change-made : (m : Measure) {b : Answers} → same a (answersOf m c) ≡ true → b ≡ answersOf m told → record { result = Accepted; own = set (c .own) e w; left = b } ≡ changed m c a e w (answersAcceptance m c a)
+  change-made m q r = rw (q, told-answers (withOwn c e w) a kept m r)
+
+  pub change-refused : (m : Measure) → same a (answersOf m c) ≡ false → record { result = Refused WrongAnswers; own = c .own; left = a } ≡ changed m c a e w (answersAcceptance m c a)
+  change-refused m q = rw q
 
 module _ (m : Measure) (c : Columns) (a : Answers) (e : ℕ) where
   -- a change is made of its acceptance
@@ -100,10 +85,10 @@ module _ (m : Measure) (c : Columns) (a : Answers) (e : ℕ) where
     reprice-figure w h = rw (p, lt-leb _ _ h)
 
     -- else by the answers, or accepted
-    pub reprice-answers : (w : ℕ) {x : Answer} → w ≤ greatest → x ≡ answersAcceptance m c a → x ≡ repriceAcceptance m c a e w
+    pub reprice-answers : (w : ℕ) → w ≤ greatest → answersAcceptance m c a ≡ repriceAcceptance m c a e w
     unfolding repriceAcceptance
-    reprice-answers w h q = q ∙ rw (p, le-leb _ _ h)
+    reprice-answers w h = rw (p, le-leb _ _ h)
 
-    pub strike-answers : {x : Answer} → x ≡ answersAcceptance m c a → x ≡ strikeAcceptance m c a e
+    pub strike-answers : answersAcceptance m c a ≡ strikeAcceptance m c a e
     unfolding strikeAcceptance
-    strike-answers q = q ∙ rw p
+    strike-answers = rw p

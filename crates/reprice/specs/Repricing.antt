@@ -1,5 +1,5 @@
 -- Repricing and striking a line: their refusals, and what they leave. The paper's "The calls" and "What is turned away". Assumes nothing: these are definitions.
-use Prim.Native.Nat.{ℕ}
+use Prim.Native.Nat.{ℕ, _≤_, _<_}
 use mathlib.Core.Bool.{Bool, false, not}
 use mathlib.Core.List.{List}
 use lib.ListN.{length, set}
@@ -13,6 +13,7 @@ use Rattle.refusal.specs.declared.Answer.the-variants.{Accepted, Refused}
 use Rattle.provenance.specs.BestFirst.{Answers}
 use Rattle.columns.specs.Columns.{Columns, ownAt, withOwn}
 use Rattle.columns.specs.Acceptance.{test, andThen, lentAcceptance}
+use Rattle.columns.specs.Accepted.{AcceptedColumns}
 use Rattle.columns.specs.Same.{same}
 use Rattle.settle.specs.Settling.{answersOf}
 
@@ -46,6 +47,12 @@ pub record Change : Type 0 where
 abbrev pub changed : Measure → Columns → Answers → (e w : ℕ) → Answer → Change
 changed m c a e w Accepted = record { result = Accepted; own = set (c .own) e w; left = answersOf m (withOwn c e w) }
 changed m c a e w (Refused r) = record { result = Refused r; own = c .own; left = a }
+
+-- what a change asks: table and answer columns that were accepted, a line that has its own figure, and a figure that is allowed, the struck mark included
+pub record Changeable (c : Columns) (a : Answers) (e w : ℕ) : Type 0 where
+  pub accepted : AcceptedColumns c a
+  pub placed : e < length (c .own)
+  pub allowed : w ≤ struck
 
 unfoldable pub repriced : Measure → Columns → Answers → (e w : ℕ) → Change
 repriced m c a e w = changed m c a e w (repriceAcceptance m c a e w)

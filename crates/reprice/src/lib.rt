@@ -1,15 +1,13 @@
 // Repricing and striking a line. Everything is checked before anything lent is written; then the
-// figure is stored and the table is settled anew.
+// figure is stored and the table labelled anew.
 use refusal::Answer;
 use refusal::Refusal;
-use refusal::Verdict;
 use weights::Hyperedge;
 use weights::Measure;
 use weights::Weight;
 ghost use mathlib.Core.Path.{_≡_};
 ghost use Rattle.columns.specs.Columns.{columns, answers};
-ghost use Rattle.columns.specs.Acceptance.{andThen, lentAcceptance};
-ghost use Rattle.reprice.specs.Repricing.{lineAcceptance, answersAcceptance, repriced, stricken};
+ghost use Rattle.reprice.specs.Repricing.{lineAcceptance, answersAcceptance, changed, Changeable, repriced, stricken};
 
 // Whether table, answer columns and line are accepted: 1 to 6, 7, 9.
 fn check_line(
@@ -42,26 +40,31 @@ fn check_line(
     Answer::Accepted
 }
 
-// Whether the lent answers are this table's: 8, after 1 to 7.
-fn check_right(
+// The line's own figure becomes this one, and the answers those of the table as it then is, which is
+// accepted as it was; or 8, where the lent answers are not this table's, and nothing has changed.
+fn change(
     measure: Measure,
     n: u64,
     heads: &[u64],
-    own: &[u64],
+    own: &mut [u64],
     spans: &[u64],
     tails: &[u64],
-    weights: &[u64],
-    depths: &[u64],
-    edges: &[u64],
+    weights: &mut [u64],
+    depths: &mut [u64],
+    edges: &mut [u64],
+    line: Hyperedge,
+    figure: Weight,
 ) -> Answer
-    ensures { λ r. ⌜ r ≡ andThen (lentAcceptance (columns n (now (heads .entry)) (now (own .entry)) (now (spans .entry)) (now (tails .entry))) (answers (now (weights .entry)) (now (depths .entry)) (now (edges .entry)))) (answersAcceptance measure (columns n (now (heads .entry)) (now (own .entry)) (now (spans .entry)) (now (tails .entry))) (answers (now (weights .entry)) (now (depths .entry)) (now (edges .entry)))) ⌝ }
+    requires { ⌜ Changeable (columns n (now heads) (now own) (now spans) (now tails)) (answers (now weights) (now depths) (now edges)) (line .0) (figure .0) ⌝ }
+    ensures { λ r. ⌜ record { result = r; own = now (own .exit); left = answers (now (weights .exit)) (now (depths .exit)) (now (edges .exit)) } ≡ changed measure (columns n (now (heads .entry)) (now (own .entry)) (now (spans .entry)) (now (tails .entry))) (answers (now (weights .entry)) (now (depths .entry)) (now (edges .entry))) (line .0) (figure .0) (answersAcceptance measure (columns n (now (heads .entry)) (now (own .entry)) (now (spans .entry)) (now (tails .entry))) (answers (now (weights .entry)) (now (depths .entry)) (now (edges .entry)))) ⌝ }
 {
-    let v = settle::check_answers(measure, n, heads, own, spans, tails, weights, depths, edges);
-    match v {
-        Verdict::Yes => Answer::Accepted,
-        Verdict::No => Answer::Refused(Refusal::WrongAnswers),
-        Verdict::Refused(r) => Answer::Refused(r),
+    if !settle::answers_right(measure, n, heads, own, spans, tails, weights, depths, edges) {
+        return Answer::Refused(Refusal::WrongAnswers);
     }
+    let i = line.0 as usize;
+    own[i] = figure.0;
+    settle::label(measure, heads, own, spans, tails, weights, depths, edges);
+    Answer::Accepted
 }
 
 // The line's own figure becomes this one, and the answers those of the table as it then is; or a
@@ -89,14 +92,19 @@ pub fn reprice(
     if figure.0 > Weight::GREATEST.0 {
         return Answer::Refused(Refusal::NewWeight);
     }
-    let b = check_right(measure, n, heads, own, spans, tails, weights, depths, edges);
-    match b {
-        Answer::Refused(r) => return Answer::Refused(r),
-        Answer::Accepted => {}
-    }
-    let i = line.0 as usize;
-    own[i] = figure.0;
-    settle::settle(measure, n, heads, own, spans, tails, weights, depths, edges)
+    change(
+        measure,
+        n,
+        heads,
+        own,
+        spans,
+        tails,
+        weights,
+        depths,
+        edges,
+        line,
+        figure,
+    )
 }
 
 // The line is struck, and the answers become those of the table as it then is; or a refusal, and
@@ -120,12 +128,17 @@ pub fn strike(
         Answer::Refused(r) => return Answer::Refused(r),
         Answer::Accepted => {}
     }
-    let b = check_right(measure, n, heads, own, spans, tails, weights, depths, edges);
-    match b {
-        Answer::Refused(r) => return Answer::Refused(r),
-        Answer::Accepted => {}
-    }
-    let i = line.0 as usize;
-    own[i] = Weight::STRUCK.0;
-    settle::settle(measure, n, heads, own, spans, tails, weights, depths, edges)
+    change(
+        measure,
+        n,
+        heads,
+        own,
+        spans,
+        tails,
+        weights,
+        depths,
+        edges,
+        line,
+        Weight::STRUCK,
+    )
 }

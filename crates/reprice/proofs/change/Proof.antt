@@ -1,0 +1,57 @@
+-- `reprice::change` meets its contract: the answers are refused, or the figure is stored, the table is still accepted, and `label` leaves its answers. Assumes
+-- nothing.
+use mathlib.Core.Path.{sym, _∙_}
+use borrow.Author.Needs.{needs}
+use borrow.Author.Tests.{not-true, not-false}
+use Rattle.provenance.specs.BestFirst.{Answers}
+use Rattle.columns.specs.Columns.{Columns, columns, answers}
+use Rattle.reprice.proofs.Laws.{change-accepted, change-made, change-refused}
+use Rattle.reprice.proofs.change.Statement.{statement}
+use Rattle.reprice.proofs.change.Tie as tie
+
+-- the table and the answers as they came
+abbrev tableOf : tie.Start → Columns
+tableOf c = let a = c .args in columns (a .n) (a .heads .now) (a .own .now) (a .spans .now) (a .tails .now)
+
+abbrev came : tie.Start → Answers
+came c = let a = c .args in answers (a .weights .now) (a .depths .now) (a .edges .now)
+
+abbrev entry : tie.After-answers-right → tie.Start
+entry c = c .before .before .before .before .before .before .before .before .before .before .before .before
+
+returns : tie.Need-returns
+returns c =
+    let s = entry (c .before) in
+    change-refused (tableOf s) (came s) _ _ (s .pre) (s .args .measure) (sym (c .before .answers-right .ensures) ∙ not-true _ (c .if1 .taken))
+
+label-requires : tie.Need-label-requires
+label-requires c κs =
+    let s = entry (c .before .before .before .before .before) in
+    change-accepted (tableOf s) (came s) _ _ (s .pre)
+
+returns-2 : tie.Need-returns-2
+returns-2 c =
+    let l = c .before .before .before .before .before .before in
+    let e = l .before .before .before .before .before in
+    let s = entry (e .before) in
+    let right = sym (e .before .answers-right .ensures) ∙ not-false _ (e .if1 .left) in
+    change-made (tableOf s) (came s) _ _ (s .pre) (s .args .measure) right (l .label .ensures)
+
+pub change-spec : {M : Type 1} → statement M
+change-spec =
+    tie.close
+    (tie.spec
+    (λ c κs. search needs)
+    (λ c. search needs)
+    (λ c. search needs)
+    (λ c. search needs)
+    (λ c. search needs)
+    returns
+    (λ c. search needs)
+    (λ c. search needs)
+    label-requires
+    (λ c. search needs)
+    (λ c. search needs)
+    (λ c. search needs)
+    (λ c. search needs)
+    returns-2)
