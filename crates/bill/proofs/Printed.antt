@@ -4,7 +4,7 @@ use mathlib.Core.Bool.{true}
 use mathlib.Core.List.{List, _∷_}
 use Prim.Native.Nat.{ℕ, zero, suc, _+_, _≤_, _<_}
 use native.Mathlib.Omega.{arith}
-use lib.ListN.{length}
+use lib.ListN.{length, getD}
 use borrow.Author.Tests.{ltb-true, le-leb, lt-leb}
 use Rattle.weights.specs.declared.Measure.{Measure}
 use Rattle.weights.specs.declared.Label.{Label}
@@ -20,7 +20,6 @@ use Rattle.provenance.specs.Support.{bills, bill}
 use Rattle.columns.specs.Columns.{Columns, ownAt, tailAt, hypergraph}
 use Rattle.columns.specs.Acceptance.{allBelow}
 use Rattle.columns.specs.Accepted.{AcceptedColumns, table-accepted}
-use Rattle.offers.specs.Lent.{cell}
 use Rattle.bill.specs.declared.Budget.the-variants.{Left, Spent}
 use Rattle.bill.specs.Walk.{vertexBill, Each, Grounded, VertexFits, Written, spend}
 use Rattle.bill.specs.Billing.{billOf, partAcceptance, billAcceptance, printed, billed}
@@ -32,7 +31,7 @@ module _ (c : Columns) (a : Answers) where
   read-bill : (depth v : ℕ) → bill (hypergraph c) (labels a) depth v ≡ vertexBill (c .spans) (c .tails) (a .edges) depth v
   unfolding bill
   read-bill zero v = refl
-  read-bill (suc depth) v = ap (λ (f : ℕ → List ℕ). cell (a .edges) v ∷ bills f (tailAt c (cell (a .edges) v))) (fun-ext (read-bill depth))
+  read-bill (suc depth) v = ap (λ (f : ℕ → List ℕ). getD (a .edges) v 0 ∷ bills f (tailAt c (getD (a .edges) v 0))) (fun-ext (read-bill depth))
 
   lines-are : (v : ℕ) → billOf c a v ≡ vertexBill (c .spans) (c .tails) (a .edges) (labels a v .depth) v
   unfolding billOf
@@ -53,8 +52,8 @@ module _ (m : Measure) (c : Columns) (a : Answers) (l : AcceptedColumns c a) (fi
   grounded-within (suc k) v b x h =
       let g = fix .chosen v x in
       let t = table-accepted c (l .table) in
-      let e = t .each (cell (a .edges) v) (g .ready .stands .numbered) .1 in
-      let d : labels a v .depth ≡ deepest (labels a) (tailAt c (cell (a .edges) v)) + 1 = ap (λ (x : Label). x .depth) (g .given) in
+      let e = t .each (getD (a .edges) v 0) (g .ready .stands .numbered) .1 in
+      let d : labels a v .depth ≡ deepest (labels a) (tailAt c (getD (a .edges) v 0)) + 1 = ap (λ (x : Label). x .depth) (g .given) in
       (omega (arith, l .sized .edges), record { span = omega (arith, t .spans, g .ready .stands .numbered); short = e .short; within = e .within }, all-grounded (grounded-within k) (g .ready .tails) (e .listed) (omega arith))
 
 -- printing what the walks read

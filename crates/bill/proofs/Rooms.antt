@@ -8,7 +8,6 @@ use lib.ListN.{length, getD, take, drop, set, length-set, length-append, length-
 use lib.Seq.{take-all, take-at, drop-at, drop-drop}
 use borrow.Rule.Slice.PartMut.{putMid}
 use Rattle.columns.specs.Columns.{tailOf}
-use Rattle.offers.specs.Lent.{cell}
 use Rattle.bill.specs.Walk.{vertexBill, tailBill, VertexFits, TailFits, written, Written}
 use Rattle.bill.proofs.Walks.{Below, grounded, each-first, each-rest, rest, bills-none, bills-more, bills-length}
 
@@ -75,20 +74,20 @@ module _ (room : List ℕ) (from : ℕ) {n : ℕ} {first ys : List ℕ} (h : fro
       regroup = rw (length-append first rest, drop-drop (length rest) (length first) (drop from room)) (simp append-assoc)
 
 -- what `vertex_bill` goes by: the root is written, and the tail behind it
-module _ {spans tails edges : List ℕ} {depth v : ℕ} {room : List ℕ} (f : VertexFits spans tails edges depth v room) {vs : List ℕ} (q : vs ≡ tailOf spans tails (cell edges v)) where
+module _ {spans tails edges : List ℕ} {depth v : ℕ} {room : List ℕ} (f : VertexFits spans tails edges depth v room) {vs : List ℕ} (q : vs ≡ tailOf spans tails (getD edges v 0)) where
   below : Below spans tails edges depth v
   below = grounded spans tails edges depth v (f .grounded)
 
-  lines : vertexBill spans tails edges depth v ≡ cell edges v ∷ tailBill spans tails edges (depth - 1) vs
+  lines : vertexBill spans tails edges depth v ≡ getD edges v 0 ∷ tailBill spans tails edges (depth - 1) vs
   lines = rw q (below .lines)
 
   pub root-fits : 0 < length room
   root-fits = omega (arith, f .fits, ap length lines)
 
-  pub below-fits : TailFits spans tails edges (depth - 1) vs 1 (set room 0 (cell edges v))
-  below-fits = record { grounded = rw q (below .below); fits = rw (length-set room 0 (cell edges v)) (omega (arith, f .fits, ap length lines)) }
+  pub below-fits : TailFits spans tails edges (depth - 1) vs 1 (set room 0 (getD edges v 0))
+  below-fits = record { grounded = rw q (below .below); fits = rw (length-set room 0 (getD edges v 0)) (omega (arith, f .fits, ap length lines)) }
 
-  module _ {to : ℕ} {left : List ℕ} (w : Written 1 (tailBill spans tails edges (depth - 1) vs) (set room 0 (cell edges v)) to left) where
+  module _ {to : ℕ} {left : List ℕ} (w : Written 1 (tailBill spans tails edges (depth - 1) vs) (set room 0 (getD edges v 0)) to left) where
     pub vertex-written : Written 0 (vertexBill spans tails edges depth v) room to left
     vertex-written = write-root lines root-fits w
 

@@ -11,7 +11,6 @@ use borrow.Author.Tests.{le-leb, lt-leb}
 use Rattle.provenance.specs.Support.{bills, bill}
 use Rattle.columns.specs.Acceptance.{longestTail}
 use Rattle.columns.specs.Columns.{tailOf}
-use Rattle.offers.specs.Lent.{cell}
 use Rattle.bill.specs.declared.Budget.{Budget}
 use Rattle.bill.specs.declared.Budget.the-variants.{Left, Spent}
 use Rattle.bill.specs.Walk.{vertexBill, tailBill, Placed, Each, Grounded, AllGrounded, spend}
@@ -64,17 +63,25 @@ module _ (spans tails edges : List ℕ) where
   pub record Below (depth v : ℕ) : Type 0 where
     pub deep : 0 < depth
     pub vertex : v < length edges
-    pub placed : Placed spans tails (cell edges v)
-    pub short : length (tailOf spans tails (cell edges v)) ≤ longestTail
-    pub below : AllGrounded spans tails edges (depth - 1) (tailOf spans tails (cell edges v))
-    pub lines : vertexBill spans tails edges depth v ≡ cell edges v ∷ tailBill spans tails edges (depth - 1) (tailOf spans tails (cell edges v))
+    pub placed : Placed spans tails (getD edges v 0)
+    pub short : length (tailOf spans tails (getD edges v 0)) ≤ longestTail
+    pub below : AllGrounded spans tails edges (depth - 1) (tailOf spans tails (getD edges v 0))
+    pub lines : vertexBill spans tails edges depth v ≡ getD edges v 0 ∷ tailBill spans tails edges (depth - 1) (tailOf spans tails (getD edges v 0))
 
   pub grounded : (depth v : ℕ) → Grounded spans tails edges depth v → Below depth v
   unfolding Grounded bill
   grounded zero v g = absurd g
   grounded (suc depth) v g =
       let e : suc depth - 1 ≡ depth = omega arith in
-      record { deep = omega arith; vertex = g .0; placed = g .1; short = simp length-take (omega (arith, g .1 .short)); below = subst (λ (k : ℕ). AllGrounded spans tails edges k (tailOf spans tails (cell edges v))) (sym e) (g .2); lines = ap (λ (k : ℕ). cell edges v ∷ tailBill spans tails edges k (tailOf spans tails (cell edges v))) (sym e) }
+      let tail = tailOf spans tails (getD edges v 0) in
+      record {
+        deep = omega arith;
+        vertex = g .0;
+        placed = g .1;
+        short = simp length-take (omega (arith, g .1 .short));
+        below = subst (λ (k : ℕ). AllGrounded spans tails edges k tail) (sym e) (g .2);
+        lines = ap (λ (k : ℕ). getD edges v 0 ∷ tailBill spans tails edges k tail) (sym e);
+      }
 
 -- a budget pays for n lines, or for fewer
 module _ (b n : ℕ) where

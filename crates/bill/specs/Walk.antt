@@ -3,7 +3,7 @@
 use mathlib.Core.Path.{_≡_}
 use mathlib.Core.List.{List, [], _∷_, _++_}
 use Prim.Native.Nat.{ℕ, zero, suc, _+_, _-_, _*_, _≤_, _<_}
-use lib.ListN.{length, take, drop}
+use lib.ListN.{length, getD, take, drop}
 use lib.Dec.{leb}
 use Rattle.weights.specs.declared.Label.{Label}
 use Rattle.weights.specs.Choice.{pick}
@@ -13,7 +13,6 @@ use Rattle.provenance.specs.Support.{bills, bill}
 use Rattle.columns.specs.Columns.{columns, answers, hypergraph}
 use Rattle.columns.specs.Acceptance.{longestTail}
 use Rattle.columns.specs.Columns.{tailOf}
-use Rattle.offers.specs.Lent.{cell}
 use Rattle.bill.specs.declared.Budget.{Budget}
 use Rattle.bill.specs.declared.Budget.the-variants.{Left, Spent}
 
@@ -34,8 +33,8 @@ tailBill spans tails edges depth vs = bills (vertexBill spans tails edges depth)
 -- line e has its span, which is short, and the span its places
 pub record Placed (spans tails : List ℕ) (e : ℕ) : Type 0 where
   pub span : 2 * e + 1 < length spans
-  pub short : cell spans (2 * e + 1) ≤ longestTail
-  pub within : cell spans (2 * e) + cell spans (2 * e + 1) ≤ length tails
+  pub short : getD spans (2 * e + 1) 0 ≤ longestTail
+  pub within : getD spans (2 * e) 0 + getD spans (2 * e + 1) 0 ≤ length tails
 
 -- P holds of every number of a list
 unfoldable pub Each : (ℕ → Type 0) → List ℕ → Type 0
@@ -45,7 +44,7 @@ Each P (v ∷ vs) = P v × Each P vs
 -- the chosen make-up of v is at most `depth` deep, and every line of it has its place
 unfoldable pub Grounded : (spans tails edges : List ℕ) → (depth v : ℕ) → Type 0
 Grounded spans tails edges zero v = ⊥
-Grounded spans tails edges (suc depth) v = (v < length edges) × Placed spans tails (cell edges v) × Each (Grounded spans tails edges depth) (tailOf spans tails (cell edges v))
+Grounded spans tails edges (suc depth) v = (v < length edges) × Placed spans tails (getD edges v 0) × Each (Grounded spans tails edges depth) (tailOf spans tails (getD edges v 0))
 
 abbrev pub AllGrounded : (spans tails edges : List ℕ) → (depth : ℕ) → List ℕ → Type 0
 AllGrounded spans tails edges depth = Each (Grounded spans tails edges depth)

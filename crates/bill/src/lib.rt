@@ -3,7 +3,6 @@
 use refusal::Answer;
 use refusal::Extent;
 use refusal::Refusal;
-use refusal::Verdict;
 use weights::Hyperedge;
 use weights::Measure;
 use weights::Vertex;
@@ -140,14 +139,15 @@ fn check_part(
 ) -> Answer
     ensures { λ r. ⌜ r ≡ partAcceptance measure (columns n (now (heads .entry)) (now (own .entry)) (now (spans .entry)) (now (tails .entry))) (answers (now (weights .entry)) (now (depths .entry)) (now (edges .entry))) (part .0) ⌝ }
 {
-    let v = settle::check_answers(measure, n, heads, own, spans, tails, weights, depths, edges);
-    if let Verdict::Refused(r) = v {
-        return Answer::Refused(r);
+    let a = columns::check_lent(n, heads, own, spans, tails, weights, depths, edges);
+    match a {
+        Answer::Refused(r) => return Answer::Refused(r),
+        Answer::Accepted => {}
     }
     if part.0 >= n {
         return Answer::Refused(Refusal::NoSuchVertex);
     }
-    if let Verdict::No = v {
+    if !settle::answers_right(measure, n, heads, own, spans, tails, weights, depths, edges) {
         return Answer::Refused(Refusal::WrongAnswers);
     }
     let i = part.0 as usize;

@@ -2,17 +2,17 @@
 use mathlib.Core.Path.{_≡_, ap}
 use Prim.Native.Nat.{ℕ, _+_, _-_, _*_}
 use native.Mathlib.Omega.{arith}
+use lib.ListN.{getD}
 use borrow.Author.Needs.{needs}
 use Rattle.columns.specs.Columns.{part}
-use Rattle.offers.specs.Lent.{cell}
 use Rattle.bill.proofs.tail_of.Statement.{statement}
 use Rattle.bill.proofs.tail_of.Tie as tie
 
 returns : tie.Need-returns
 returns c =
     let a = c .before .before .before .args in
-    let from = cell (a .spans .now) (2 * a .e .0) in
-    let size = cell (a .spans .now) (2 * a .e .0 + 1) in
+    let from = getD (a .spans .now) (2 * a .e .0) 0 in
+    let size = getD (a .spans .now) (2 * a .e .0 + 1) 0 in
     let e : from + size - from ≡ size = omega arith in
     ap (λ (k : ℕ). part from k (a .tails .now)) e
 
