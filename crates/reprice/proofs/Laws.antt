@@ -53,11 +53,12 @@ module _ (c : Columns) (a : Answers) (e w : ℕ) (h : Changeable c a e w) where
   pub change-accepted : AcceptedColumns told a
   change-accepted = told-accepted (withOwn c e w) a kept
 
-  pub change-made : (m : Measure) {b : Answers} → same a (answersOf m c) ≡ true → b ≡ answersOf m told → record { result = Accepted; own = set (c .own) e w; left = b } ≡ changed m c a e w (answersAcceptance m c a)
-  change-made m q r = rw (q, told-answers (withOwn c e w) a kept m r)
+  module _ (m : Measure) where
+    pub change-made : {b : Answers} → same a (answersOf m c) ≡ true → b ≡ answersOf m told → record { result = Accepted; own = told .own; left = b } ≡ changed m c a e w (answersAcceptance m c a)
+    change-made q r = rw (q, told-answers (withOwn c e w) a kept m r)
 
-  pub change-refused : (m : Measure) → same a (answersOf m c) ≡ false → record { result = Refused WrongAnswers; own = c .own; left = a } ≡ changed m c a e w (answersAcceptance m c a)
-  change-refused m q = rw q
+    pub change-refused : same a (answersOf m c) ≡ false → record { result = Refused WrongAnswers; own = c .own; left = a } ≡ changed m c a e w (answersAcceptance m c a)
+    change-refused q = rw q
 
 module _ (m : Measure) (c : Columns) (a : Answers) (e : ℕ) where
   -- a change is made of its acceptance

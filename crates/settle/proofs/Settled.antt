@@ -1,7 +1,7 @@
 -- From best-first to the whole call: the laws by which `label` and `settle` go. Assumes nothing.
 use mathlib.Core.Path.{_≡_, sym, _∙_, ap, subst}
 use mathlib.Core.List.{List}
-use Prim.Native.Nat.{ℕ}
+use Prim.Native.Nat.{ℕ, _≤_}
 use native.Mathlib.Omega.{arith}
 use lib.ListN.{length, getD, replicate, length-replicate}
 use Rattle.weights.specs.declared.Measure.{Measure}
@@ -9,9 +9,9 @@ use Rattle.weights.specs.Measures.{algebra}
 use Rattle.refusal.specs.declared.Refusal.{Refusal}
 use Rattle.refusal.specs.declared.Answer.the-variants.{Accepted, Refused}
 use Rattle.provenance.specs.BestFirst.{Answers, turns, best-first}
-use Rattle.provenance.specs.Existence.{zeros}
+use Rattle.provenance.specs.Existence.{Sized, zeros}
 use Rattle.columns.specs.Columns.{Columns, answers, ownAt, hypergraph}
-use Rattle.columns.specs.Acceptance.{lentAcceptance}
+use Rattle.columns.specs.Acceptance.{mostVertices, lentAcceptance}
 use Rattle.columns.specs.Accepted.{AcceptedColumns}
 use Rattle.offers.specs.Laws.{same-table, turning-columns}
 use Rattle.bestfirst.specs.Turns.{Unmade}
@@ -31,7 +31,7 @@ module _ (m : Measure) (c : Columns) (a : Answers) where
     weights-long : length ws ≡ c .vertices
     weights-long = ap length p ∙ length-replicate (length (a .weights)) 0 ∙ h .sized .weights
 
-    pub depths-long : length ds ≡ c .vertices
+    depths-long : length ds ≡ c .vertices
     depths-long = ap length q ∙ length-replicate (length (a .depths)) 0 ∙ h .sized .depths
 
     edges-long : length es ≡ c .vertices
@@ -42,10 +42,13 @@ module _ (m : Measure) (c : Columns) (a : Answers) where
     cleared = rw (p, q, r, h .sized .weights, h .sized .depths, h .sized .edges)
 
     pub all-unmade : Unmade m (same-table c (length ds)) (answers ws ds es)
-    all-unmade = record {
-      turning = turning-columns c (answers ws ds es) (h .table) (record { weights = weights-long; depths = depths-long; edges = edges-long }) (λ v. omega (arith, ap (λ (x : List ℕ). getD x v 0) q, zeros (length (a .depths)) v));
-      blank = subst (λ (n : ℕ). answers ws ds es ≡ turns (algebra m) (hypergraph (same-table c n)) (ownAt c) 0) (sym depths-long) cleared;
-    }
+    all-unmade =
+        let long : Sized (c .vertices) (answers ws ds es) = record { weights = weights-long; depths = depths-long; edges = edges-long } in
+        let low : (v : ℕ) → getD ds v 0 ≤ mostVertices = λ v. omega (arith, ap (λ (x : List ℕ). getD x v 0) q, zeros (length (a .depths)) v) in
+        record {
+          turning = turning-columns c (answers ws ds es) (h .table) long low;
+          blank = subst (λ (n : ℕ). answers ws ds es ≡ turns (algebra m) (hypergraph (same-table c n)) (ownAt c) 0) (sym depths-long) cleared;
+        }
 
     pub labelled : {b : Answers} → b ≡ best-first (algebra m) (hypergraph (same-table c (length ds))) (ownAt c) → b ≡ answersOf m c
     unfolding answersOf
