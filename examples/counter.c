@@ -76,7 +76,7 @@ static int accepted(const char *call, uint64_t result)
 
 static void print_bill(uint64_t part)
 {
-    uint64_t room[16], length, i;
+    uint64_t room[16] = { 0 }, length, i;
 
     length = bill(TOZBIERDU_COST, PARTS, TABLE, ANSWERS, part, room, COUNT(room));
     if (!accepted("bill", length))

@@ -1,65 +1,42 @@
 //! Differential tests of the library's calls. Arguments: [seed] [count] [test].
 //! The last line is 'N passed, M failed'; the exit status is 1 if a test failed.
 
-mod agreement;
 mod answers;
-mod bills;
-mod bindings;
-mod changes;
-mod counting;
-mod broken_lines;
-mod broken_texts;
-mod damage;
-mod entries;
-mod examples;
-mod flaws;
-mod lending;
-mod limits;
+mod bill;
+mod calls;
 mod model;
-mod mutated_texts;
-mod near_answers;
-mod raising;
 mod random;
-mod refusals;
-mod repricing;
-mod repricing_refusals;
-mod settling;
-mod solver;
-mod stale_answers;
+mod reprice;
+mod settle;
 mod tables;
-mod text_bindings;
-mod text_checks;
-mod text_model;
-mod text_rooms;
-mod texts;
-mod trees;
+mod text;
 mod trial;
-mod write_refusals;
 
 use std::process::{Command, ExitCode};
 use trial::{Test, Trial};
 
 /// One list for each call and each kind of test. A call that is added brings a module and its list.
 const TESTS: &[&[Test]] = &[
-    lending::TESTS,
-    settling::TESTS,
-    trees::TESTS,
+    calls::lending::TESTS,
+    settle::TESTS,
+    model::trees::TESTS,
     answers::TESTS,
-    near_answers::TESTS,
-    entries::TESTS,
-    bills::TESTS,
-    refusals::TESTS,
-    agreement::TESTS,
-    repricing::TESTS,
-    repricing_refusals::TESTS,
-    stale_answers::TESTS,
-    counting::TESTS,
-    raising::TESTS,
-    texts::TESTS,
-    text_rooms::TESTS,
-    broken_texts::TESTS,
-    mutated_texts::TESTS,
-    write_refusals::TESTS,
+    answers::near::TESTS,
+    settle::entries::TESTS,
+    bill::TESTS,
+    bill::lengths::TESTS,
+    settle::refusals::TESTS,
+    settle::agreement::TESTS,
+    reprice::TESTS,
+    reprice::refusals::TESTS,
+    answers::stale::TESTS,
+    reprice::counting::TESTS,
+    reprice::raising::TESTS,
+    text::TESTS,
+    text::rooms::TESTS,
+    text::broken::TESTS,
+    text::mutated::TESTS,
+    text::unwritten::TESTS,
 ];
 
 const SEED: u64 = 1;
@@ -114,11 +91,14 @@ fn prefix(test: &Test, arguments: &Arguments) -> String {
 }
 
 fn main() -> ExitCode {
-    let Some(arguments) = arguments() else {
-        eprintln!("usage: check [seed] [count] [test]");
-        return ExitCode::from(2);
+    let arguments = match arguments() {
+        Some(arguments) => arguments,
+        None => {
+            eprintln!("usage: check [seed] [count] [test]");
+            return ExitCode::from(2);
+        }
     };
-    let chosen = |test: &&Test| arguments.test.as_ref().is_none_or(|name| name == test.name);
+    let chosen = |test: &&Test| arguments.test.as_ref().map_or(true, |name| name == test.name);
     let run = if arguments.test.is_some() { run_here } else { run_apart };
     let (mut passed, mut failed) = (0, 0);
     for test in TESTS.iter().copied().flatten().filter(chosen) {

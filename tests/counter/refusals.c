@@ -186,6 +186,51 @@ static void test_refusal_16(void)
     }
 }
 
+/* Numbers of a table that are in order once they are cut to 32 bits. */
+#define PAST(low) ((UINT64_C(1) << 32) + (low))
+
+static void test_past_32_bits_tables(void)
+{
+    struct table *t = priced(0);
+
+    t->n = PAST(5);
+    all_refuse(t, "2^32 + 5 parts", 1, 0);
+    fault(HEADS, 0, PAST(0), "a head of 2^32", 3);
+    fault(OWN, 0, PAST(7), "a figure of 2^32 + 7", 4);
+    fault(SPANS, 1, PAST(1), "a span of 2^32 + 1", 5);
+    fault(TAILS, 0, PAST(0), "a needed part of 2^32", 6);
+    t = priced(0);
+    t->at[SPANS][10] = PAST(5);
+    all_refuse(t, "a span at 2^32 + 5", 5, 5);
+}
+
+/* The same of what is asked of a table, and of its answers. */
+static void test_past_32_bits_calls(void)
+{
+    struct table *t = priced(0);
+    uint64_t low;
+    int c;
+
+    for (low = 0; low < 5; low++) {
+        t->line = t->part = PAST(low);
+        expect(REPRICE, "line 2^32 and a few", run(REPRICE, t), 9, 0);
+        expect(BILL, "part 2^32 and a few", run(BILL, t), 11, 0);
+    }
+    t->line = 1;
+    for (low = 0; low < 5; low++) {
+        t->figure = PAST(low);
+        expect(REPRICE, "to 2^32 and a few", run(REPRICE, t), 10, 0);
+    }
+    t->figure = 500;
+    t->part = 3;
+    for (c = FIGURES; c < COLUMNS; c++) {
+        t->at[c][3] += PAST(0);
+        expect(REPRICE, "answers above by 2^32", run(REPRICE, t), 8, 0);
+        expect(BILL, "answers above by 2^32", run(BILL, t), 8, 0);
+        t->at[c][3] -= PAST(0);
+    }
+}
+
 /* Faults are taken away one by one: the refusals come in their order. */
 static void test_order_of_the_table(void)
 {
@@ -251,6 +296,8 @@ const struct test refusal_tests[] = {
     { "refusals_11_and_12", test_refusals_11_and_12, 0 },
     { "refusal_13", test_refusal_13, 0 },
     { "refusal_16", test_refusal_16, 0 },
+    { "past_32_bits_tables", test_past_32_bits_tables, 0 },
+    { "past_32_bits_calls", test_past_32_bits_calls, 0 },
     { "order_of_the_table", test_order_of_the_table, 0 },
     { "order_of_the_rest", test_order_of_the_rest, 0 },
     { NULL, NULL, 0 },

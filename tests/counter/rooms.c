@@ -86,23 +86,53 @@ static void test_mapped_room(void)
         check(room[i] == guard(i), "a write at the room's end");
 }
 
-/* A part whose bill has this many lines, each part needing the one before twice. */
+/* A part whose bill has this many lines: each part needs the one before twice, or once for a bill of
+   2, and part 0 once more where a line is left over. */
 static struct table *sized(uint64_t length)
 {
-    uint64_t more[64], parts[3] = { 0 }, n = 1;
+    uint64_t needs[64], parts[3] = { 0 }, n;
     struct table *t;
 
-    for (; length > 1; length = (length - more[n] + 1) / 2, n++)
-        more[n] = length % 2 == 1 ? 2 : 3;
+    for (n = 1; length > 1; n++) {
+        needs[n] = length == 2 ? 1 : 3 - length % 2;
+        length = length == 2 ? 1 : (length - needs[n] + 1) / 2;
+    }
     t = blank(n);
     add(t, 0, 1, 0, NULL);
     for (t->part = 1; t->part < n; t->part++) {
         parts[0] = parts[1] = t->part - 1;
-        add(t, t->part, 0, more[n - t->part], parts);
+        add(t, t->part, 0, needs[n - t->part], parts);
     }
     t->part = n - 1;
     expect(SETTLE, "a long bill", run(SETTLE, t), 0, 0);
     return t;
+}
+
+/* Every length is made just so. */
+static void test_sized(void)
+{
+    uint64_t length;
+
+    for (length = 1; length <= 600; length++) {
+        struct table *t = sized(length);
+        expect(BILL, "a bill made to its length", run(BILL, t), 0, length);
+        drop(t);
+    }
+}
+
+/* Bills whose length is low once it is cut to 32 bits: the cut one would fit. */
+static void test_past_32_bits_lines(void)
+{
+    uint64_t low;
+
+    for (low = 0; low < 9; low++) {
+        struct table *t = sized((UINT64_C(1) << 32) + low);
+        for (t->room_count = 0; t->room_count < 12; t->room_count++)
+            expect(BILL, "2^32 lines and a few", run(BILL, t), 13, 0);
+        t->room_count = ROOM;
+        expect(BILL, "2^32 lines and a few", run(BILL, t), 13, 0);
+        drop(t);
+    }
 }
 
 /* A bill longer than what counts, in room that is said to hold it: it takes a minute. */
@@ -168,6 +198,8 @@ const struct test room_tests[] = {
     { "no_places", test_no_places, 0 },
     { "long_rooms", test_long_rooms, 0 },
     { "mapped_room", test_mapped_room, 0 },
+    { "sized", test_sized, 0 },
+    { "past_32_bits_lines", test_past_32_bits_lines, 0 },
     { "uncounted_room", test_uncounted_room, 1 },
     { "stack", test_stack, 0 },
     { NULL, NULL, 0 },

@@ -1,0 +1,142 @@
+//! Settling accepted tables, compared with the solver and with the stated examples.
+
+pub mod agreement;
+pub mod entries;
+pub mod refusals;
+
+use crate::calls::{check_answers, check_table, settle};
+use crate::model::solver::solve;
+use crate::model::*;
+use crate::random::Rng;
+use crate::tables::examples::examples;
+use crate::tables::limits::limits;
+use crate::tables::{self, Shape};
+use crate::trial::{expect, Outcome, Test, Trial, Verdict};
+
+pub const TESTS: &[Test] = &[
+    Test { name: "settle/examples", run: stated },
+    Test { name: "settle/random", run: |trial| shaped(trial, &tables::MIXED) },
+    Test { name: "settle/ties", run: |trial| shaped(trial, &tables::TIES) },
+    Test { name: "settle/struck", run: |trial| shaped(trial, &tables::STRIKES) },
+    Test { name: "settle/gaps", run: |trial| shaped(trial, &tables::GAPS) },
+    Test { name: "settle/repeats", run: |trial| shaped(trial, &tables::REPEATS) },
+    Test { name: "settle/tiny", run: |trial| shaped(trial, &tables::TINY) },
+    Test { name: "settle/over", run: |trial| made(trial, trial.count, tables::over) },
+    Test { name: "settle/ceiling", run: |trial| made(trial, trial.count, tables::ceiling) },
+    Test { name: "settle/towers", run: |trial| made(trial, trial.count, tables::tower) },
+    Test { name: "settle/chains", run: |trial| made(trial, trial.count / 20, short_or_long_chain) },
+    Test { name: "settle/large", run: |trial| made(trial, trial.count / 50, large) },
+    Test { name: "settle/limits", run: at_the_limits },
+    Test { name: "settle/gaps-unread", run: gaps_unread },
+];
+
+/// Holds if the library agrees with `wanted`: the table is accepted and settled to it over any
+/// former content, and it is found right.
+pub fn settles_to(measure: u64, table: &Table, wanted: &Labelling, rng: &mut Rng) -> Verdict {
+    let mut verdict = || {
+        expect("check_table", check_table(table)?, 0)?;
+        let room = rng.labelling([table.n as usize; 3]);
+        let (result, answers) = settle(measure, table, &room)?;
+        expect("settle", result, 0)?;
+        same("settle", &answers, wanted)?;
+        expect("check_answers", check_answers(measure, table, wanted)?, 1)
+    };
+    verdict().map_err(|wrong| format!("{wrong}; measure {measure}, {}", table.describe()))
+}
+
+/// Compares label by label and tells the first vertex that differs.
+pub fn same(what: &str, got: &Labelling, wanted: &Labelling) -> Verdict {
+    if got == wanted {
+        return Ok(());
+    }
+    let vertices = 0..wanted.weights.len() as u64;
+    let differing = vertices.clone().find(|&vertex| got.label(vertex) != wanted.label(vertex));
+    let vertex = differing.unwrap_or(vertices.end);
+    let (got, wanted) = (got.label(vertex), wanted.label(vertex));
+    Err(format!("{what}: vertex {vertex} is {got:?}, wanted {wanted:?}"))
+}
+
+pub fn agree(measure: u64, table: &Table, rng: &mut Rng) -> Verdict {
+    settles_to(measure, table, &solve(measure, table), rng)
+}
+
+fn stated(trial: &Trial) -> Outcome {
+    let mut cases = 0;
+    for example in examples() {
+        let wanted = Labelling::of(&example.labels);
+        let solved = solve(example.measure, &example.table);
+        same("the solver", &solved, &wanted)
+            .and_then(|()| settles_to(example.measure, &example.table, &wanted, &mut trial.rng()))
+            .map_err(|wrong| format!("{}: {wrong}", example.name))?;
+        cases += 1;
+    }
+    Ok(cases)
+}
+
+fn shaped(trial: &Trial, shape: &Shape) -> Outcome {
+    made(trial, trial.count, |rng| tables::random(rng, shape))
+}
+
+/// Each table in both measures.
+fn made(trial: &Trial, cases: u64, make: impl Fn(&mut Rng) -> Table) -> Outcome {
+    trial.cases(cases, |rng| {
+        let table = make(rng);
+        agree(COST, &table, rng)?;
+        agree(DAYS, &table, rng)
+    })
+}
+
+pub fn short_or_long_chain(rng: &mut Rng) -> Table {
+    let longest = rng.pick(&[3, 40, 300, MOST_VERTICES]);
+    let length = rng.between(longest / 2 + 1, longest);
+    let extra = rng.pick(&[0, 5, length]);
+    let own = rng.pick::<fn(&mut Rng) -> u64>(&[
+        tables::low_own,
+        tables::small_own,
+        tables::high_own,
+        tables::any_own,
+    ]);
+    tables::chain(rng, length, extra, own)
+}
+
+pub fn large(rng: &mut Rng) -> Table {
+    let shape = rng.pick(&tables::SHAPES);
+    let shape = Shape { vertices: (100, MOST_VERTICES), edges: (200, 3_000), longest: 6, ..shape };
+    let mut table = tables::random(rng, &Shape { gaps: 5, ..shape });
+    // Far fewer places than the limit are in use; behind them is gap.
+    let spare = MOST_TAILS - table.tails.len();
+    let behind = rng.index(spare + 1);
+    table.tails.extend(rng.noise(behind));
+    table
+}
+
+fn at_the_limits(trial: &Trial) -> Outcome {
+    let mut rng = trial.rng();
+    let mut cases = 0;
+    for (name, table) in limits(&mut rng) {
+        for measure in MEASURES {
+            agree(measure, &table, &mut rng).map_err(|wrong| format!("{name}: {wrong}"))?;
+            cases += 1;
+        }
+    }
+    Ok(cases)
+}
+
+/// The same hyperedges with other gaps, or none, settle to the same answers.
+fn gaps_unread(trial: &Trial) -> Outcome {
+    trial.cases(trial.count, |rng| {
+        let table = tables::random(rng, &tables::GAPS);
+        let mut closed = Table::new(table.n);
+        let mut refilled = Table::new(table.n);
+        for edge in 0..table.edges() {
+            let (head, own, tail) = (table.heads[edge], table.own[edge], table.tail(edge));
+            closed.push(head, own, tail);
+            refilled.push_after(&tables::gap(rng, 90), head, own, tail);
+        }
+        let measure = rng.pick(&MEASURES);
+        let wanted = solve(measure, &closed);
+        settles_to(measure, &closed, &wanted, rng)?;
+        settles_to(measure, &table, &wanted, rng)?;
+        settles_to(measure, &refilled, &wanted, rng)
+    })
+}
