@@ -1,23 +1,31 @@
 // A program's standard input, read whole.
 use libc::STDIN_FILENO;
+ghost use mathlib.Core.Path.{_≡_};
+ghost use lib.ListN.{length};
 ghost use Rattle.io.specs.Counts.{Counts};
+ghost use Rattle.input.specs.Input.{bufferLength, Ended};
 
-// Reads until the buffer is full or the input ends, also after a short read, and returns how many
-// bytes came. After a read that failed none counts: the start of a table is not the table.
-pub fn read_input(buf: &mut [u8]) -> usize
-    ensures { λ r. ⌜ Counts r (now (buf .exit)) ⌝ }
+// A reading at its end: how many bytes came, and the last answer of `read`.
+pub struct Read {
+    pub count: usize,
+    pub last: isize,
+}
+
+// Reads until the buffer is full, the input ends or a read fails, also after a short read.
+pub fn read_input(buf: &mut [u8]) -> Read
+    requires { ⌜ length (now buf) ≡ bufferLength ⌝ }
+    ensures { λ r. ⌜ Counts (r .count) (now (buf .exit)) ⌝ }
+    ensures { λ r. ⌜ Ended (r .count) (r .last) ⌝ }
 {
     let mut at: usize = 0;
+    let mut last: isize = 0;
     while at < buf.len() {
-        let got = libc::read(STDIN_FILENO, &mut buf[at..]);
-        if got < 0 {
-            return 0;
-        }
-        let more = io::count(got, &buf[at..]);
+        last = libc::read(STDIN_FILENO, &mut buf[at..]);
+        let more = io::count(last, &buf[at..]);
         if more == 0 {
-            return at;
+            return Read { count: at, last };
         }
         at += more;
     }
-    at
+    Read { count: at, last }
 }

@@ -77,9 +77,13 @@ fn walk(text: &[u8]) -> Walked
 }
 
 fn main() {
-    // One byte more than an input may have: a full buffer is an input too long.
     let mut input = io::large_buffer();
-    let length = read_input(&mut input);
+    let read = read_input(&mut input);
+    let mut length = read.count;
+    // After a read that failed no byte counts: the start of a text is not the text.
+    if read.last < 0 {
+        length = 0;
+    }
     if length == input.len() {
         io::write_all(STDOUT_FILENO, b"refused 17 0\n");
         return;

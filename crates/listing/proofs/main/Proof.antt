@@ -16,7 +16,7 @@ unfolding filled
 within n bytes old room c e = let l = length-append bytes (drop (length bytes) old) in let q = ap length e in omega arith
 
 array-share-prefix-room : tie.Need-array-share-prefix-room
-array-share-prefix-room c = within _ _ _ _ (c .report .ensures .0) (c .report .ensures .1)
+array-share-prefix-room c = within _ _ _ _ (c .conclude .ensures .0) (c .conclude .ensures .1)
 
 slice-aggregate-write-all : tie.Need-slice-aggregate-write-all
 slice-aggregate-write-all c = sym (length-take-le _ _ (array-share-prefix-room (c .before)))
@@ -34,4 +34,9 @@ main-spec =
     array-share-prefix-room
     slice-aggregate-write-all
     (λ c κs. search needs)
+    (λ c. search needs)
+    (λ c κs. search needs)
+    (λ c. search needs)
+    (λ c κs. search needs)
+    (λ c. search needs)
     (λ c. search needs))

@@ -1,0 +1,123 @@
+# What the listing program prints.
+
+# The paper's table, in cost and in days -----------------------------------------------------------------------------------------------
+
+worked='parts 5
+0 1200
+1 300
+2 500 0 1
+2 2100
+3 0 2 1 1
+4 10 4'
+list='part state figure depth line
+0 made 1200 1 0
+1 made 300 1 1
+2 made 2000 2 2
+3 made 2600 3 4
+4 unmade 0 0 0'
+echo "$worked" >"$work/worked"
+prints 'the worked table' "$work/worked" <<<"$list"
+
+sed '1s/.*/parts 5 days/' "$work/worked" >"$work/days"
+prints 'the worked table in days' "$work/days" <<'END'
+part state figure depth line
+0 made 1200 1 0
+1 made 300 1 1
+2 made 1200 2 2
+3 made 1200 3 4
+4 unmade 0 0 0
+END
+
+sed '2s/.*/0 -/' "$work/worked" >"$work/struck"
+prints 'a struck line' "$work/struck" <<'END'
+part state figure depth line
+0 unmade 0 0 0
+1 made 300 1 1
+2 made 2100 1 3
+3 made 2700 2 4
+4 unmade 0 0 0
+END
+
+echo 'parts 0' >"$work/none"
+prints 'a table of no parts' "$work/none" <<<'part state figure depth line'
+
+# ten times ten times ten times the greatest own figure is the ceiling, and 1 more is over
+ten() { printf " $1%.0s" 1 2 3 4 5 6 7 8 9 10; }
+for own in 0 1; do
+    printf 'parts 4\n0 1000000000\n1 0%s\n2 0%s\n3 %s%s\n' "$(ten 0)" "$(ten 1)" "$own" "$(ten 2)" >"$work/over$own"
+done
+above='part state figure depth line
+0 made 1000000000 1 0
+1 made 10000000000 2 1
+2 made 100000000000 3 2'
+prints 'a part at the ceiling' "$work/over0" <<<"$above
+3 made 1000000000000 4 3"
+prints 'a part that is over' "$work/over1" <<<"$above
+3 over 1000000000001 4 3"
+
+# 14 ---------------------------------------------------------------------------------------------------------------------------------------
+
+refuses 'an empty input' 14 1 ''
+refuses 'a word for cost' 14 1 'parts 5 cost\n'
+refuses 'a head that is no part, in text line 2' 14 2 'parts 1\n1 0\n'
+refuses 'a leading zero in text line 3' 14 3 'parts 2\n0 5\n1 05\n1 9\n'
+refuses 'a last line without its LF' 14 3 'parts 5\n0 1200\n1 300'
+refuses 'an LF too many' 14 3 'parts 1\n0 5\n\n'
+
+# the mistakes of docs/FORMAT.md, with the refusal that each is said to get
+tried=0
+while IFS='|' read -r _ mistake text refusal _; do
+    [[ $refusal == *refused* ]] || continue
+    text=${text#*\`} refusal=${refusal#*\`}
+    printf '%b' "${text%\`*}" >"$work/text"
+    prints "$(echo $mistake)" "$work/text" <<<"${refusal%\`*}"
+    tried=$((tried + 1))
+done <docs/FORMAT.md
+holds 'docs/FORMAT.md has mistakes' "it has $tried" [ "$tried" -gt 20 ]
+sed -n 's/^    //p' docs/FORMAT.md | sed '/^ *$/,$d' | sed '/^text /,$d' >"$work/typed"
+prints 'the table of docs/FORMAT.md' "$work/typed" <<'END'
+part state figure depth line
+0 made 1200 1 0
+1 made 300 1 1
+2 made 2000 2 2
+3 made 2600 3 4
+4 unmade 0 0 0
+END
+
+# Long inputs ------------------------------------------------------------------------------------------------------------------------------
+
+# 4,096 lines in 65,535 bytes: the part of all but the last line costs the most, by the first of them
+{ echo 'parts 1024'; yes '1023 1000000000' | head -n 4095; echo '0 7'; } >"$work/full"
+holds 'the full table has 65,535 bytes' "it has $(wc -c <"$work/full")" [ "$(wc -c <"$work/full")" -eq 65535 ]
+awk 'BEGIN {
+    print "part state figure depth line"
+    print "0 made 7 1 4095"
+    for (v = 1; v < 1023; v++) print v " unmade 0 0 0"
+    print "1023 made 1000000000 1 0"
+}' >"$work/full.list"
+prints 'an input of 65,535 bytes' "$work/full" <"$work/full.list"
+
+{ cat "$work/full"; echo; } >"$work/long"
+prints 'an input of 65,536 bytes' "$work/long" <<<'refused 17 0'
+head -c 65536 /dev/zero >"$work/zeros"
+prints '17 comes before 14' "$work/zeros" <<<'refused 17 0'
+
+timeout 10 bash -c 'yes "1023 1000000000" | head -c 1048576 | "$1"' - "$listing" >"$work/printed" 2>"$work/errors"
+status=$?
+holds 'a megabyte through a pipe' "status $status, printed $(head -c 100 "$work/printed")" [ "$status:$(cat "$work/printed")" = '0:refused 17 0' ]
+
+# The largest tables -----------------------------------------------------------------------------------------------------------------------
+
+# A chain of 1,024 parts, each made of the one before, its lines in falling order; and 3,072 lines of five parts for part 0, none of which is cheaper than
+# its first. In the end part v costs v + 1, at depth v + 1, by line 1023 - v.
+awk 'BEGIN {
+    print "parts 1024"
+    for (v = 1023; v > 0; v--) print v, 1, v - 1
+    print "0 1"
+    for (e = 0; e < 3072; e++) print "0 9 1 2 3 4 5"
+}' >"$work/chain"
+awk 'BEGIN {
+    print "part state figure depth line"
+    for (v = 0; v < 1024; v++) print v, "made", v + 1, v + 1, 1023 - v
+}' >"$work/chain.list"
+prints 'a chain of 1,024 parts in 4,096 lines' "$work/chain" <"$work/chain.list"
