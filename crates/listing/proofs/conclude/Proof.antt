@@ -1,6 +1,6 @@
 -- `listing::conclude` meets its contract: after an answer below 0 the report is that of no byte. Assumes nothing.
 use Prim.Native.Nat.{ℕ}
-use mathlib.Core.Bool.{Bool, true, false}
+use mathlib.Core.Bool.{true, false}
 use mathlib.Core.Path.{_≡_, refl, _∙_, ap, subst}
 use mathlib.Core.List.{List, []}
 use native.Mathlib.Omega.{arith}
