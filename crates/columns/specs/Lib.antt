@@ -4,3 +4,5 @@ pub mod Accepted
 pub mod Same
 pub mod Repriced
 pub mod Filled
+pub mod Right
+pub mod Gaps
