@@ -15,10 +15,11 @@ use Rattle.weights.specs.Figures.{struck}
 use Rattle.refusal.specs.declared.Refusal.{Refusal}
 use Rattle.refusal.specs.declared.Answer.{Answer}
 use Rattle.refusal.specs.declared.Answer.the-variants.{Accepted, Refused}
+use Rattle.provenance.specs.BestFirst.{Answers}
 use Rattle.columns.specs.Columns.{Columns, headAt, ownAt, offsetAt, lengthAt, part, tailAt}
-use Rattle.columns.specs.Acceptance.{mostVertices, mostEdges, mostListed, longestTail, test, allBelow, edgeAcceptance, edgeAt, edgesAcceptance, acceptance}
-use Rattle.columns.specs.Accepted.{both-accepted, below-at, below-all, edge-accepted, edge-accepts, table-accepted}
-use Rattle.columns.specs.Right.{Few, Level, endBefore, RightHead, RightOwn, RightSpan, RightTail, RightEdge, RightTable, WrongEdge, FirstWrong, WrongTable}
+use Rattle.columns.specs.Acceptance.{mostVertices, mostEdges, mostListed, longestTail, test, allBelow, edgeAcceptance, edgeAt, edgesAcceptance, acceptance, lentAcceptance}
+use Rattle.columns.specs.Accepted.{both-accepted, below-at, below-all, edge-accepted, edge-accepts, table-accepted, columns-accepted, columns-accept}
+use Rattle.columns.specs.Right.{Few, Level, endBefore, RightHead, RightOwn, RightSpan, RightTail, RightEdge, RightTable, WrongEdge, FirstWrong, WrongTable, RightLent, WrongLent}
 use Rattle.columns.proofs.Refuses.{Refuses, none-refuses, test-refuses, then-refuses}
 
 -- place k of a part of a column, and the part's length
@@ -197,3 +198,37 @@ module _ (c : Columns) where
   -- the first refusal that applies, and its line
   pub refused-exactly : (r : Refusal) → (acceptance c ≡ Refused r) ↔ WrongTable c r
   refused-exactly r = (refused-wrong .holds, wrong-refused)
+
+module _ (c : Columns) (a : Answers) where
+  refused-lent : Refuses (WrongLent c a) (lentAcceptance c a)
+  unfolding lentAcceptance
+  refused-lent =
+      let n = c .vertices in
+      let w = length (a .weights) in
+      let d = length (a .depths) in
+      let e = length (a .edges) in
+      then-refuses (acceptance c) _ (record { holds = λ q. WrongLent.table (refused-exactly c _ .0 q) }) (λ p.
+      let t = accepted-exactly c .0 p in
+      test-refuses (eqb w n) _ _ (λ b. WrongLent.answers t (λ s. eqb-false w n b (s .weights))) (λ _.
+      test-refuses (eqb d n) _ _ (λ b. WrongLent.answers t (λ s. eqb-false d n b (s .depths))) (λ _.
+      test-refuses (eqb e n) _ _ (λ b. WrongLent.answers t (λ s. eqb-false e n b (s .edges))) (λ _. none-refuses))))
+
+  lent-refused : {r : Refusal} → WrongLent c a r → lentAcceptance c a ≡ Refused r
+  unfolding lentAcceptance
+  lent-refused (WrongLent.table w) = let q = refused-exactly c _ .1 w in rw q
+  lent-refused (WrongLent.answers t n) =
+      rw (accepted-exactly c .1 t)
+      (one-fails (eqb (length (a .weights)) (c .vertices)) _ _ (λ w.
+      one-fails (eqb (length (a .depths)) (c .vertices)) _ _ (λ d.
+      one-fails (eqb (length (a .edges)) (c .vertices)) _ _ (λ e.
+      absurd (n (record { weights = eqb-true _ _ w; depths = eqb-true _ _ d; edges = eqb-true _ _ e }))))))
+
+  -- the same with the answer columns
+  pub lent-exactly : (lentAcceptance c a ≡ Accepted) ↔ RightLent c a
+  lent-exactly = (
+    λ p. let g = columns-accepted c a p in record { table = accepted-exactly c .0 (g .table); sized = g .sized },
+    λ g. columns-accept c a (accepted-exactly c .1 (g .table)) (g .sized),
+  )
+
+  pub lent-refused-exactly : (r : Refusal) → (lentAcceptance c a ≡ Refused r) ↔ WrongLent c a r
+  lent-refused-exactly r = (refused-lent .holds, lent-refused)

@@ -6,3 +6,4 @@ pub mod Repriced
 pub mod Filled
 pub mod Right
 pub mod Gaps
+pub mod Owed

@@ -1,11 +1,13 @@
--- What a table must be to be accepted, in plain numbers, and what is wrong with one that is refused. The paper's "The table" and, of "What is turned away", 1 to 6
+-- What a table must be to be accepted, in plain numbers, and what is wrong with one that is refused. The paper's "The table" and, of "What is turned away", 1 to 7
 -- in their order. Assumes nothing: these are definitions.
 use mathlib.Core.Path.{_≡_}
 use Prim.Native.Nat.{ℕ, zero, suc, _+_, _*_, _≤_, _<_}
 use lib.ListN.{length, getD}
 use Rattle.weights.specs.Figures.{struck}
 use Rattle.refusal.specs.declared.Refusal.{Refusal}
-use Rattle.refusal.specs.declared.Refusal.the-variants.{TooManyVertices, Lengths, Head, Own, Span, Tail}
+use Rattle.refusal.specs.declared.Refusal.the-variants.{TooManyVertices, Lengths, Head, Own, Span, Tail, AnswerLength}
+use Rattle.provenance.specs.BestFirst.{Answers}
+use Rattle.provenance.specs.Existence.{Sized}
 use Rattle.columns.specs.Columns.{Columns, headAt, ownAt, offsetAt, lengthAt}
 use Rattle.columns.specs.Acceptance.{mostVertices, mostEdges, mostListed, longestTail}
 
@@ -72,3 +74,12 @@ pub data WrongTable (c : Columns) : Refusal → Type 0 where
   many : ¬ Few c → WrongTable c TooManyVertices
   unlevel : Few c → ¬ Level c → WrongTable c Lengths
   edge : {r : Refusal} → Few c → Level c → (e : ℕ) → FirstWrong c e r → WrongTable c r
+
+-- with "three lent answer columns of exactly n places"; 7 comes behind 1 to 6
+pub record RightLent (c : Columns) (a : Answers) : Type 0 where
+  pub table : RightTable c
+  pub sized : Sized (c .vertices) a
+
+pub data WrongLent (c : Columns) (a : Answers) : Refusal → Type 0 where
+  table : {r : Refusal} → WrongTable c r → WrongLent c a r
+  answers : RightTable c → ¬ Sized (c .vertices) a → WrongLent c a AnswerLength

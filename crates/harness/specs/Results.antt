@@ -14,7 +14,7 @@ use Rattle.refusal.specs.declared.Reading.{Reading}
 use Rattle.refusal.specs.declared.Reading.the-variants as reading
 use Rattle.refusal.specs.declared.MeasureChoice.{MeasureChoice}
 use Rattle.refusal.specs.declared.MeasureChoice.the-variants.{Measure, Refused}
-use Rattle.refusal.specs.Refusals.{codeOf, resultOf, verdictResult, extentResult}
+use Rattle.refusal.specs.Refusals.{codeOf, resultOf, verdictResult, extentResult, readingResult}
 use Rattle.provenance.specs.BestFirst.{Answers}
 use Rattle.columns.specs.Columns.{Columns}
 use Rattle.settle.specs.Checking.{checked}
@@ -58,16 +58,12 @@ pub record ReadLeft : Type 0 where
   pub tails : List ℕ
   pub header : List ℕ
 
-abbrev pub readingNumber : Reading → ℕ
-readingNumber (reading.Table h) = 0
-readingNumber (reading.Refused r) = resultOf (codeOf r)
-
 abbrev pub readingHeader : Reading → List ℕ → List ℕ
 readingHeader (reading.Table h) room = headerWritten h room
 readingHeader (reading.Refused r) room = room
 
 abbrev pub readResult : ReadOutcome → List ℕ → ReadLeft
-readResult x room = record { result = readingNumber (x .answer); heads = x .heads; own = x .own; spans = x .spans; tails = x .tails; header = readingHeader (x .answer) room }
+readResult x room = record { result = readingResult (x .answer); heads = x .heads; own = x .own; spans = x .spans; tails = x .tails; header = readingHeader (x .answer) room }
 
 abbrev pub writeResult : WriteOutcome → LeftRoom
 writeResult x = record { result = extentResult (x .answer); left = x .room }

@@ -17,6 +17,8 @@ use Rattle.refusal.specs.declared.Verdict.{Verdict}
 use Rattle.refusal.specs.declared.Verdict.the-variants as verdict
 use Rattle.refusal.specs.declared.Extent.{Extent}
 use Rattle.refusal.specs.declared.Extent.the-variants as extent
+use Rattle.refusal.specs.declared.Reading.{Reading}
+use Rattle.refusal.specs.declared.Reading.the-variants as reading
 
 -- a number and a place
 abbrev pub code : (number place : ℕ) → Code
@@ -92,6 +94,11 @@ verdictResult (verdict.Refused r) = resultOf (codeOf r)
 abbrev pub extentResult : Extent → ℕ
 extentResult (extent.Length n) = n
 extentResult (extent.Refused r) = resultOf (codeOf r)
+
+-- what a text said of its table stands beside the number
+abbrev pub readingResult : Reading → ℕ
+readingResult (reading.Table h) = 0
+readingResult (reading.Refused r) = resultOf (codeOf r)
 
 -- the measure's number from C: 0 is cost, 1 is days, and any other is refused by 16
 abbrev pub measureOf : ℕ → MeasureChoice
