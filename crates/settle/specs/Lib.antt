@@ -1,3 +1,5 @@
 pub mod Settling
 pub mod Checking
 pub mod Demands
+pub mod Defined
+pub mod States

@@ -1,0 +1,83 @@
+-- The answer check says yes exactly to the answers that the paper defines: "yes exactly if they are the ones defined above, whoever wrote them". Assumes nothing.
+use mathlib.Core.Path.{_≡_, refl, sym, _∙_, ap, subst}
+use mathlib.Core.Bool.{Bool, true, false}
+use mathlib.Core.Logic.{_↔_}
+use Prim.Native.Nat.{ℕ, _<_}
+use native.Mathlib.Omega.{arith}
+use lib.Seq.{ext-getD}
+use Rattle.weights.specs.declared.Measure.{Measure}
+use Rattle.weights.specs.declared.Label.{Label}
+use Rattle.weights.specs.Choice.{apart}
+use Rattle.weights.specs.Measures.{algebra}
+use Rattle.weights.specs.Laws.{lawful}
+use Rattle.refusal.specs.declared.Refusal.{Refusal}
+use Rattle.refusal.specs.declared.Answer.{Answer}
+use Rattle.refusal.specs.declared.Answer.the-variants.{Accepted, Refused}
+use Rattle.refusal.specs.declared.Verdict.the-variants as verdict
+use Rattle.provenance.specs.Means.{Means}
+use Rattle.provenance.specs.Meaning.{means-unique}
+use Rattle.provenance.specs.BestFirst.{Answers, labels}
+use Rattle.columns.specs.Columns.{Columns, ownAt, hypergraph}
+use Rattle.columns.specs.Acceptance.{lentAcceptance}
+use Rattle.columns.specs.Accepted.{columns-accepted}
+use Rattle.columns.specs.Same.{same, same-refl, same-true}
+use Rattle.settle.specs.Settling.{answersOf}
+use Rattle.settle.specs.Checking.{verdict as told, checked}
+use Rattle.settle.specs.Demands.{answers-mean, answers-sized}
+use Rattle.settle.specs.Defined.{AllMean, Defined}
+
+yes-not-no : {A : Type 0} → verdict.No ≡ verdict.Yes → A
+yes-not-no e = let z : _≡_ {A = ℕ} 0 1 = cc in absurd (omega arith)
+
+no-refusal : {A : Type 0} {r : Refusal} → verdict.Refused r ≡ verdict.No → A
+no-refusal e = let z : _≡_ {A = ℕ} 0 1 = cc in absurd (omega arith)
+
+yes-refusal : {A : Type 0} {r : Refusal} → verdict.Refused r ≡ verdict.Yes → A
+yes-refusal e = let z : _≡_ {A = ℕ} 0 1 = cc in absurd (omega arith)
+
+module _ (m : Measure) (c : Columns) (a : Answers) where
+  defined-answers : Defined m c a → a ≡ answersOf m c
+  defined-answers d =
+      let g = columns-accepted c a (d .accepted) in
+      let s = g .sized in
+      let t = answers-sized m c (g .table) in
+      let b = answersOf m c in
+      let u : (v : ℕ) → v < c .vertices → labels a v ≡ labels b v = λ v h. means-unique (lawful m) (labels a v) (labels b v) (d .means v h) (answers-mean m c (g .table) v .means) in
+      let weights = ext-getD 0 (a .weights) (b .weights) (s .weights ∙ sym (t .weights)) (λ v h. ap (λ (l : Label). l .weight .0) (u v (omega (arith, s .weights)))) in
+      let depths = ext-getD 0 (a .depths) (b .depths) (s .depths ∙ sym (t .depths)) (λ v h. ap (λ (l : Label). l .depth) (u v (omega (arith, s .depths)))) in
+      let edges = ext-getD 0 (a .edges) (b .edges) (s .edges ∙ sym (t .edges)) (λ v h. ap (λ (l : Label). l .edge .0) (u v (omega (arith, s .edges)))) in
+      λ i. record { weights = weights i; depths = depths i; edges = edges i }
+
+  -- the test of 8, where the columns are accepted
+  pub same-exactly : lentAcceptance c a ≡ Accepted → (same a (answersOf m c) ≡ true) ↔ AllMean m c a
+  same-exactly p = (
+    λ q v h. let e = sym (same-true a (answersOf m c) q) in subst (λ (b : Answers). Means (algebra m) (hypergraph c) (ownAt c) (labels b v) v) e (answers-mean m c (columns-accepted c a p .table) v .means),
+    λ f. subst (λ (b : Answers). same a b ≡ true) (defined-answers (record { accepted = p; means = f })) (same-refl a),
+  )
+
+  pub same-fails : lentAcceptance c a ≡ Accepted → (same a (answersOf m c) ≡ false) ↔ (¬ AllMean m c a)
+  same-fails p = (λ q f. apart (sym q ∙ same-exactly p .1 f), λ n. go (same a (answersOf m c)) refl n)
+    where
+      go : (b : Bool) → same a (answersOf m c) ≡ b → ¬ AllMean m c a → b ≡ false
+      go true q n = absurd (n (same-exactly p .0 q))
+      go false q n = refl
+
+  yes-defined : (x : Answer) (b : Bool) → lentAcceptance c a ≡ x → same a (answersOf m c) ≡ b → told x b ≡ verdict.Yes → Defined m c a
+  yes-defined (Refused r) b p q e = yes-refusal e
+  yes-defined Accepted false p q e = yes-not-no e
+  yes-defined Accepted true p q e = record { accepted = p; means = same-exactly p .0 q }
+
+  no-defined : (x : Answer) (b : Bool) → lentAcceptance c a ≡ x → same a (answersOf m c) ≡ b → told x b ≡ verdict.No → (lentAcceptance c a ≡ Accepted) × ¬ AllMean m c a
+  no-defined (Refused r) b p q e = no-refusal e
+  no-defined Accepted true p q e = yes-not-no (sym e)
+  no-defined Accepted false p q e = (p, same-fails p .0 q)
+
+  -- "yes exactly if they are the ones defined above, whoever wrote them"
+  pub yes-exactly : (checked m c a ≡ verdict.Yes) ↔ Defined m c a
+  unfolding checked
+  yes-exactly = (yes-defined (lentAcceptance c a) (same a (answersOf m c)) refl refl, λ d. rw (d .accepted, same-exactly (d .accepted) .1 (d .means)))
+
+  -- "Checking answers returns no, and not 8, for wrong ones"
+  pub no-exactly : (checked m c a ≡ verdict.No) ↔ ((lentAcceptance c a ≡ Accepted) × ¬ AllMean m c a)
+  unfolding checked
+  no-exactly = (no-defined (lentAcceptance c a) (same a (answersOf m c)) refl refl, λ d. rw (d .0, same-fails (d .0) .1 (d .1)))

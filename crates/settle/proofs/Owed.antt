@@ -1,0 +1,51 @@
+-- Demand 1 of settling, of the answer check and of an entry. Assumes nothing.
+use mathlib.Core.Path.{_≡_, refl, ap}
+use Prim.Native.Nat.{ℕ, _≤_}
+use native.Mathlib.Omega.{arith}
+use lib.ListN.{List·getD-eq-default}
+use Rattle.weights.specs.declared.Measure.{Measure}
+use Rattle.weights.specs.Labels.{label, unmade, entryOf}
+use Rattle.refusal.specs.declared.Answer.{Answer}
+use Rattle.refusal.specs.declared.Answer.the-variants.{Accepted, Refused}
+use Rattle.refusal.specs.declared.Verdict.the-variants as verdict
+use Rattle.provenance.specs.BestFirst.{Answers, labels}
+use Rattle.provenance.specs.Existence.{Sized}
+use Rattle.columns.specs.Columns.{Columns}
+use Rattle.columns.specs.Acceptance.{lentAcceptance}
+use Rattle.columns.specs.Owed.{Owed}
+use Rattle.columns.specs.Right.{RightLent, WrongLent}
+use Rattle.columns.specs.Same.{same}
+use Rattle.columns.proofs.Exactly.{lent-exactly, lent-refused-exactly}
+use Rattle.settle.specs.Settling.{answersOf, outcome, settled}
+use Rattle.settle.specs.Checking.{verdict as told, checked}
+
+module _ (m : Measure) (c : Columns) (a : Answers) where
+  -- settle: "Settle a table into the answer columns"
+  pub settle-owes : Owed Refused a (RightLent c a) (λ _. Accepted) (λ _. answersOf m c) (WrongLent c a) (settled m c a .result) (settled m c a .left)
+  unfolding settled
+  settle-owes = go (lentAcceptance c a) refl
+    where
+      go : (x : Answer) → lentAcceptance c a ≡ x → Owed Refused a (RightLent c a) (λ _. Accepted) (λ _. answersOf m c) (WrongLent c a) (outcome x (answersOf m c) a .result) (outcome x (answersOf m c) a .left)
+      go Accepted p = Owed.accepted (lent-exactly c a .0 p)
+      go (Refused r) p = Owed.refused (lent-refused-exactly c a r .0 p)
+
+  -- check answers, which writes nothing: `yes-exactly` and `no-exactly` say which of the two
+  pub check-answers-owes : Owed verdict.Refused (tt {0}) (RightLent c a) (λ _. told Accepted (same a (answersOf m c))) (λ _. tt {0}) (WrongLent c a) (checked m c a) (tt {0})
+  unfolding checked
+  check-answers-owes = go (lentAcceptance c a) refl
+    where
+      go : (x : Answer) → lentAcceptance c a ≡ x → Owed verdict.Refused (tt {0}) (RightLent c a) (λ _. told Accepted (same a (answersOf m c))) (λ _. tt {0}) (WrongLent c a) (told x (same a (answersOf m c))) (tt {0})
+      go Accepted p = Owed.accepted (lent-exactly c a .0 p)
+      go (Refused r) p = Owed.refused (lent-refused-exactly c a r .0 p)
+
+-- an entry is the label's at v with its state, and no lent columns are refused
+pub entry-owes : (a : Answers) (v : ℕ) → Owed (λ _. entryOf unmade) (tt {0}) (Unit {0}) (λ _. entryOf (labels a v)) (λ _. tt {0}) (λ _. ⊥) (entryOf (labels a v)) (tt {0})
+entry-owes a v = Owed.accepted tt
+
+-- beyond the columns it is that of an unmade part
+pub entry-beyond : (a : Answers) (n v : ℕ) → Sized n a → n ≤ v → entryOf (labels a v) ≡ entryOf unmade
+entry-beyond a n v s h =
+    let w = List·getD-eq-default (a .weights) 0 {n = v} (omega (arith, s .weights)) in
+    let d = List·getD-eq-default (a .depths) 0 {n = v} (omega (arith, s .depths)) in
+    let e = List·getD-eq-default (a .edges) 0 {n = v} (omega (arith, s .edges)) in
+    ap entryOf (λ i. label (w i) (d i) (e i))
