@@ -1,2 +1,3 @@
 pub mod Repricing
 pub mod Demand3
+pub mod Changes

@@ -51,7 +51,9 @@ module _ (m : Measure) (c : Columns) (a : Answers) where
   -- the test of 8, where the columns are accepted
   pub same-exactly : lentAcceptance c a ≡ Accepted → (same a (answersOf m c) ≡ true) ↔ AllMean m c a
   same-exactly p = (
-    λ q v h. let e = sym (same-true a (answersOf m c) q) in subst (λ (b : Answers). Means (algebra m) (hypergraph c) (ownAt c) (labels b v) v) e (answers-mean m c (columns-accepted c a p .table) v .means),
+    λ q v h.
+        let e = sym (same-true a (answersOf m c) q) in
+        subst (λ (b : Answers). Means (algebra m) (hypergraph c) (ownAt c) (labels b v) v) e (answers-mean m c (columns-accepted c a p .table) v .means),
     λ f. subst (λ (b : Answers). same a b ≡ true) (defined-answers (record { accepted = p; means = f })) (same-refl a),
   )
 

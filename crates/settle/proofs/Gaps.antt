@@ -28,7 +28,8 @@ module _ (m : Measure) (c : Columns) (tails : List ℕ) (g : Gapped c tails) whe
   gaps-answers p = ap (λ (H : Hypergraph). best-first (algebra m) H (ownAt c)) (gaps-hypergraph c tails g p)
 
   -- an outcome that looks at the answers of an accepted table alone
-  alike : {B : Type 0} (f : Answer → Answers → B) (a : Answers) → ((r : Refusal) (x y : Answers) → f (Refused r) x ≡ f (Refused r) y) → f (lentAcceptance c a) (answersOf m c) ≡ f (lentAcceptance c′ a) (answersOf m c′)
+  alike : {B : Type 0} (f : Answer → Answers → B) (a : Answers) → ((r : Refusal) (x y : Answers) → f (Refused r) x ≡ f (Refused r) y)
+      → f (lentAcceptance c a) (answersOf m c) ≡ f (lentAcceptance c′ a) (answersOf m c′)
   alike f a k = go (lentAcceptance c a) refl
     where
       go : (x : Answer) → lentAcceptance c a ≡ x → f (lentAcceptance c a) (answersOf m c) ≡ f (lentAcceptance c′ a) (answersOf m c′)

@@ -25,7 +25,8 @@ module _ (m : Measure) (c : Columns) (a : Answers) where
   unfolding settled
   settle-owes = go (lentAcceptance c a) refl
     where
-      go : (x : Answer) → lentAcceptance c a ≡ x → Owed Refused a (RightLent c a) (λ _. Accepted) (λ _. answersOf m c) (WrongLent c a) (outcome x (answersOf m c) a .result) (outcome x (answersOf m c) a .left)
+      go : (x : Answer) → lentAcceptance c a ≡ x
+          → Owed Refused a (RightLent c a) (λ _. Accepted) (λ _. answersOf m c) (WrongLent c a) (outcome x (answersOf m c) a .result) (outcome x (answersOf m c) a .left)
       go Accepted p = Owed.accepted (lent-exactly c a .0 p)
       go (Refused r) p = Owed.refused (lent-refused-exactly c a r .0 p)
 
@@ -34,7 +35,8 @@ module _ (m : Measure) (c : Columns) (a : Answers) where
   unfolding checked
   check-answers-owes = go (lentAcceptance c a) refl
     where
-      go : (x : Answer) → lentAcceptance c a ≡ x → Owed verdict.Refused (tt {0}) (RightLent c a) (λ _. told Accepted (same a (answersOf m c))) (λ _. tt {0}) (WrongLent c a) (told x (same a (answersOf m c))) (tt {0})
+      go : (x : Answer) → lentAcceptance c a ≡ x
+          → Owed verdict.Refused (tt {0}) (RightLent c a) (λ _. told Accepted (same a (answersOf m c))) (λ _. tt {0}) (WrongLent c a) (told x (same a (answersOf m c))) (tt {0})
       go Accepted p = Owed.accepted (lent-exactly c a .0 p)
       go (Refused r) p = Owed.refused (lent-refused-exactly c a r .0 p)
 

@@ -34,7 +34,7 @@ unfolding depth
 deep (node e s h ds) = omega arith
 
 -- an own figure that is allowed and not struck
-unstruck-own : (x : ℕ) → x ≤ struck → isStruck x ≡ false → x ≤ greatest
+pub unstruck-own : (x : ℕ) → x ≤ struck → isStruck x ≡ false → x ≤ greatest
 unstruck-own x h p = let n : ¬ (x ≡ struck) = eqb-false x struck p in omega arith
 
 module _ (c : Columns) (p : acceptance c ≡ Accepted) where

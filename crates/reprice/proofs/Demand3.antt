@@ -1,0 +1,169 @@
+-- Demand 3 holds: the two tables have one hypergraph, so what is proved of fixpoints whose own weights differ in one place holds of their answers.
+-- Assumes nothing.
+use mathlib.Core.Path.{_≡_, sym, _∙_, ap, subst, fun-ext}
+use mathlib.Core.Bool.{false, not}
+use mathlib.Core.Logic.{_≢_}
+use Prim.Native.Nat.{ℕ, _+_, _≤_, _<_}
+use native.Mathlib.Omega.{arith}
+use native.Mathlib.Decide.{ℕ-discrete, decLe}
+use lib.ListN.{length, set}
+use lib.Seq.{getD-set-same, getD-set-other, set-set, set-getD}
+use borrow.Author.Tests.{lt-ltb, le-leb}
+use Rattle.weights.specs.declared.Measure.{Measure}
+use Rattle.weights.specs.declared.Measure.the-variants.{Cost, Days}
+use Rattle.weights.specs.declared.State.the-variants as state
+use Rattle.weights.specs.declared.Label.{Label}
+use Rattle.weights.specs.Figures.{greatest, over, isStruck}
+use Rattle.weights.specs.Measures.{algebra, cost}
+use Rattle.weights.specs.Labels.{entryOf}
+use Rattle.weights.specs.Laws.{lawful, cost-lawful, below-over}
+use Rattle.refusal.specs.declared.Answer.the-variants.{Accepted}
+use Rattle.provenance.specs.Hypergraph.{Hypergraph, Derivation, listing}
+use Rattle.provenance.specs.Labelling.{Made, Fixpoint}
+use Rattle.provenance.specs.Means.{Follows}
+use Rattle.provenance.specs.BestFirst.{Answers}
+use Rattle.provenance.specs.Existence.{label-within}
+use Rattle.provenance.specs.Counting.{count, Raised}
+use Rattle.provenance.specs.Sensitivity.{same-made, Within, cost-rise, days-rise}
+use Rattle.columns.specs.Columns.{Columns, ownAt, withOwn, hypergraph}
+use Rattle.columns.specs.Acceptance.{acceptance}
+use Rattle.columns.specs.Accepted.{table-accepted, columns-accept}
+use Rattle.columns.specs.Same.{same-refl}
+use Rattle.settle.specs.Settling.{answersOf, settled}
+use Rattle.weights.proofs.States.{unmade-state, made-state}
+use Rattle.settle.specs.Demands.{answers-fixpoint, answers-sized, answers-mean, settled-left, settled-result}
+use Rattle.settle.proofs.States.{unstruck-own}
+use Rattle.reprice.specs.Demand3.{labelsOf, Pair, Rise, Carries, Demand3}
+use Rattle.reprice.specs.Repricing.{lineAcceptance, repriceAcceptance, repriced}
+
+-- repricing a settled table
+module _ (m : Measure) (c : Columns) (e w : ℕ) (p : acceptance c ≡ Accepted) (n : e < length (c .heads)) (u : isStruck (ownAt c e) ≡ false) (h : w ≤ greatest) where
+  accepted-reprice : repriceAcceptance m c (answersOf m c) e w ≡ Accepted
+  unfolding repriceAcceptance lineAcceptance
+  accepted-reprice = rw (columns-accept c (answersOf m c) p (answers-sized m c p), lt-ltb _ _ n, u, le-leb _ _ h, same-refl (answersOf m c))
+
+  reprice-settled : repriced m c (answersOf m c) e w ≡ record { result = Accepted; own = set (c .own) e w; left = answersOf m (withOwn c e w) }
+  unfolding repriced
+  reprice-settled = rw accepted-reprice
+
+-- what settling left
+left-is : (m : Measure) (c : Columns) (a : Answers) → settled m c a .result ≡ Accepted → settled m c a .left ≡ answersOf m c
+left-is m c a q = settled-left m c a (sym (settled-result m c a) ∙ q)
+
+-- a part that is unmade by one labelling is by another that makes no more
+zero-kept : (ls ls′ : ℕ → Label) (v : ℕ) → (Made (ls′ v) → Made (ls v)) → ls v .depth ≡ 0 → ls′ v .depth ≡ 0
+zero-kept ls ls′ v f z = go (decLe 1 (ls′ v .depth))
+  where
+    go : Dec (1 ≤ ls′ v .depth) → ls′ v .depth ≡ 0
+    go (yes k) = absurd (omega (arith, f (record { deep = k }) .deep))
+    go (no n) = omega arith
+
+-- what the state made tells
+record Told (l : Label) : Type 0 where
+  deep : 0 < l .depth
+  low : ¬ (l .weight .0 ≡ over)
+
+made-told : (l : Label) → entryOf l .state ≡ state.Made → Told l
+made-told l p = let t = made-state (l .weight .0) (l .depth) .0 p in record { deep = t .0; low = t .1 }
+
+within : {H : Hypergraph} {own : ℕ → ℕ} {ls : ℕ → Label} → Fixpoint cost H own ls → (v : ℕ) → Told (ls v) → Within (ls v)
+within {ls = ls} fix v t =
+    let k : Made (ls v) = record { deep = t .deep } in
+    let n : ¬ (ls v .weight .0 ≡ over) = t .low in
+    record { made = k; low = omega (arith, below-over (label-within cost-lawful fix v k)) }
+
+-- the rise of one part, over one hypergraph
+rise-of : (m : Measure) {H : Hypergraph} {own own′ : ℕ → ℕ} {ls ls′ : ℕ → Label} {e d : ℕ} → Fixpoint (algebra m) H own ls → Fixpoint (algebra m) H own′ ls′ → Raised own own′ e d → (v : ℕ) → Told (ls v) → Told (ls′ v) → (t : Derivation H v) → Follows ls t → (t′ : Derivation H v) → Follows ls′ t′ → Rise m d (ls v .weight .0) (ls′ v .weight .0) (count e (listing t)) (count e (listing t′))
+rise-of Cost fix fix′ r v k k′ t f t′ f′ = cost-rise fix fix′ (within fix v k) (within fix′ v k′) t t′ f f′ r
+rise-of Days fix fix′ r v k k′ t f t′ f′ = days-rise r fix fix′ v (record { deep = k .deep })
+
+module _ (m : Measure) (c : Columns) (e d : ℕ) (p : Pair c (withOwn c e (ownAt c e + d)) e d) where
+  abbrev new : Columns
+  new = withOwn c e (ownAt c e + d)
+
+  fits : e < length (c .own)
+  fits = omega (arith, table-accepted c (p .accepted) .own, p .numbered)
+
+  own-here : ownAt new e ≡ ownAt c e + d
+  own-here = getD-set-same (c .own) e (ownAt c e + d) 0 fits
+
+  own-elsewhere : (x : ℕ) → x ≢ e → ownAt new x ≡ ownAt c x
+  own-elsewhere x n = getD-set-other (c .own) e x (ownAt c e + d) 0 n
+
+  raise : Raised (ownAt c) (ownAt new) e d
+  raise = record { here = own-here; elsewhere = own-elsewhere }
+
+  -- the same lines are live, so the hypergraph is the same
+  live-same : (x : ℕ) → not (isStruck (ownAt new x)) ≡ not (isStruck (ownAt c x))
+  live-same x = go (ℕ-discrete x e)
+    where
+      go : Dec (x ≡ e) → not (isStruck (ownAt new x)) ≡ not (isStruck (ownAt c x))
+      go (yes q) =
+          ap (λ (y : ℕ). not (isStruck (ownAt new y))) q ∙ ap (λ (n : ℕ). not (isStruck n)) own-here ∙ ap not (p .unstruck′)
+          ∙ sym (ap not (p .unstruck)) ∙ sym (ap (λ (y : ℕ). not (isStruck (ownAt c y))) q)
+      go (no n) = ap (λ (k : ℕ). not (isStruck k)) (own-elsewhere x n)
+
+  same-graph : hypergraph new ≡ hypergraph c
+  same-graph = λ i. record { vertices = c .vertices; edges = length (c .heads); head = hypergraph c .head; tail = hypergraph c .tail; live = fun-ext live-same i }
+
+  -- the old table is the new one with the line put back
+  back : set (new .own) e (ownAt c e) ≡ c .own
+  back = set-set (c .own) e (ownAt c e + d) (ownAt c e) ∙ set-getD (c .own) e 0
+
+  old-again : withOwn new e (ownAt c e) ≡ c
+  old-again = λ i. record { vertices = c .vertices; heads = c .heads; own = back i; spans = c .spans; tails = c .tails }
+
+  fix : Fixpoint (algebra m) (hypergraph c) (ownAt c) (labelsOf m c)
+  fix = answers-fixpoint m c (p .accepted)
+
+  fix′ : Fixpoint (algebra m) (hypergraph c) (ownAt new) (labelsOf m new)
+  fix′ = subst (λ (H : Hypergraph). Fixpoint (algebra m) H (ownAt new) (labelsOf m new)) same-graph (answers-fixpoint m new (p .accepted′))
+
+  -- an own figure of an accepted table
+  own-low : (c : Columns) → acceptance c ≡ Accepted → (x : ℕ) → x < length (c .heads) → isStruck (ownAt c x) ≡ false → ownAt c x ≤ greatest
+  own-low c q x h s = unstruck-own (ownAt c x) (table-accepted c q .each x h .1 .own) s
+
+  unstruck-new : isStruck (ownAt new e) ≡ false
+  unstruck-new = ap isStruck own-here ∙ p .unstruck′
+
+  upward : (a a′ : Answers) → settled m c a .result ≡ Accepted → settled m new a′ .result ≡ Accepted → repriced m c (settled m c a .left) e (ownAt new e) ≡ record { result = Accepted; own = new .own; left = settled m new a′ .left }
+  upward a a′ q q′ =
+      ap (λ (b : Answers). repriced m c b e (ownAt new e)) (left-is m c a q)
+      ∙ ap (repriced m c (answersOf m c) e) own-here
+      ∙ reprice-settled m c e (ownAt c e + d) (p .accepted) (p .numbered) (p .unstruck) (subst (λ (x : ℕ). x ≤ greatest) own-here (own-low new (p .accepted′) e (p .numbered) unstruck-new))
+      ∙ ap (λ (b : Answers). record { result = Accepted; own = new .own; left = b }) (sym (left-is m new a′ q′))
+
+  downward : (a a′ : Answers) → settled m c a .result ≡ Accepted → settled m new a′ .result ≡ Accepted → repriced m new (settled m new a′ .left) e (ownAt c e) ≡ record { result = Accepted; own = c .own; left = settled m c a .left }
+  downward a a′ q q′ =
+      ap (λ (b : Answers). repriced m new b e (ownAt c e)) (left-is m new a′ q′)
+      ∙ reprice-settled m new e (ownAt c e) (p .accepted′) (p .numbered) unstruck-new (own-low c (p .accepted) e (p .numbered) (p .unstruck))
+      ∙ (λ i. record { result = Accepted; own = back i; left = (ap (answersOf m) old-again ∙ sym (left-is m c a q)) i })
+
+  unmade-in : (ls ls′ : ℕ → Label) (v : ℕ) → (Made (ls′ v) → Made (ls v)) → entryOf (ls v) .state ≡ state.Unmade → entryOf (ls′ v) .state ≡ state.Unmade
+  unmade-in ls ls′ v f s = unmade-state (ls′ v .weight .0) (ls′ v .depth) .1 (zero-kept ls ls′ v f (unmade-state (ls v .weight .0) (ls v .depth) .0 s))
+
+  carries : Carries m c new e
+  carries = record {
+    up = upward;
+    down = downward;
+    unmade = λ v. (
+      unmade-in (labelsOf m c) (labelsOf m new) v (same-made (lawful m) fix′ fix v),
+      unmade-in (labelsOf m new) (labelsOf m c) v (same-made (lawful m) fix fix′ v),
+    );
+  }
+
+  demand : Demand3 m c new e d
+  demand = record {
+    carries = carries;
+    means = answers-mean m c (p .accepted);
+    means′ = answers-mean m new (p .accepted′);
+    rises = λ v k k′ t f.
+        let R : Hypergraph → Type 0 =
+        λ H. (t′ : Derivation H v) → Follows (labelsOf m new) t′ → Rise m d (labelsOf m c v .weight .0) (labelsOf m new v .weight .0) (count e (listing t)) (count e (listing t′)) in
+        subst R (sym same-graph) (rise-of m fix fix′ raise v (made-told (labelsOf m c v) k) (made-told (labelsOf m new v) k′) t f);
+  }
+
+-- demand 3
+pub demand-3 : (m : Measure) (c c′ : Columns) (e d : ℕ) → Pair c c′ e d → Demand3 m c c′ e d
+demand-3 m c c′ e d p =
+    subst (λ (x : Columns). Demand3 m c x e d) (sym (p .raised)) (demand m c e d (subst (λ (x : Columns). Pair c x e d) (p .raised) p))
