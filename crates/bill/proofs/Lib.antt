@@ -2,3 +2,5 @@ pub mod Walks
 pub mod Rooms
 pub mod Admitted
 pub mod Printed
+pub mod Asked
+pub mod Rises

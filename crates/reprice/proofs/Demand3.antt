@@ -73,7 +73,9 @@ within {ls = ls} fix v t =
     record { made = k; low = omega (arith, below-over (label-within cost-lawful fix v k)) }
 
 -- the rise of one part, over one hypergraph
-rise-of : (m : Measure) {H : Hypergraph} {own own′ : ℕ → ℕ} {ls ls′ : ℕ → Label} {e d : ℕ} → Fixpoint (algebra m) H own ls → Fixpoint (algebra m) H own′ ls′ → Raised own own′ e d → (v : ℕ) → Told (ls v) → Told (ls′ v) → (t : Derivation H v) → Follows ls t → (t′ : Derivation H v) → Follows ls′ t′ → Rise m d (ls v .weight .0) (ls′ v .weight .0) (count e (listing t)) (count e (listing t′))
+rise-of : (m : Measure) {H : Hypergraph} {own own′ : ℕ → ℕ} {ls ls′ : ℕ → Label} {e d : ℕ} → Fixpoint (algebra m) H own ls → Fixpoint (algebra m) H own′ ls′ → Raised own own′ e d
+    → (v : ℕ) → Told (ls v) → Told (ls′ v) → (t : Derivation H v) → Follows ls t → (t′ : Derivation H v) → Follows ls′ t′
+    → Rise m d (ls v .weight .0) (ls′ v .weight .0) (count e (listing t)) (count e (listing t′))
 rise-of Cost fix fix′ r v k k′ t f t′ f′ = cost-rise fix fix′ (within fix v k) (within fix′ v k′) t t′ f f′ r
 rise-of Days fix fix′ r v k k′ t f t′ f′ = days-rise r fix fix′ v (record { deep = k .deep })
 
@@ -126,14 +128,16 @@ module _ (m : Measure) (c : Columns) (e d : ℕ) (p : Pair c (withOwn c e (ownAt
   unstruck-new : isStruck (ownAt new e) ≡ false
   unstruck-new = ap isStruck own-here ∙ p .unstruck′
 
-  upward : (a a′ : Answers) → settled m c a .result ≡ Accepted → settled m new a′ .result ≡ Accepted → repriced m c (settled m c a .left) e (ownAt new e) ≡ record { result = Accepted; own = new .own; left = settled m new a′ .left }
+  upward : (a a′ : Answers) → settled m c a .result ≡ Accepted → settled m new a′ .result ≡ Accepted
+      → repriced m c (settled m c a .left) e (ownAt new e) ≡ record { result = Accepted; own = new .own; left = settled m new a′ .left }
   upward a a′ q q′ =
       ap (λ (b : Answers). repriced m c b e (ownAt new e)) (left-is m c a q)
       ∙ ap (repriced m c (answersOf m c) e) own-here
       ∙ reprice-settled m c e (ownAt c e + d) (p .accepted) (p .numbered) (p .unstruck) (subst (λ (x : ℕ). x ≤ greatest) own-here (own-low new (p .accepted′) e (p .numbered) unstruck-new))
       ∙ ap (λ (b : Answers). record { result = Accepted; own = new .own; left = b }) (sym (left-is m new a′ q′))
 
-  downward : (a a′ : Answers) → settled m c a .result ≡ Accepted → settled m new a′ .result ≡ Accepted → repriced m new (settled m new a′ .left) e (ownAt c e) ≡ record { result = Accepted; own = c .own; left = settled m c a .left }
+  downward : (a a′ : Answers) → settled m c a .result ≡ Accepted → settled m new a′ .result ≡ Accepted
+      → repriced m new (settled m new a′ .left) e (ownAt c e) ≡ record { result = Accepted; own = c .own; left = settled m c a .left }
   downward a a′ q q′ =
       ap (λ (b : Answers). repriced m new b e (ownAt c e)) (left-is m new a′ q′)
       ∙ reprice-settled m new e (ownAt c e) (p .accepted′) (p .numbered) unstruck-new (own-low c (p .accepted) e (p .numbered) (p .unstruck))
