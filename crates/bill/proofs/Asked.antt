@@ -2,22 +2,19 @@
 use mathlib.Core.Path.{_≡_, refl, ap}
 use mathlib.Core.Logic.{_↔_}
 use mathlib.Core.List.{List}
-use Prim.Native.Nat.{ℕ, _≤_, _<_}
+use Prim.Native.Nat.{ℕ, _≤_}
 use native.Mathlib.Omega.{arith}
 use native.Mathlib.Decide.{decLe}
 use lib.ListN.{length}
 use lib.Dec.{ltb, leb}
 use borrow.Author.Tests.{ltb-true, ltb-false, leb-true, leb-false, lt-ltb, le-ltb, le-leb, lt-leb}
 use Rattle.weights.specs.declared.Measure.{Measure}
-use Rattle.weights.specs.declared.Label.{Label}
-use Rattle.weights.specs.Measures.{Algebra}
 use Rattle.refusal.specs.declared.Refusal.{Refusal}
 use Rattle.refusal.specs.declared.Refusal.the-variants.{NoSuchVertex, WrongAnswers, Underivable}
 use Rattle.refusal.specs.declared.Answer.{Answer}
 use Rattle.refusal.specs.declared.Answer.the-variants as answer
 use Rattle.refusal.specs.declared.Extent.the-variants.{Refused}
-use Rattle.provenance.specs.Hypergraph.{Hypergraph, Derivation, node, depth}
-use Rattle.provenance.specs.Means.{Means, underivable, derivable}
+use Rattle.provenance.specs.Hypergraph.{depth}
 use Rattle.provenance.specs.BestFirst.{Answers, labels}
 use Rattle.columns.specs.Columns.{Columns}
 use Rattle.columns.specs.Acceptance.{test, lentAcceptance}
@@ -28,22 +25,9 @@ use Rattle.columns.proofs.Exactly.{lent-exactly, lent-refused-exactly}
 use Rattle.columns.proofs.Refuses.{Refuses, none-refuses, test-refuses, then-refuses}
 use Rattle.settle.specs.Settling.{answersOf}
 use Rattle.settle.proofs.Exactly.{same-exactly, same-fails}
+use Rattle.settle.proofs.States.{deep-made, made-deep}
 use Rattle.bill.specs.Billing.{billOf, partAcceptance, roomAcceptance, billAcceptance, outcome, billed}
 use Rattle.bill.specs.Asked.{RightBill, WrongBill, BillOwes}
-
-deep : {H : Hypergraph} {v : ℕ} (d : Derivation H v) → 0 < depth d
-unfolding depth
-deep (node e s h ds) = omega arith
-
--- depth 0 is that of a part with no make-up
-module _ {A : Algebra} {H : Hypergraph} {own : ℕ → ℕ} {l : Label} {v : ℕ} where
-  deep-made : Means A H own l v → 0 < l .depth → Derivation H v
-  deep-made (underivable q n) h = absurd (omega (arith, ap (λ (x : Label). x .depth) q))
-  deep-made (derivable k) h = k .shown
-
-  made-deep : Means A H own l v → Derivation H v → 0 < l .depth
-  made-deep (underivable q n) d = absurd (n d)
-  made-deep (derivable k) d = omega (arith, deep (k .shown), k .deep)
 
 module _ (m : Measure) (c : Columns) (a : Answers) (v places : ℕ) where
   -- the tests behind those of the lent columns
@@ -134,3 +118,12 @@ bill-owes m c a v room = go (billAcceptance m c a v (length room)) refl
     go : (x : Answer) → billAcceptance m c a v (length room) ≡ x → BillOwes m c a v room (outcome x (billOf c a v) room)
     go answer.Accepted p = Owed.accepted (bill-exactly m c a v (length room) .0 p)
     go (answer.Refused r) p = Owed.refused (bill-refused-exactly m c a v (length room) r .0 p)
+
+-- the call is refused by what its tests refuse by
+pub bill-refused : (m : Measure) (c : Columns) (a : Answers) (v : ℕ) (room : List ℕ) (r : Refusal) → (billed m c a v room .result ≡ Refused r) ↔ (billAcceptance m c a v (length room) ≡ answer.Refused r)
+unfolding billed
+bill-refused m c a v room r = (go (billAcceptance m c a v (length room)), λ p. ap (λ (x : Answer). outcome x (billOf c a v) room .result) p)
+  where
+    go : (x : Answer) → outcome x (billOf c a v) room .result ≡ Refused r → x ≡ answer.Refused r
+    go answer.Accepted q = let z : _≡_ {A = ℕ} 0 1 = cc in absurd (omega arith)
+    go (answer.Refused s) q = let e : s ≡ r = cc in ap answer.Refused e

@@ -1,12 +1,11 @@
 -- The annotated Datalog program that a table is (document 000, before Definition 5): each line is a rule, from its own figure and the parts that it lists. The
--- paper's "There, facts carry the weight; here a line's own figure stands for one more fact that only this line uses". And that the program's trees (Definitions
--- 8 and 9) are the derivations, with the own figures along the listing at their leaves (Lemma 11). Assumes nothing.
+-- paper's "There, facts carry the weight; here a line's own figure stands for one more fact that only this line uses". And that the program's trees are the
+-- derivations, with the own figures along the listing at their leaves. Assumes nothing.
 use mathlib.Core.Path.{_≡_, refl, sym, _∙_, ap, ap₂, subst}
-use mathlib.Core.Logic.{inl, inr}
 use mathlib.Core.List.{List, [], _∷_, _++_, map, map-append}
 use Prim.Native.Nat.{ℕ, _<_}
 use native.Mathlib.Omega.{arith}
-use Rattle.semiring.specs.Datalog.{Tree, Trees, Program, representation, leaves, all-leaves}
+use Rattle.semiring.specs.Datalog.{Program, Proof, Proofs, fact, rule, leaves, all-leaves}
 use Rattle.weights.specs.Measures.{Algebra}
 use Rattle.provenance.specs.Hypergraph.{Hypergraph, Stands, Derivation, Derivations, node, none, more, listing, listings}
 use Rattle.provenance.specs.Semirings.{Computes}
@@ -69,17 +68,17 @@ module _ {A : Algebra} (C : Computes A) (H : Hypergraph) (own : ℕ → ℕ) whe
 
   -- a derivation as a tree of the program, with the listing's own weights at its leaves
   pub record Drawn {v : ℕ} (d : Derivation H v) : Type 0 where
-    pub tree : Tree (representation program) (part v)
+    pub tree : Proof program (part v)
     pub same : Annotations (leaves tree) ≡ Owns (listing d)
 
   record AllDrawn {vs : List ℕ} (ds : Derivations H vs) : Type 0 where
-    trees : Trees (representation program) (map part vs)
+    trees : Proofs program (map part vs)
     same : Annotations (all-leaves trees) ≡ Owns (listings ds)
 
   draw-node : {v : ℕ} (e : ℕ) (s : Stands H e) (h : H .head e ≡ v) (ds : Derivations H (H .tail e)) → AllDrawn ds → Drawn (node {v = v} e s h ds)
   unfolding leaves listing
   draw-node e s h ds a = record {
-    tree = Tree.node (inl (record { edge = e; numbered = s .numbered })) (ap part h) (Trees.more (Tree.node (inr (record { edge = e; stands = s })) refl Trees.none) (a .trees));
+    tree = rule (record { edge = e; numbered = s .numbered }) (ap part h) (Proofs.more (fact (record { edge = e; stands = s }) refl) (a .trees));
     same = ap (λ (xs : List (C .semiring .Carrier)). C .element (own e) ∷ xs) (a .same);
   }
 
@@ -90,11 +89,11 @@ module _ {A : Algebra} (C : Computes A) (H : Hypergraph) (own : ℕ → ℕ) whe
     draw (node e s h ds) = draw-node e s h ds (draw-all ds)
 
     draw-all : {vs : List ℕ} (ds : Derivations H vs) → AllDrawn ds
-    draw-all none = record { trees = Trees.none; same = refl }
+    draw-all none = record { trees = Proofs.none; same = refl }
     draw-all (more d ds) =
         let t = draw d in
         let ts = draw-all ds in
-        record { trees = Trees.more (t .tree) (ts .trees); same = both (leaves (t .tree)) (all-leaves (ts .trees)) (listing d) (listings ds) (t .same) (ts .same) }
+        record { trees = Proofs.more (t .tree) (ts .trees); same = both (leaves (t .tree)) (all-leaves (ts .trees)) (listing d) (listings ds) (t .same) (ts .same) }
 
   -- a tree of the program as a derivation, with its leaves' annotations along the listing
   pub record Read (v : ℕ) (fs : List (Fact H)) : Type 0 where
@@ -125,26 +124,26 @@ module _ {A : Algebra} (C : Computes A) (H : Hypergraph) (own : ℕ → ℕ) whe
   mutual
     unfolding leaves listing
 
-    pub read : {t : Atom} (τ : Tree (representation program) t) (v : ℕ) → t ≡ part v → Read v (leaves τ)
-    read (Tree.node (inl r) h τs) v p = read-rule (r .edge) (all-leaves τs) (part-injective (h ∙ p)) (read-body τs (r .edge) refl)
-    read (Tree.node (inr f) h τs) v p = absurd (figure-not-part (h ∙ p))
+    pub read : {t : Atom} (τ : Proof program t) (v : ℕ) → t ≡ part v → Read v (leaves τ)
+    read (rule r h τs) v p = read-rule (r .edge) (all-leaves τs) (part-injective (h ∙ p)) (read-body τs (r .edge) refl)
+    read (fact f h) v p = absurd (figure-not-part (h ∙ p))
 
-    read-figure : {t : Atom} (τ : Tree (representation program) t) (e : ℕ) → t ≡ figure e → Figure e (leaves τ)
-    read-figure (Tree.node (inl r) h τs) e p = absurd (figure-not-part (sym (h ∙ p)))
-    read-figure (Tree.node (inr f) h τs) e p = read-fact f e (figure-injective (h ∙ p))
+    read-figure : {t : Atom} (τ : Proof program t) (e : ℕ) → t ≡ figure e → Figure e (leaves τ)
+    read-figure (rule r h τs) e p = absurd (figure-not-part (sym (h ∙ p)))
+    read-figure (fact f h) e p = read-fact f e (figure-injective (h ∙ p))
 
-    read-body : {ts : List Atom} (τs : Trees (representation program) ts) (e : ℕ) → ts ≡ figure e ∷ map part (H .tail e) → Body e (all-leaves τs)
-    read-body Trees.none e p = absurd (not-empty p)
-    read-body (Trees.more {v = t} {vs = ts} τ τs) e p =
+    read-body : {ts : List Atom} (τs : Proofs program ts) (e : ℕ) → ts ≡ figure e ∷ map part (H .tail e) → Body e (all-leaves τs)
+    read-body Proofs.none e p = absurd (not-empty p)
+    read-body (Proofs.more τ τs) e p =
         let a = read-figure τ e (head-same p) in
         let b = read-tail τs (H .tail e) (tail-same p) in
         record { stands = a .stands; derivations = b .derivations; same = both (leaves τ) (all-leaves τs) (e ∷ []) (listings (b .derivations)) (a .same) (b .same) }
 
-    read-tail : {ts : List Atom} (τs : Trees (representation program) ts) (vs : List ℕ) → ts ≡ map part vs → AllRead vs (all-leaves τs)
-    read-tail Trees.none [] p = record { derivations = none; same = refl }
-    read-tail Trees.none (v ∷ vs) p = absurd (not-empty p)
-    read-tail (Trees.more τ τs) [] p = absurd (not-empty (sym p))
-    read-tail (Trees.more τ τs) (v ∷ vs) p =
+    read-tail : {ts : List Atom} (τs : Proofs program ts) (vs : List ℕ) → ts ≡ map part vs → AllRead vs (all-leaves τs)
+    read-tail Proofs.none [] p = record { derivations = none; same = refl }
+    read-tail Proofs.none (v ∷ vs) p = absurd (not-empty p)
+    read-tail (Proofs.more τ τs) [] p = absurd (not-empty (sym p))
+    read-tail (Proofs.more τ τs) (v ∷ vs) p =
         let a = read τ v (head-same p) in
         let b = read-tail τs vs (tail-same p) in
         record { derivations = more (a .derivation) (b .derivations); same = both (leaves τ) (all-leaves τs) (listing (a .derivation)) (listings (b .derivations)) (a .same) (b .same) }

@@ -51,6 +51,19 @@ module _ (c : Columns) (e : ℕ) where
       go true s = absurd (n (stands-named s))
       go false s = refl
 
+-- a change answers what its tests do
+changed-result : (m : Measure) (c : Columns) (a : Answers) (e w : ℕ) (x : Answer) → changed m c a e w x .result ≡ x
+changed-result m c a e w Accepted = refl
+changed-result m c a e w (Refused r) = refl
+
+pub repriced-result : (m : Measure) (c : Columns) (a : Answers) (e w : ℕ) → repriced m c a e w .result ≡ repriceAcceptance m c a e w
+unfolding repriced
+repriced-result m c a e w = changed-result m c a e w (repriceAcceptance m c a e w)
+
+pub stricken-result : (m : Measure) (c : Columns) (a : Answers) (e : ℕ) → stricken m c a e .result ≡ strikeAcceptance m c a e
+unfolding stricken
+stricken-result m c a e = changed-result m c a e struck (strikeAcceptance m c a e)
+
 -- a change of line e behind a test of the figure that passes exactly if Low
 module _ (m : Measure) (c : Columns) (a : Answers) (e : ℕ) (b : Bool) (Low : Type 0) (low : b ≡ true → Low) (high : b ≡ false → ¬ Low) where
   abbrev chain : Answer

@@ -1,11 +1,45 @@
--- Provenance as document 000 defines it: weighted hypergraphs (Definition 7), the representation of an annotated Datalog program as one (Definition 8),
--- derivations (Definition 9), best weight (Definition 10), and provenance, the sum over derivations of the product over leaves (Definition 5).
--- A proof tree is taken as a derivation of the representation, so Lemma 11's bijection is the identity; Lemma 12 and Theorem 13 say that best weight and
--- provenance agree. Best weight is the sum at source vertices too: the paper lets a part have many bought lines. Assumes nothing.
-use mathlib.Core.Path.{_≡_, refl, sym, _∙_, ap, ap₂, subst, fun-ext}
-use mathlib.Core.Logic.{_⊎_, inl, inr, _↔_}
-use mathlib.Core.List.{List, [], _∷_, _++_, map, map-append}
-use Rattle.semiring.specs.Semiring.{Semiring, Sum, product, product-append}
+-- Provenance as document 000 defines it: annotated Datalog programs and their derivation trees, provenance as the sum over these of the product over leaves
+-- (Definition 5); weighted hypergraphs (Definition 7), the representation of a program as one (Definition 8), derivations and their weights (Definition 9) and best
+-- weight (Definition 10). Best weight is the sum at source vertices too: the paper lets a part have many bought lines. Assumes nothing: these are definitions.
+use mathlib.Core.Path.{_≡_}
+use mathlib.Core.Logic.{_⊎_, inl, inr}
+use mathlib.Core.List.{List, [], _∷_, _++_, map}
+use Rattle.semiring.specs.Semiring.{Semiring, Sum, product}
+
+-- an annotated Datalog program, instantiated: its extensional facts with their annotations, and its rules
+pub record Program (S : Semiring) : Type 1 where
+  pub Atom : Type 0
+  pub Fact : Type 0
+  pub states : Fact → Atom
+  pub annotation : Fact → S .Carrier
+  pub Rule : Type 0
+  pub head : Rule → Atom
+  pub body : Rule → List Atom
+
+-- a derivation tree that yields an atom: a fact that states it, or a rule for it with a tree that yields each atom of its body
+mutual
+  pub data Proof {S : Semiring} (q : Program S) : q .Atom → Type 0 where
+    fact : {t : q .Atom} (f : q .Fact) → q .states f ≡ t → Proof q t
+    rule : {t : q .Atom} (r : q .Rule) → q .head r ≡ t → Proofs q (q .body r) → Proof q t
+
+  pub data Proofs {S : Semiring} (q : Program S) : List (q .Atom) → Type 0 where
+    none : Proofs q []
+    more : {t : q .Atom} {ts : List (q .Atom)} → Proof q t → Proofs q ts → Proofs q (t ∷ ts)
+
+module _ {S : Semiring} {q : Program S} where
+  -- the facts at the leaves, in order
+  unfoldable mutual
+    pub leaves : {t : q .Atom} → Proof q t → List (q .Fact)
+    leaves (fact f h) = f ∷ []
+    leaves (rule r h ps) = all-leaves ps
+
+    pub all-leaves : {ts : List (q .Atom)} → Proofs q ts → List (q .Fact)
+    all-leaves none = []
+    all-leaves (more p ps) = leaves p ++ all-leaves ps
+
+-- Definition 5: the sum, over the trees that yield t, of the product of their leaves' annotations
+abbrev pub Provenance : {S : Semiring} (q : Program S) → q .Atom → S .Carrier → Type 0
+Provenance {S} q t = Sum S {I = Proof q t} (λ τ. product S (map (q .annotation) (leaves τ)))
 
 -- Definition 7
 pub record Weighted (S : Semiring) : Type 1 where
@@ -14,6 +48,16 @@ pub record Weighted (S : Semiring) : Type 1 where
   pub head : Edge → Vertex
   pub tail : Edge → List Vertex
   pub function : Edge → List (S .Carrier) → S .Carrier
+
+-- Definition 8: an edge for each rule, whose function is the product, and a nullary edge for each fact
+abbrev pub representation : {S : Semiring} → Program S → Weighted S
+representation {S} q = record {
+  Vertex = q .Atom;
+  Edge = q .Rule ⊎ q .Fact;
+  head = elim [ inl r ↦ q .head r | inr f ↦ q .states f ];
+  tail = elim [ inl r ↦ q .body r | inr f ↦ [] ];
+  function = elim [ inl r ↦ product S | inr f ↦ λ ws. q .annotation f ];
+}
 
 -- Definition 9
 mutual
@@ -31,68 +75,29 @@ module _ {S : Semiring} {G : Weighted S} where
     weight (node e h ts) = G .function e (weights ts)
 
     pub weights : {vs : List (G .Vertex)} → Trees G vs → List (S .Carrier)
-    weights none = []
-    weights (more t ts) = weight t ∷ weights ts
+    weights Trees.none = []
+    weights (Trees.more t ts) = weight t ∷ weights ts
 
 -- Definition 10: the sum of the weights of all derivations of v
 abbrev pub BestWeight : {S : Semiring} (G : Weighted S) → G .Vertex → S .Carrier → Type 0
 BestWeight {S} G v = Sum S {I = Tree G v} weight
 
--- an annotated Datalog program, instantiated: its extensional facts with their annotations, and its rules
-pub record Program (S : Semiring) : Type 1 where
-  pub Atom : Type 0
-  pub Fact : Type 0
-  pub states : Fact → Atom
-  pub annotation : Fact → S .Carrier
-  pub Rule : Type 0
-  pub head : Rule → Atom
-  pub body : Rule → List Atom
-
--- Definition 8: an edge for each rule, whose function is the product, and a nullary edge for each fact
-abbrev pub representation : {S : Semiring} → Program S → Weighted S
-representation {S} q = record {
-  Vertex = q .Atom;
-  Edge = q .Rule ⊎ q .Fact;
-  head = elim [ inl r ↦ q .head r | inr f ↦ q .states f ];
-  tail = elim [ inl r ↦ q .body r | inr f ↦ [] ];
-  function = elim [ inl r ↦ product S | inr f ↦ λ ws. q .annotation f ];
-}
-
 module _ {S : Semiring} {q : Program S} where
-  -- the facts at the leaves of a derivation, in order
+  -- Lemma 11's two maps: the derivation of a tree, and the tree of a derivation
   unfoldable mutual
-    pub leaves : {t : q .Atom} → Tree (representation q) t → List (q .Fact)
-    leaves (node (inl r) h ts) = all-leaves ts
-    leaves (node (inr f) h ts) = f ∷ []
+    pub derivation : {t : q .Atom} → Proof q t → Tree (representation q) t
+    derivation (fact f h) = node (inr f) h Trees.none
+    derivation (rule r h ps) = node (inl r) h (derivations ps)
 
-    pub all-leaves : {ts : List (q .Atom)} → Trees (representation q) ts → List (q .Fact)
-    all-leaves none = []
-    all-leaves (more t ts) = leaves t ++ all-leaves ts
+    pub derivations : {ts : List (q .Atom)} → Proofs q ts → Trees (representation q) ts
+    derivations Proofs.none = Trees.none
+    derivations (Proofs.more p ps) = Trees.more (derivation p) (derivations ps)
 
--- Definition 5: the sum, over the derivations of t, of the product of their leaves' annotations
-abbrev pub Provenance : {S : Semiring} (q : Program S) → q .Atom → S .Carrier → Type 0
-Provenance {S} q t = Sum S {I = Tree (representation q) t} (λ τ. product S (map (q .annotation) (leaves τ)))
+  unfoldable mutual
+    pub proof : {t : q .Atom} → Tree (representation q) t → Proof q t
+    proof (node (inl r) h ts) = rule r h (proofs ts)
+    proof (node (inr f) h ts) = fact f h
 
-module _ {S : Semiring} (q : Program S) where
-  -- the product of the annotations of fs
-  abbrev annotations : List (q .Fact) → S .Carrier
-  annotations fs = product S (map (q .annotation) fs)
-
-  annotations-append : (fs gs : List (q .Fact)) → annotations (fs ++ gs) ≡ S .times (annotations fs) (annotations gs)
-  annotations-append fs gs = ap (product S) (map-append (q .annotation) fs gs) ∙ product-append S (map (q .annotation) fs) (map (q .annotation) gs)
-
-  mutual
-    unfolding weight leaves product
-
-    -- Lemma 12
-    pub lemma-12 : {t : q .Atom} (τ : Tree (representation q) t) → weight τ ≡ product S (map (q .annotation) (leaves τ))
-    lemma-12 (node (inl r) h ts) = subtrees ts
-    lemma-12 (node (inr f) h ts) = sym (S .times-one (q .annotation f))
-
-    subtrees : {ts : List (q .Atom)} (τs : Trees (representation q) ts) → product S (weights τs) ≡ annotations (all-leaves τs)
-    subtrees none = refl
-    subtrees (more τ τs) = ap₂ (S .times) (lemma-12 τ) (subtrees τs) ∙ sym (annotations-append (leaves τ) (all-leaves τs))
-
-  -- Theorem 13
-  pub theorem-13 : (t : q .Atom) (x : S .Carrier) → Provenance q t x ↔ BestWeight (representation q) t x
-  theorem-13 t x = (subst (λ f. Sum S f x) (sym (fun-ext lemma-12)), subst (λ f. Sum S f x) (fun-ext lemma-12))
+    pub proofs : {ts : List (q .Atom)} → Trees (representation q) ts → Proofs q ts
+    proofs Trees.none = Proofs.none
+    proofs (Trees.more t ts) = Proofs.more (proof t) (proofs ts)

@@ -57,16 +57,16 @@ sum-same S f g to back =
 
 -- laws of the natural order
 module _ (S : Semiring) where
-  below-refl : (a : S .Carrier) → Below S a a
+  pub below-refl : (a : S .Carrier) → Below S a a
   below-refl a = rw (← S .times-one a, ← S .distributes a S.one S.one, S .closed S.one)
 
-  below-trans : (a b c : S .Carrier) → Below S a b → Below S b c → Below S a c
+  pub below-trans : (a b c : S .Carrier) → Below S a b → Below S b c → Below S a c
   below-trans a b c h k = ap (λ x. S .plus x c) (sym h) ∙ S .plus-assoc a b c ∙ ap (S .plus a) k ∙ h
 
-  plus-right : (a b : S .Carrier) → Below S (S .plus a b) b
+  pub plus-right : (a b : S .Carrier) → Below S (S .plus a b) b
   plus-right a b = S .plus-assoc a b b ∙ ap (S .plus a) (below-refl b)
 
-  below-plus : (y a b : S .Carrier) → Below S y a → Below S y b → Below S y (S .plus a b)
+  pub below-plus : (y a b : S .Carrier) → Below S y a → Below S y b → Below S y (S .plus a b)
   below-plus y a b h k = sym (S .plus-assoc y a b) ∙ ap (λ c. S .plus c b) h ∙ k
 
 -- Definition 3 sums a sequence by the infimum of its partial sums: that is the same sum

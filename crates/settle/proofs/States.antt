@@ -33,6 +33,16 @@ deep : {H : Hypergraph} {v : ℕ} (d : Derivation H v) → 0 < depth d
 unfolding depth
 deep (node e s h ds) = omega arith
 
+-- depth 0 is that of a part with no make-up
+module _ {A : Algebra} {H : Hypergraph} {own : ℕ → ℕ} {l : Label} {v : ℕ} where
+  pub deep-made : Means A H own l v → 0 < l .depth → Derivation H v
+  deep-made (underivable q n) h = absurd (omega (arith, ap (λ (x : Label). x .depth) q))
+  deep-made (derivable k) h = k .shown
+
+  pub made-deep : Means A H own l v → Derivation H v → 0 < l .depth
+  made-deep (underivable q n) d = absurd (n d)
+  made-deep (derivable k) d = omega (arith, deep (k .shown), k .deep)
+
 -- an own figure that is allowed and not struck
 pub unstruck-own : (x : ℕ) → x ≤ struck → isStruck x ≡ false → x ≤ greatest
 unstruck-own x h p = let n : ¬ (x ≡ struck) = eqb-false x struck p in omega arith

@@ -3,3 +3,4 @@ pub mod Checking
 pub mod Demands
 pub mod Defined
 pub mod States
+pub mod Worth

@@ -1,0 +1,2 @@
+pub mod Datalog
+pub mod Continuous
