@@ -20,7 +20,8 @@ use Rattle.columns.specs.Columns.{Columns}
 use Rattle.columns.specs.Accepted.{both-accepted, test-passed}
 use Rattle.settle.specs.Settling.{settled}
 use Rattle.settle.specs.Demands.{settled-result}
-use Rattle.reprice.specs.Repricing.{repriceAcceptance, changed, repriced}
+use Rattle.reprice.specs.Repricing.{repriced}
+use Rattle.reprice.proofs.Changes.{repriced-result}
 use Rattle.bill.specs.Billing.{billOf, partAcceptance, billAcceptance, outcome, billed}
 use Rattle.counter.specs.Results.{settledResult, repricedResult, mostRoom, billedResult}
 use Rattle.counter.specs.Places.{lent-place, reprice-place, bill-place, measure-place}
@@ -88,21 +89,12 @@ settled-decoded k c a = go (measureOf k) (λ r. measure-place k)
     go (choice.Refused r) h = decoded (Refused r) (h r refl)
     go (choice.Measure m) h = answer-decoded (settled m c a .result) (λ s e. lent-place c a (sym (settled-result m c a) ∙ e))
 
--- a change answers what its tests do
-changed-result : (m : Measure) (c : Columns) (a : Answers) (e w : ℕ) → repriced m c a e w .result ≡ repriceAcceptance m c a e w
-unfolding repriced
-changed-result m c a e w = go (repriceAcceptance m c a e w)
-  where
-    go : (x : Answer) → changed m c a e w x .result ≡ x
-    go answer.Accepted = refl
-    go (answer.Refused r) = refl
-
 pub repriced-decoded : (k : ℕ) (c : Columns) (a : Answers) (e w : ℕ) → Decoded (repricedExtent (measureOf k) c a e w) (repricedResult (measureOf k) c a e w .result)
 repriced-decoded k c a e w = go (measureOf k) (λ r. measure-place k)
   where
     go : (o : MeasureChoice) → ((r : Refusal) → o ≡ choice.Refused r → placeOf r ≤ lastPlace) → Decoded (repricedExtent o c a e w) (repricedResult o c a e w .result)
     go (choice.Refused r) h = decoded (Refused r) (h r refl)
-    go (choice.Measure m) h = answer-decoded (repriced m c a e w .result) (λ s q. reprice-place m c a e w (sym (changed-result m c a e w) ∙ q))
+    go (choice.Measure m) h = answer-decoded (repriced m c a e w .result) (λ s q. reprice-place m c a e w (sym (repriced-result m c a e w) ∙ q))
 
 -- a bill is at most as long as its room
 billed-reach : (m : Measure) (c : Columns) (a : Answers) (v : ℕ) (room : List ℕ) → length room ≤ lastPlace → reach (billed m c a v room .result) ≤ lastPlace

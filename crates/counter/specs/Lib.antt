@@ -1,3 +1,4 @@
 pub mod Decoded
 pub mod Places
 pub mod Results
+pub mod Numbers

@@ -1,117 +1,61 @@
--- A worked example: a table, what is changed in it, and what must come out; and the test of one, computed from the definitions. Assumes nothing: these are
--- definitions.
-use Prim.Native.Nat.{ℕ, suc, _+_, _-_, _*_}
-use mathlib.Core.Bool.{Bool, true, false}
-use mathlib.Core.List.{List, [], _∷_}
-use lib.ListN.{length}
-use lib.Dec.{eqb, leb}
+-- A worked example: a call, from answer columns of filler, and what must come out of it, by an equation with the outcome that the call's contract cites. Assumes
+-- nothing: these are definitions.
+use mathlib.Core.Path.{_≡_}
+use mathlib.Core.List.{List, [], _∷_, _++_}
+use Prim.Native.Nat.{ℕ, _+_}
+use lib.ListN.{length, drop}
 use Rattle.weights.specs.declared.Measure.{Measure}
 use Rattle.weights.specs.declared.State.{State}
-use Rattle.weights.specs.declared.State.the-variants.{Made, Over, Unmade}
-use Rattle.weights.specs.Choice.{pick}
 use Rattle.weights.specs.Labels.{stateOf}
-use Rattle.refusal.specs.declared.Answer.{Answer}
-use Rattle.refusal.specs.declared.Answer.the-variants.{Accepted, Refused}
-use Rattle.provenance.specs.BestFirst.{Answers, labels}
-use Rattle.provenance.specs.Counting.{count}
+use Rattle.refusal.specs.declared.Answer.the-variants.{Accepted}
+use Rattle.refusal.specs.declared.Extent.the-variants.{Length}
+use Rattle.provenance.specs.BestFirst.{Answers}
 use Rattle.columns.specs.Columns.{Columns, ownAt, withOwn}
-use Rattle.columns.specs.Acceptance.{acceptance}
-use Rattle.columns.specs.Same.{equal, same}
-use Rattle.settle.specs.Settling.{answersOf}
-use Rattle.bill.specs.Billing.{billOf}
+use Rattle.settle.specs.Settling.{settled}
+use Rattle.reprice.specs.Repricing.{repriced, stricken}
+use Rattle.reprice.specs.Demand3.{labelsOf, Pair, Rise}
+use Rattle.bill.specs.Billing.{billed}
+use Rattle.bill.specs.Rises.{countIn}
 
--- nothing is changed, or the own figure of a line is
-pub data Change : Type 0 where
-  unchanged : Change
-  figure : (e w : ℕ) → Change
+pub data Case : Type 0 where
+  -- settling leaves these answers, of these states
+  settles : Measure → Columns → (filler left : Answers) → List State → Case
+  -- once settled, the bill of part v stands at the start of the room
+  prints : Measure → Columns → (filler : Answers) → (v : ℕ) → (room bill : List ℕ) → Case
+  -- once settled, repricing line e to w, or striking it, leaves these own figures and answers
+  reprices : Measure → Columns → (filler : Answers) → (e w : ℕ) → (own : List ℕ) → (left : Answers) → Case
+  strikes : Measure → Columns → (filler : Answers) → (e : ℕ) → (own : List ℕ) → (left : Answers) → Case
+  -- line e raised by d carries part v from figure w to w′, and stands `old` times in its bill before and `new` times after
+  raises : Measure → Columns → (e d v w w′ old new : ℕ) → Case
 
--- the bill of part v
-pub record Bill : Type 0 where
-  pub vertex : ℕ
-  pub lines : List ℕ
+-- the states of parts of these figures and depths
+unfoldable pub states : (weights depths : List ℕ) → List State
+states [] ds = []
+states (w ∷ ws) [] = []
+states (w ∷ ws) (d ∷ ds) = stateOf w d ∷ states ws ds
 
--- the change raises part v's figure by `rise`, and the changed line stands `old` times in its bill before and `new` times after
-pub record Rise : Type 0 where
-  pub vertex : ℕ
-  pub rise : ℕ
-  pub old : ℕ
-  pub new : ℕ
+pub record Settles (m : Measure) (c : Columns) (filler left : Answers) (ss : List State) : Type 0 where
+  pub outcome : settled m c filler ≡ record { result = Accepted; left = left }
+  pub told : states (left .weights) (left .depths) ≡ ss
 
-pub record Case : Type 0 where
-  pub measure : Measure
-  pub table : Columns
-  pub change : Change
-  pub answers : Answers
-  pub states : List State
-  pub bills : List Bill
-  pub rises : List Rise
+-- the two tables are a pair of demand 3, and the rise keeps to its bounds
+pub record Raises (m : Measure) (c : Columns) (e d v w w′ old new : ℕ) : Type 0 where
+  pub pair : Pair c (withOwn c e (ownAt c e + d)) e d
+  pub before : labelsOf m c v .weight .0 ≡ w
+  pub after : labelsOf m (withOwn c e (ownAt c e + d)) v .weight .0 ≡ w′
+  pub old-count : countIn m c e v ≡ old
+  pub new-count : countIn m (withOwn c e (ownAt c e + d)) e v ≡ new
+  pub bounds : Rise m d w w′ old new
 
--- the table after the change
-abbrev pub changed : Columns → Change → Columns
-changed c unchanged = c
-changed c (figure e w) = withOwn c e w
+-- what a case says
+abbrev pub Holds : Case → Type 0
+Holds (settles m c filler left ss) = Settles m c filler left ss
+Holds (prints m c filler v room bill) = billed m c (settled m c filler .left) v room ≡ record { result = Length (length bill); left = bill ++ drop (length bill) room }
+Holds (reprices m c filler e w own left) = repriced m c (settled m c filler .left) e w ≡ record { result = Accepted; own = own; left = left }
+Holds (strikes m c filler e own left) = stricken m c (settled m c filler .left) e ≡ record { result = Accepted; own = own; left = left }
+Holds (raises m c e d v w w′ old new) = Raises m c e d v w w′ old new
 
-abbrev both : Bool → Bool → Bool
-both a b = pick a b false
-
-abbrev isAccepted : Answer → Bool
-isAccepted Accepted = true
-isAccepted (Refused r) = false
-
-abbrev sameState : State → State → Bool
-sameState Made Made = true
-sameState Made Over = false
-sameState Made Unmade = false
-sameState Over Made = false
-sameState Over Over = true
-sameState Over Unmade = false
-sameState Unmade Made = false
-sameState Unmade Over = false
-sameState Unmade Unmade = true
-
--- the states of the parts from v on
-unfoldable pub statesAre : Answers → ℕ → List State → Bool
-statesAre a v [] = eqb v (length (a .depths))
-statesAre a v (s ∷ ss) = pick (sameState (stateOf (labels a v .weight .0) (labels a v .depth)) s) (statesAre a (suc v) ss) false
-
-unfoldable pub billsAre : Columns → Answers → List Bill → Bool
-billsAre c a [] = true
-billsAre c a (b ∷ bs) = pick (equal (billOf c a (b .vertex)) (b .lines)) (billsAre c a bs) false
-
--- the changed line and its raise
-abbrev changedLine : Change → ℕ
-changedLine unchanged = 0
-changedLine (figure e w) = e
-
--- old and new answers of old and new table; the rise lies between the raise × either count
-abbrev pub riseIs : (c c′ : Columns) (a a′ : Answers) (line : ℕ) → Rise → Bool
-riseIs c c′ a a′ line r =
-    both (eqb (labels a′ (r .vertex) .weight .0) (labels a (r .vertex) .weight .0 + r .rise))
-    (both (eqb (count line (billOf c a (r .vertex))) (r .old))
-    (both (eqb (count line (billOf c′ a′ (r .vertex))) (r .new))
-    (both (leb ((ownAt c′ line - ownAt c line) * r .new) (r .rise))
-    (leb (r .rise) ((ownAt c′ line - ownAt c line) * r .old)))))
-
-unfoldable pub risesAre : (c c′ : Columns) (a a′ : Answers) (line : ℕ) → List Rise → Bool
-risesAre c c′ a a′ line [] = true
-risesAre c c′ a a′ line (r ∷ rs) = pick (riseIs c c′ a a′ line r) (risesAre c c′ a a′ line rs) false
-
--- the tables are accepted, and answers, states, bills and rises are those expected
-unfoldable pub comesOut : Case → (c c′ : Columns) (a a′ : Answers) → Bool
-comesOut p c c′ a a′ =
-    both (isAccepted (acceptance c))
-    (both (isAccepted (acceptance c′))
-    (both (same a′ (p .answers))
-    (both (statesAre a′ 0 (p .states))
-    (both (billsAre c′ a′ (p .bills))
-    (risesAre c c′ a a′ (changedLine (p .change)) (p .rises))))))
-
-unfoldable pub passes : Case → Bool
-passes p =
-    let c = p .table in
-    let c′ = changed c (p .change) in
-    comesOut p c c′ (answersOf (p .measure) c) (answersOf (p .measure) c′)
-
-unfoldable pub allPass : List Case → Bool
-allPass [] = true
-allPass (p ∷ ps) = pick (passes p) (allPass ps) false
+-- every case of a list holds
+unfoldable pub AllHold : List Case → Type 0
+AllHold [] = Unit {0}
+AllHold (p ∷ ps) = Holds p × AllHold ps

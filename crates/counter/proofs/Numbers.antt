@@ -1,0 +1,282 @@
+-- The refusals that each call returns are those of the header's list: no input is refused by another number, and by each of them some input is. Assumes nothing.
+use mathlib.Core.Path.{_≡_, refl, sym, _∙_, ap, subst}
+use mathlib.Core.Bool.{Bool, true, false}
+use mathlib.Core.Logic.{_↔_}
+use mathlib.Core.List.{List, [], _∷_, _++_}
+use Prim.Native.Nat.{ℕ, _≤_}
+use native.Mathlib.Omega.{arith}
+use lib.ListN.{length, take}
+use lib.Dec.{eqb}
+use borrow.Author.Tests.{eqb-true}
+use Rattle.weights.specs.declared.Measure.{Measure}
+use Rattle.weights.specs.declared.Measure.the-variants.{Cost, Days}
+use Rattle.weights.specs.Choice.{pick, apart}
+use Rattle.weights.specs.Figures.{greatest, struck}
+use Rattle.weights.specs.Labels.{aheadOf}
+use Rattle.weights.specs.Measures.{fold, weigh}
+use Rattle.refusal.specs.declared.Refusal.{Refusal}
+use Rattle.refusal.specs.declared.Refusal.the-variants.{WrongAnswers, NoSuchEdge, NewWeight, NoSuchVertex, Underivable, BillRoom, MeasureNumber}
+use Rattle.refusal.specs.declared.Answer.{Answer}
+use Rattle.refusal.specs.declared.Answer.the-variants as answer
+use Rattle.refusal.specs.declared.Extent.{Extent}
+use Rattle.refusal.specs.declared.Extent.the-variants.{Refused}
+use Rattle.refusal.specs.declared.MeasureChoice.{MeasureChoice}
+use Rattle.refusal.specs.declared.MeasureChoice.the-variants as choice
+use Rattle.refusal.specs.Refusals.{numberOf, measureOf}
+use Rattle.provenance.specs.BestFirst.{Answers, opening, next, turn, turns, best-first}
+use Rattle.provenance.specs.Labelling.{each, greatest as deepest, noneZero, offerOf}
+use Rattle.provenance.specs.Support.{bill, bills}
+use Rattle.columns.specs.Columns.{Columns, columns, answers}
+use Rattle.columns.specs.Acceptance.{allBelow, edgeAcceptance, edgesAcceptance, acceptance, lentAcceptance}
+use Rattle.columns.specs.Right.{WrongEdge, WrongTable, WrongLent}
+use Rattle.columns.specs.Same.{equal, same}
+use Rattle.columns.proofs.Exactly.{lent-refused-exactly}
+use Rattle.settle.specs.Settling.{answersOf, settled}
+use Rattle.settle.specs.Demands.{settled-result}
+use Rattle.reprice.specs.Repricing.{lineAcceptance, repriceAcceptance, repriced}
+use Rattle.reprice.specs.Changes.{WrongChange}
+use Rattle.reprice.proofs.Changes.{reprice-refused-exactly, repriced-result}
+use Rattle.bill.specs.Billing.{billOf, partAcceptance, billAcceptance, billed}
+use Rattle.bill.specs.Asked.{WrongBill}
+use Rattle.bill.proofs.Asked.{bill-refused-exactly, bill-refused}
+use Rattle.counter.specs.Results.{mostRoom}
+use Rattle.counter.specs.Decoded.{extentOf, settledExtent, repricedExtent, billedExtent}
+use Rattle.counter.specs.Numbers.{Among, SettleReturns, RepriceReturns, BillReturns, settleList, repriceList, billList}
+
+-- No other number ------------------------------------------------------------------------------------------------------------------------------
+
+-- what holds of 1 to 7 holds of the number of each refusal of lent columns
+module _ (P : ℕ → Type 0) (p1 : P 1) (p2 : P 2) (p3 : P 3) (p4 : P 4) (p5 : P 5) (p6 : P 6) (p7 : P 7) where
+  edge-number : {c : Columns} {e : ℕ} {r : Refusal} → WrongEdge c e r → P (numberOf r)
+  edge-number (WrongEdge.head n) = p3
+  edge-number (WrongEdge.own h n) = p4
+  edge-number (WrongEdge.span h o n) = p5
+  edge-number (WrongEdge.tail h o s n) = p6
+
+  lent-number : {c : Columns} {a : Answers} {r : Refusal} → WrongLent c a r → P (numberOf r)
+  lent-number (WrongLent.table (WrongTable.many n)) = p1
+  lent-number (WrongLent.table (WrongTable.unlevel f n)) = p2
+  lent-number (WrongLent.table (WrongTable.edge f l e w)) = edge-number (w .wrong)
+  lent-number (WrongLent.answers t n) = p7
+
+-- a test of standing in a list
+among : ℕ → List ℕ → Bool
+among n [] = false
+among n (k ∷ ns) = pick (eqb k n) true (among n ns)
+
+listed : (n : ℕ) (ns : List ℕ) → among n ns ≡ true → Among n ns
+unfolding among
+listed n [] e = apart e
+listed n (k ∷ ns) e = go (eqb k n) refl e (listed n ns)
+  where
+    go : (b : Bool) → eqb k n ≡ b → pick b true (among n ns) ≡ true → (among n ns ≡ true → Among n ns) → Among n (k ∷ ns)
+    go true p q rest = subst (λ (x : ℕ). Among n (x ∷ ns)) (sym (eqb-true k n p)) Among.here
+    go false p q rest = Among.behind (rest q)
+
+answered : (x : Answer) {r : Refusal} → extentOf x ≡ Refused r → x ≡ answer.Refused r
+answered answer.Accepted e = let z : _≡_ {A = ℕ} 0 1 = cc in absurd (omega arith)
+answered (answer.Refused s) {r} e = let q : s ≡ r = cc in ap answer.Refused q
+
+-- a measure's number is refused by 16
+measure-number : (k : ℕ) {s : Refusal} → measureOf k ≡ choice.Refused s → numberOf s ≡ 16
+measure-number k = go (eqb k 0) (eqb k 1)
+  where
+    go : (a b : Bool) {s : Refusal} → pick a (choice.Measure Cost) (pick b (choice.Measure Days) (choice.Refused MeasureNumber)) ≡ choice.Refused s → numberOf s ≡ 16
+    go true b e = let z : _≡_ {A = ℕ} 0 1 = cc in absurd (omega arith)
+    go false true e = let z : _≡_ {A = ℕ} 0 1 = cc in absurd (omega arith)
+    go false false {s} e = let q : MeasureNumber ≡ s = cc in ap numberOf (sym q)
+
+-- so a call whose other refusals are in the list, and 16, has none but those
+measured : (ns : List ℕ) (f : MeasureChoice → Extent) → among 16 ns ≡ true → ((s : Refusal) → f (choice.Refused s) ≡ Refused s)
+    → ((m : Measure) (r : Refusal) → f (choice.Measure m) ≡ Refused r → Among (numberOf r) ns) → (k : ℕ) (r : Refusal) → f (measureOf k) ≡ Refused r → Among (numberOf r) ns
+measured ns f h g rest k r e = go (measureOf k) refl e
+  where
+    go : (o : MeasureChoice) → measureOf k ≡ o → f o ≡ Refused r → Among (numberOf r) ns
+    go (choice.Measure m) p q = rest m r q
+    go (choice.Refused s) p q =
+        let i : Refused s ≡ Refused r = sym (g s) ∙ q in
+        let j : s ≡ r = cc in
+        subst (λ (n : ℕ). Among n ns) (sym (measure-number k p) ∙ ap numberOf j) (listed 16 ns h)
+
+settle-among : (c : Columns) (a : Answers) (m : Measure) (r : Refusal) → extentOf (settled m c a .result) ≡ Refused r → Among (numberOf r) settleList
+unfolding among
+settle-among c a m r e =
+    let L = settleList in
+    let l : (n : ℕ) → among n L ≡ true → Among n L = λ n. listed n L in
+    lent-number (λ n. Among n L) (l 1 refl) (l 2 refl) (l 3 refl) (l 4 refl) (l 5 refl) (l 6 refl) (l 7 refl)
+    (lent-refused-exactly c a r .0 (sym (settled-result m c a) ∙ answered (settled m c a .result) e))
+
+reprice-among : (c : Columns) (a : Answers) (e w : ℕ) (m : Measure) (r : Refusal) → extentOf (repriced m c a e w .result) ≡ Refused r → Among (numberOf r) repriceList
+unfolding among
+reprice-among c a e w m r q = go (reprice-refused-exactly m c a e w r .0 (sym (repriced-result m c a e w) ∙ answered (repriced m c a e w .result) q))
+  where
+    l : (n : ℕ) → among n repriceList ≡ true → Among n repriceList
+    l n = listed n repriceList
+
+    go : {r : Refusal} → WrongChange m c a e (w ≤ greatest) r → Among (numberOf r) repriceList
+    go (WrongChange.lent x) = lent-number (λ n. Among n repriceList) (l 1 refl) (l 2 refl) (l 3 refl) (l 4 refl) (l 5 refl) (l 6 refl) (l 7 refl) x
+    go (WrongChange.line x n) = l 9 refl
+    go (WrongChange.figure x n h) = l 10 refl
+    go (WrongChange.answers x n h f) = l 8 refl
+
+bill-among : (c : Columns) (a : Answers) (v : ℕ) (room : List ℕ) (m : Measure) (r : Refusal) → billed m c a v room .result ≡ Refused r → Among (numberOf r) billList
+unfolding among
+bill-among c a v room m r q = go (bill-refused-exactly m c a v (length room) r .0 (bill-refused m c a v room r .0 q))
+  where
+    l : (n : ℕ) → among n billList ≡ true → Among n billList
+    l n = listed n billList
+
+    go : {r : Refusal} → WrongBill m c a v (length room) r → Among (numberOf r) billList
+    go (WrongBill.lent x) = lent-number (λ n. Among n billList) (l 1 refl) (l 2 refl) (l 3 refl) (l 4 refl) (l 5 refl) (l 6 refl) (l 7 refl) x
+    go (WrongBill.part x n) = l 11 refl
+    go (WrongBill.answers x h n) = l 8 refl
+    go (WrongBill.unmade x h f n) = l 12 refl
+    go (WrongBill.room x h f d n) = l 13 refl
+
+-- Each number ----------------------------------------------------------------------------------------------------------------------------------
+
+-- P holds of each number of a list
+data All (P : ℕ → Type 0) : List ℕ → Type 0 where
+  none : All P []
+  more : {n : ℕ} {ns : List ℕ} → P n → All P ns → All P (n ∷ ns)
+
+each-of : {P : ℕ → Type 0} {n : ℕ} {ns : List ℕ} → All P ns → Among n ns → P n
+each-of (All.more p ps) Among.here = p
+each-of (All.more p ps) (Among.behind i) = each-of ps i
+
+-- lent columns that are refused by number n: the paper's small examples
+record Shown (n : ℕ) : Type 0 where
+  columns : Columns
+  answers : Answers
+  refusal : Refusal
+  refused : lentAcceptance columns answers ≡ answer.Refused refusal
+  number : numberOf refusal ≡ n
+
+abbrev nothing : Answers
+nothing = answers [] [] []
+
+shown : All Shown (1 ∷ 2 ∷ 3 ∷ 4 ∷ 5 ∷ 6 ∷ 7 ∷ [])
+unfolding lentAcceptance acceptance edgesAcceptance edgeAcceptance allBelow
+shown =
+    All.more (record { columns = columns 1025 [] [] [] []; answers = nothing; refusal = _; refused = refl; number = refl })
+    (All.more (record { columns = columns 5 (0 ∷ 0 ∷ []) (0 ∷ []) [] []; answers = nothing; refusal = _; refused = refl; number = refl })
+    (All.more (record { columns = columns 5 (5 ∷ []) (0 ∷ []) (0 ∷ 0 ∷ []) []; answers = nothing; refusal = _; refused = refl; number = refl })
+    (All.more (record { columns = columns 5 (0 ∷ []) (1_000_000_002 ∷ []) (0 ∷ 0 ∷ []) []; answers = nothing; refusal = _; refused = refl; number = refl })
+    (All.more (record { columns = columns 5 (0 ∷ 0 ∷ []) (0 ∷ 0 ∷ []) (0 ∷ 2 ∷ 1 ∷ 1 ∷ []) (0 ∷ 0 ∷ []); answers = nothing; refusal = _; refused = refl; number = refl })
+    (All.more (record { columns = columns 5 (0 ∷ []) (0 ∷ []) (0 ∷ 1 ∷ []) (9 ∷ []); answers = nothing; refusal = _; refused = refl; number = refl })
+    (All.more (record { columns = columns 5 [] [] [] []; answers = nothing; refusal = _; refused = refl; number = refl })
+    All.none))))))
+
+all-map : {P Q : ℕ → Type 0} → ((n : ℕ) → P n → Q n) → {ns : List ℕ} → All P ns → All Q ns
+all-map f All.none = All.none
+all-map f (All.more p ps) = All.more (f _ p) (all-map f ps)
+
+all-append : {P : ℕ → Type 0} {ms ns : List ℕ} → All P ms → All P ns → All P (ms ++ ns)
+all-append All.none qs = qs
+all-append (All.more p ps) qs = All.more p (all-append ps qs)
+
+-- one line, `0 5`, and one part
+abbrev single : Columns
+single = columns 1 (0 ∷ []) (5 ∷ []) (0 ∷ 0 ∷ []) []
+
+abbrev answer-of : ℕ → Answers
+answer-of w = answers (w ∷ []) (1 ∷ []) (0 ∷ [])
+
+-- settle -----------------------------------------------------------------------------------------------------------------------------------------
+
+settle-shown : (n : ℕ) → Shown n → SettleReturns n
+settle-shown n s = record {
+  measure = 0;
+  columns = s .columns;
+  answers = s .answers;
+  refused = record { refusal = s .refusal; returned = ap extentOf (settled-result Cost (s .columns) (s .answers) ∙ s .refused); number = s .number };
+}
+
+settle-all : All SettleReturns settleList
+settle-all = All.more (record { measure = 2; columns = single; answers = nothing; refused = record { refusal = MeasureNumber; returned = refl; number = refl } }) (all-map settle-shown shown)
+
+-- "Refusals: 16, 1 to 7"
+pub settle-numbers : (n : ℕ) → SettleReturns n ↔ Among n settleList
+unfolding among
+settle-numbers n = (
+  λ s.
+      let x = s .refused in
+      let f : MeasureChoice → Extent = λ o. settledExtent o (s .columns) (s .answers) in
+      subst (λ (k : ℕ). Among k settleList) (x .number)
+      (measured settleList f refl (λ r. refl) (settle-among (s .columns) (s .answers)) (s .measure) (x .refusal) (x .returned)),
+  each-of settle-all,
+)
+
+-- reprice ----------------------------------------------------------------------------------------------------------------------------------------
+
+reprice-shown : (n : ℕ) → Shown n → RepriceReturns n
+reprice-shown n s =
+    let c = s .columns in
+    let a = s .answers in
+    let w = lent-refused-exactly c a (s .refusal) .0 (s .refused) in
+    let q = repriced-result Cost c a 0 0 ∙ reprice-refused-exactly Cost c a 0 0 (s .refusal) .1 (WrongChange.lent w) in
+    record { measure = 0; columns = c; answers = a; edge = 0; weight = 0; refused = record { refusal = s .refusal; returned = ap extentOf q; number = s .number } }
+
+-- a line that is not there, the struck mark as a figure, a figure off by 1
+reprice-late : All RepriceReturns (9 ∷ 10 ∷ 8 ∷ [])
+unfolding repriced repriceAcceptance lineAcceptance lentAcceptance acceptance edgesAcceptance edgeAcceptance allBelow same equal answersOf best-first turns turn next opening offerOf noneZero aheadOf weigh fold each deepest
+reprice-late =
+    All.more (record { measure = 0; columns = single; answers = answer-of 5; edge = 1; weight = 0; refused = record { refusal = NoSuchEdge; returned = refl; number = refl } })
+    (All.more (record { measure = 0; columns = single; answers = answer-of 5; edge = 0; weight = struck; refused = record { refusal = NewWeight; returned = refl; number = refl } })
+    (All.more (record { measure = 0; columns = single; answers = answer-of 6; edge = 0; weight = 5; refused = record { refusal = WrongAnswers; returned = refl; number = refl } })
+    All.none))
+
+reprice-all : All RepriceReturns repriceList
+reprice-all =
+    All.more (record { measure = 2; columns = single; answers = nothing; edge = 0; weight = 0; refused = record { refusal = MeasureNumber; returned = refl; number = refl } })
+    (all-append (all-map reprice-shown shown) reprice-late)
+
+-- "Refusals: 16, 1 to 7, 9, 10, 8"
+pub reprice-numbers : (n : ℕ) → RepriceReturns n ↔ Among n repriceList
+unfolding among
+reprice-numbers n = (
+  λ s.
+      let x = s .refused in
+      let f : MeasureChoice → Extent = λ o. repricedExtent o (s .columns) (s .answers) (s .edge) (s .weight) in
+      subst (λ (k : ℕ). Among k repriceList) (x .number)
+      (measured repriceList f refl (λ r. refl) (reprice-among (s .columns) (s .answers) (s .edge) (s .weight)) (s .measure) (x .refusal) (x .returned)),
+  each-of reprice-all,
+)
+
+-- bill -------------------------------------------------------------------------------------------------------------------------------------------
+
+bill-shown : (n : ℕ) → Shown n → BillReturns n
+bill-shown n s =
+    let c = s .columns in
+    let a = s .answers in
+    let w = lent-refused-exactly c a (s .refusal) .0 (s .refused) in
+    let q = bill-refused Cost c a 0 (take mostRoom []) (s .refusal) .1 (bill-refused-exactly Cost c a 0 _ (s .refusal) .1 (WrongBill.lent w)) in
+    record { measure = 0; columns = c; answers = a; vertex = 0; room = []; refused = record { refusal = s .refusal; returned = q; number = s .number } }
+
+-- a part that is not there, a figure off by 1, a part that no line yields, no room
+bill-late : All BillReturns (11 ∷ 8 ∷ 12 ∷ 13 ∷ [])
+unfolding billed billAcceptance partAcceptance billOf bill bills lentAcceptance acceptance edgesAcceptance edgeAcceptance allBelow same equal answersOf best-first turns turn next opening offerOf noneZero aheadOf weigh fold each deepest
+bill-late =
+    All.more (record { measure = 0; columns = single; answers = answer-of 5; vertex = 1; room = []; refused = record { refusal = NoSuchVertex; returned = refl; number = refl } })
+    (All.more (record { measure = 0; columns = single; answers = answer-of 6; vertex = 0; room = []; refused = record { refusal = WrongAnswers; returned = refl; number = refl } })
+    (All.more (record { measure = 0; columns = columns 1 [] [] [] []; answers = answers (0 ∷ []) (0 ∷ []) (0 ∷ []); vertex = 0; room = []; refused = record { refusal = Underivable; returned = refl; number = refl } })
+    (All.more (record { measure = 0; columns = single; answers = answer-of 5; vertex = 0; room = []; refused = record { refusal = BillRoom; returned = refl; number = refl } })
+    All.none)))
+
+bill-all : All BillReturns billList
+bill-all =
+    All.more (record { measure = 2; columns = single; answers = nothing; vertex = 0; room = []; refused = record { refusal = MeasureNumber; returned = refl; number = refl } })
+    (all-append (all-map bill-shown shown) bill-late)
+
+-- "Refusals: 16, 1 to 7, 11, 8, 12, 13"
+pub bill-numbers : (n : ℕ) → BillReturns n ↔ Among n billList
+unfolding among
+bill-numbers n = (
+  λ s.
+      let x = s .refused in
+      let room = take mostRoom (s .room) in
+      let f : MeasureChoice → Extent = λ o. billedExtent o (s .columns) (s .answers) (s .vertex) (s .room) in
+      subst (λ (k : ℕ). Among k billList) (x .number)
+      (measured billList f refl (λ r. refl) (bill-among (s .columns) (s .answers) (s .vertex) room) (s .measure) (x .refusal) (x .returned)),
+  each-of bill-all,
+)

@@ -1,0 +1,67 @@
+-- Every case of the paper's list holds: "Proved examples, gathered into one list that a single theorem about the definitions covers". Assumes nothing.
+use native.Mathlib.Omega.{arith}
+use mathlib.Core.Path.{refl}
+use Rattle.weights.specs.declared.Measure.the-variants.{Cost}
+use Rattle.weights.specs.Measures.{fold, weigh}
+use Rattle.weights.specs.Labels.{aheadOf}
+use Rattle.provenance.specs.Labelling.{each, greatest, noneZero, offerOf}
+use Rattle.provenance.specs.BestFirst.{opening, next, turn, turns, best-first}
+use Rattle.provenance.specs.Support.{bills, bill}
+use Rattle.provenance.specs.Counting.{count}
+use Rattle.columns.specs.Columns.{withOwn}
+use Rattle.columns.specs.Same.{equal, same}
+use Rattle.columns.specs.Acceptance.{allBelow, edgeAcceptance, edgesAcceptance, acceptance, lentAcceptance}
+use Rattle.settle.specs.Settling.{answersOf, settled}
+use Rattle.reprice.specs.Repricing.{lineAcceptance, repriceAcceptance, strikeAcceptance, repriced, stricken}
+use Rattle.reprice.specs.Demand3.{Pair}
+use Rattle.bill.specs.Billing.{billOf, partAcceptance, billAcceptance, billed}
+use Rattle.bill.specs.Rises.{Demand3Billed}
+use Rattle.bill.proofs.Rises.{demand-3-billed}
+use Rattle.examples.specs.Case.{states, AllHold}
+use Rattle.examples.specs.Paper.{whole, cases}
+
+-- the worked table and that of P3 are a pair as demand 3 asks for
+pub worked-pair : Pair whole (withOwn whole 1 500) 1 200
+unfolding acceptance edgesAcceptance edgeAcceptance allBelow
+worked-pair = record { accepted = refl; accepted′ = refl; raised = refl; numbered = omega arith; unstruck = refl; unstruck′ = refl }
+
+-- P3's bounds are demand 3's
+worked-bounds : Demand3Billed Cost whole (withOwn whole 1 500) 1 200
+worked-bounds = demand-3-billed Cost whole (withOwn whole 1 500) 1 200 worked-pair
+
+pub every-case-holds : AllHold cases
+unfolding cases AllHold states settled billed repriced stricken answersOf billOf partAcceptance billAcceptance repriceAcceptance strikeAcceptance lineAcceptance same equal lentAcceptance acceptance edgesAcceptance edgeAcceptance allBelow best-first turns turn next opening offerOf noneZero aheadOf weigh fold each greatest bill bills count
+every-case-holds = (
+  record { outcome = refl; told = refl },
+  (
+    refl,
+    (
+      refl,
+      (
+        record { pair = worked-pair; before = refl; after = refl; old-count = refl; new-count = refl; bounds = worked-bounds .rises 3 refl refl },
+        (
+          record { outcome = refl; told = refl },
+          (
+            record { outcome = refl; told = refl },
+            (
+              record { outcome = refl; told = refl },
+              (
+                record { outcome = refl; told = refl },
+                (
+                  record { outcome = refl; told = refl },
+                  (
+                    record { outcome = refl; told = refl },
+                    (
+                      refl,
+                      tt,
+                    ),
+                  ),
+                ),
+              ),
+            ),
+          ),
+        ),
+      ),
+    ),
+  ),
+)
