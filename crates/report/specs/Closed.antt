@@ -13,12 +13,15 @@ use Rattle.weights.specs.Measures.{algebra}
 use Rattle.refusal.specs.declared.Answer.the-variants.{Accepted}
 use Rattle.provenance.specs.Hypergraph.{Hypergraph}
 use Rattle.provenance.specs.BestFirst.{best-first}
-use Rattle.columns.specs.Columns.{Columns, headAt, ownAt, part, tailAt, hypergraph}
+use Rattle.columns.specs.Filled.{take-filled}
+use Rattle.columns.specs.Columns.{Columns, columns, headAt, ownAt, part, tailAt, hypergraph}
 use Rattle.columns.specs.Acceptance.{acceptance}
 use Rattle.columns.specs.Accepted.{AcceptedTable, table-accepted}
 use Rattle.settle.specs.Settling.{answersOf}
 use Rattle.text.specs.Tables.{Edge, edge, edgesFrom, edgesOf, closed}
 use Rattle.text.specs.Rows.{length-heads, closed-edges, closed-accepted}
+use Rattle.readtable.specs.Read.{columnsRead}
+use Rattle.roundtrip.specs.RoundTrip.{headerFor, filledWith}
 
 abbrev edgeAt : Columns → ℕ → Edge
 edgeAt c e = edge (headAt c e) (ownAt c e) (tailAt c e)
@@ -73,3 +76,12 @@ module _ (m : Measure) (c : Columns) (p : acceptance c ≡ Accepted) where
   pub answers-closed : answersOf m (closed c) ≡ answersOf m c
   unfolding answersOf
   answers-closed = ap₂ (λ (H : Hypergraph) (own : ℕ → ℕ). best-first (algebra m) H own) same-hypergraph (λ i e. same-edge e i .own)
+
+  -- the closed columns, filled into lent ones and read back from their start
+  pub filled-back : (h o s t : List ℕ) → columnsRead (headerFor m (closed c)) (filledWith (closed c) m h o s t) ≡ closed c
+  filled-back h o s t =
+      let u = table-accepted (closed c) (closed-accepted m c p) in
+      let z = closed c in
+      let spans = take-filled (z .spans) s (2 * length (z .heads)) (u .spans) in
+      let tails = take-filled (z .tails) t (length (z .tails)) refl in
+      λ i. columns (z .vertices) (take-filled (z .heads) h (length (z .heads)) refl i) (take-filled (z .own) o (length (z .heads)) (u .own) i) (spans i) (tails i)

@@ -1,10 +1,10 @@
 -- What an output is: it fits its room; a table that was read is settled, so the one refusal of a text is its own; and the text of an accepted table gives the
 -- list of its answers. The paper's "A table priced whole". Assumes nothing.
 use Prim.Native.Nat.{ℕ, _+_, _*_, _≤_, _<_}
-use mathlib.Core.Path.{_≡_, refl, sym, _∙_, ap, ap₂, subst}
+use mathlib.Core.Path.{_≡_, refl, sym, _∙_, ap, subst}
 use mathlib.Core.List.{List}
 use native.Mathlib.Omega.{arith}
-use lib.ListN.{length, take, replicate, length-replicate}
+use lib.ListN.{length, replicate, length-replicate}
 use lib.Dec.{ltb}
 use borrow.Author.Tests.{lt-ltb, le-ltb}
 use Rattle.weights.specs.declared.Measure.{Measure}
@@ -15,7 +15,7 @@ use Rattle.refusal.specs.declared.Reading.{Reading}
 use Rattle.refusal.specs.declared.Reading.the-variants as reading
 use Rattle.refusal.specs.Refusals.{placeOf}
 use Rattle.provenance.specs.BestFirst.{Answers, blank}
-use Rattle.columns.specs.Columns.{Columns, columns}
+use Rattle.columns.specs.Columns.{Columns}
 use Rattle.columns.specs.Acceptance.{mostEdges, mostListed, acceptance, lentAcceptance}
 use Rattle.columns.specs.Accepted.{table-accepted, columns-accept}
 use Rattle.settle.specs.Settling.{answersOf, settled}
@@ -27,14 +27,14 @@ use Rattle.text.specs.Digits.{pick-by}
 use Rattle.text.specs.Rows.{closed-accepted, length-heads, length-owns, length-spans, length-tails}
 use Rattle.text.specs.Sound.{sound}
 use Rattle.text.specs.Permitted.{FirstWrong}
-use Rattle.columns.specs.Filled.{filled, take-filled, length-filled}
+use Rattle.columns.specs.Filled.{length-filled}
 use Rattle.reading.specs.Lines.{headerOf}
 use Rattle.readtable.specs.Read.{ReadOutcome, columnsRead, roomFor, readInto}
 use Rattle.roundtrip.specs.RoundTrip.{Room, headerFor, filledWith, held, read-accepted, read-rendered}
 use Rattle.roundtrip.specs.Refused.{unpermitted-is-refused}
 use Rattle.report.specs.Report.{mostInput, mostOutput, list, refusedLine, priced, listedAs, listed, readInput, report}
 use Rattle.report.specs.Pieces.{Lent}
-use Rattle.report.specs.Closed.{answers-closed}
+use Rattle.report.specs.Closed.{answers-closed, filled-back}
 use Rattle.report.specs.Bounds.{answers-ranged, list-most, refused-most, wrong-low}
 
 -- A table that was read ------------------------------------------------------------------------------------------------------------------------
@@ -127,12 +127,7 @@ module _ (m : Measure) (c : Columns) (a : acceptance c ≡ Accepted) where
   rendered = read-rendered m c (zeros mostEdges) (zeros mostEdges) (zeros (2 * mostEdges)) (zeros mostListed) a roomy
 
   columns-back : columnsRead (headerFor m (closed c)) (readInput (render m c)) ≡ closed c
-  columns-back =
-      let t = table-accepted (closed c) (closed-accepted m c a) in
-      let z = closed c in
-      ap (columnsRead (headerFor m z)) rendered
-      ∙ ap₂ (λ (x y : List ℕ). columns (z .vertices) x y (take (2 * length (z .heads)) (filled (z .spans) (zeros (2 * mostEdges)))) (take (length (z .tails)) (filled (z .tails) (zeros mostListed)))) (take-filled (z .heads) (zeros mostEdges) (length (z .heads)) refl) (take-filled (z .own) (zeros mostEdges) (length (z .heads)) (t .own))
-      ∙ ap₂ (λ (x y : List ℕ). columns (z .vertices) (z .heads) (z .own) x y) (take-filled (z .spans) (zeros (2 * mostEdges)) (2 * length (z .heads)) (t .spans)) (take-filled (z .tails) (zeros mostListed) (length (z .tails)) refl)
+  columns-back = ap (columnsRead (headerFor m (closed c))) rendered ∙ filled-back m c a (zeros mostEdges) (zeros mostEdges) (zeros (2 * mostEdges)) (zeros mostListed)
 
   -- of an accepted table whose text is short enough: the list of its best-first answers
   pub report-rendered : length (render m c) ≤ mostInput → report (render m c) ≡ list (answersOf m c) (c .vertices)

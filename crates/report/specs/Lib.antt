@@ -4,3 +4,4 @@ pub mod Bounds
 pub mod Closed
 pub mod Laws
 pub mod Examples
+pub mod Prints

@@ -50,7 +50,7 @@ filledWith c m h o s t = readOutcome (reading.Table (headerFor m c)) (filled (c 
 header-is : (m : Measure) (n : ℕ) (es : List Edge) → headerOf (record { vertices = n; measure = m; edges = es }) ≡ headerFor m (columnsOf n es)
 header-is m n es = ap₂ (λ (a b : ℕ). record { vertices = n; measure = m; edges = a; listed = b }) (sym (length-heads es)) (sym (length-tails es))
 
-roomy : (u : Table) (h o s t : List ℕ) → Room (columnsOf (u .vertices) (u .edges)) h o s t → roomFor (headerOf u) (length h) (length o) (length s) (length t) ≡ true
+pub roomy : (u : Table) (h o s t : List ℕ) → Room (columnsOf (u .vertices) (u .edges)) h o s t → roomFor (headerOf u) (length h) (length o) (length s) (length t) ≡ true
 unfolding roomFor
 roomy u h o s t r =
     let a = length-heads (u .edges) in

@@ -1,0 +1,95 @@
+-- What reading gives, for every text and every four columns: exactly one of three. A permitted text with room for its table is read; a permitted one without is
+-- refused by 15; what is not permitted is refused by 14 at the first wrong line; and a refusal leaves every column as it was. Assumes nothing.
+use mathlib.Core.Path.{_≡_, refl, sym, _∙_, ap, subst}
+use mathlib.Core.Bool.{Bool, true, false}
+use mathlib.Core.List.{List}
+use Prim.Native.Nat.{ℕ, suc, _*_, _≤_}
+use native.Mathlib.Omega.{arith}
+use native.Mathlib.Decide.{decLe}
+use lib.ListN.{length}
+use lib.Dec.{leb}
+use borrow.Author.Tests.{leb-true}
+use Rattle.weights.specs.Choice.{apart, both-true}
+use Rattle.refusal.specs.declared.Refusal.{Refusal}
+use Rattle.refusal.specs.declared.Refusal.the-variants.{Text, TextRoom}
+use Rattle.refusal.specs.declared.Reading.the-variants as reading
+use Rattle.columns.specs.Columns.{Columns}
+use Rattle.columns.specs.Owed.{Owed}
+use Rattle.text.specs.Tables.{Table, total, tableOf, columnsOf, closed}
+use Rattle.text.specs.Render.{Permitted}
+use Rattle.text.specs.Machine.{Parse, Whole, Wrong, parse}
+use Rattle.text.specs.Rows.{length-heads, length-owns, length-spans, length-tails}
+use Rattle.text.specs.Permitted.{permitted-read, read-permitted, wrong-unpermitted, wrong-place, FirstWrong}
+use Rattle.reading.specs.Lines.{headerOf}
+use Rattle.readtable.specs.Read.{readOutcome, roomFor, readInto, readTable}
+use Rattle.roundtrip.specs.RoundTrip.{Room, roomy}
+use Rattle.roundtrip.specs.Refused.{permitted-is-read, refusedAt}
+use Rattle.roundtrip.specs.Reads.{Lent, lent, RightRead, WrongRead, ReadOwes}
+
+roomed : (u : Table) (h o s t : List ℕ) → roomFor (headerOf u) (length h) (length o) (length s) (length t) ≡ true → Room (columnsOf (u .vertices) (u .edges)) h o s t
+unfolding roomFor
+roomed u h o s t e =
+    let a = both-true {a = leb (length (u .edges)) (length h)} e in
+    let b = both-true {a = leb (length (u .edges)) (length o)} (a .1) in
+    let c = both-true {a = leb (2 * length (u .edges)) (length s)} {b = leb (total (u .edges)) (length t)} (b .1) in
+    let p = leb-true (length (u .edges)) (length h) (a .0) in
+    let q = leb-true (length (u .edges)) (length o) (b .0) in
+    let v = leb-true (2 * length (u .edges)) (length s) (c .0) in
+    let w = leb-true (total (u .edges)) (length t) (c .1) in
+    let i = length-heads (u .edges) in
+    let j = length-owns (u .edges) in
+    let k = length-spans 0 (u .edges) in
+    let l = length-tails (u .edges) in
+    record { heads = omega arith; own = omega arith; spans = omega arith; tails = omega arith }
+
+module _ (text h o s t : List ℕ) where
+  -- a permitted text, by the test of its table's room
+  of-table : (p : Permitted text) (b : Bool) → roomFor (headerOf (tableOf (p .measure) (p .table))) (length h) (length o) (length s) (length t) ≡ b
+      → ReadOwes text (lent h o s t) (readTable text h o s t)
+  of-table p true e =
+      let r = roomed (tableOf (p .measure) (p .table)) h o s t e in
+      subst (ReadOwes text (lent h o s t)) (sym (permitted-is-read text h o s t p r)) (Owed.accepted (record { permitted = p; room = r }))
+  of-table p false e =
+      let n : ¬ Room (closed (p .table)) h o s t = λ r. apart (sym e ∙ roomy (tableOf (p .measure) (p .table)) h o s t r) in
+      let q : readTable text h o s t ≡ readOutcome (reading.Refused TextRoom) h o s t = unfold readInto in rw (permitted-read text p, e) in
+      subst (ReadOwes text (lent h o s t)) (sym q) (Owed.refused (WrongRead.room p n))
+
+  pub reads : ReadOwes text (lent h o s t) (readTable text h o s t)
+  reads = go (parse text) refl
+    where
+      go : (P : Parse) → parse text ≡ P → ReadOwes text (lent h o s t) (readTable text h o s t)
+      go (Whole u) e =
+          let p = read-permitted text u e in
+          of-table p (roomFor (headerOf (tableOf (p .measure) (p .table))) (length h) (length o) (length s) (length t)) refl
+      go (Wrong k) e =
+          let q : readTable text h o s t ≡ refusedAt k h o s t = unfold readInto in rw e in
+          subst (ReadOwes text (lent h o s t)) (sym q) (Owed.refused (WrongRead.form k (wrong-unpermitted text k e) (wrong-place text k e)))
+
+-- No two of the three --------------------------------------------------------------------------------------------------------------------------
+
+same-table : {t u : Table} → Whole t ≡ Whole u → t ≡ u
+same-table e = cc
+
+-- a text has one table
+pub permitted-same : (text : List ℕ) (p q : Permitted text) → closed (p .table) ≡ closed (q .table)
+permitted-same text p q = ap (λ (u : Table). columnsOf (u .vertices) (u .edges)) (same-table (sym (permitted-read text p) ∙ permitted-read text q))
+
+-- and one first wrong line
+first-wrong-one : (text : List ℕ) (j k : ℕ) → FirstWrong text j → FirstWrong text k → j ≡ k
+first-wrong-one text j k a b = go (decLe (suc j) k) (decLe (suc k) j)
+  where
+    go : Dec (suc j ≤ k) → Dec (suc k ≤ j) → j ≡ k
+    go (yes h) d = absurd (a .wrong (b .right j (a .counted) h))
+    go (no h) (yes l) = absurd (b .wrong (a .right k (b .counted) l))
+    go (no h) (no l) = omega arith
+
+module _ (text : List ℕ) (l : Lent) where
+  pub read-or-refused : {r : Refusal} → RightRead text l → ¬ WrongRead text l r
+  read-or-refused g (WrongRead.form k n f) = n (g .permitted)
+  read-or-refused g (WrongRead.room p n) = n (subst (λ (c : Columns). Room c (l .heads) (l .own) (l .spans) (l .tails)) (permitted-same text (g .permitted) p) (g .room))
+
+  pub refused-once : {r s : Refusal} → WrongRead text l r → WrongRead text l s → r ≡ s
+  refused-once (WrongRead.form j n f) (WrongRead.form k m g) = ap (λ (i : ℕ). Text (record { 0 = i })) (first-wrong-one text j k f g)
+  refused-once (WrongRead.form j n f) (WrongRead.room p m) = absurd (n p)
+  refused-once (WrongRead.room p n) (WrongRead.form k m g) = absurd (m p)
+  refused-once (WrongRead.room p n) (WrongRead.room q m) = refl
