@@ -6,10 +6,10 @@ use native.Mathlib.Omega.{arith}
 use lib.ListN.{length, length-replicate, getD-replicate}
 use Rattle.weights.specs.declared.Measure.{Measure}
 use Rattle.provenance.specs.BestFirst.{Answers, turns}
-use Rattle.provenance.specs.Existence.{zeros}
+use Rattle.provenance.proofs.Existence.{zeros}
 use Rattle.columns.specs.Columns.{Columns}
 use Rattle.columns.specs.Acceptance.{mostVertices}
-use Rattle.columns.specs.Accepted.{table-accepted}
+use Rattle.columns.proofs.Accepted.{table-accepted}
 use Rattle.offers.specs.Lent.{cell}
 use Rattle.minima.specs.Minima.{none, size}
 use Rattle.queue.specs.Keys.{heavy}

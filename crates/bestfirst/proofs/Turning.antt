@@ -12,19 +12,20 @@ use Rattle.weights.specs.declared.Label.{Label}
 use Rattle.weights.specs.declared.Offer.{Offer}
 use Rattle.weights.specs.declared.Offer.the-variants.{Found}
 use Rattle.weights.specs.Measures.{Algebra, algebra}
-use Rattle.weights.specs.Laws.{lawful}
+use Rattle.weights.proofs.Laws.{lawful}
 use Rattle.refusal.specs.declared.Answer.the-variants.{Accepted}
 use Rattle.provenance.specs.Hypergraph.{Hypergraph}
 use Rattle.provenance.specs.Labelling.{greatest, candidate}
-use Rattle.provenance.specs.BestFirst.{Answers, labels, put, place, next, turn, Next, next-is}
-use Rattle.provenance.specs.Existence.{greatest-at-most}
+use Rattle.provenance.specs.BestFirst.{Answers, labels, put, place, next, turn}
+use Rattle.provenance.proofs.BestFirst.{Next, next-is}
+use Rattle.provenance.proofs.Existence.{greatest-at-most}
 use Rattle.columns.specs.Columns.{Columns, hypergraph}
 use Rattle.columns.specs.Acceptance.{acceptance}
-use Rattle.columns.specs.Accepted.{table-accepted}
+use Rattle.columns.proofs.Accepted.{table-accepted}
 use Rattle.offers.specs.Lent.{cell}
-use Rattle.offers.specs.Laws.{same-table}
+use Rattle.offers.proofs.Usable.{same-table}
 use Rattle.minima.specs.Minima.{none, keys, size, leastFrom, raised}
-use Rattle.minima.specs.Laws.{raised-length}
+use Rattle.minima.proofs.Laws.{raised-length}
 use Rattle.queue.specs.Keys.{heavy, unpacked, Fitting, keyOf}
 use Rattle.queue.proofs.Laws.{least-next, fitting-next, told-nothing, told-found}
 use Rattle.waiting.specs.Lines.{Lines, Offerable, Waking, Rested}

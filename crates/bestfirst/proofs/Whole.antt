@@ -7,15 +7,16 @@ use native.Mathlib.Omega.{arith}
 use lib.ListN.{length}
 use Rattle.weights.specs.declared.Measure.{Measure}
 use Rattle.weights.specs.Measures.{algebra}
-use Rattle.weights.specs.Laws.{lawful}
+use Rattle.weights.proofs.Laws.{lawful}
 use Rattle.refusal.specs.declared.Answer.the-variants.{Accepted}
 use Rattle.provenance.specs.BestFirst.{Answers, turn, turns, best-first}
-use Rattle.provenance.specs.Existence.{Sized, After, after}
+use Rattle.provenance.specs.Existence.{Sized}
+use Rattle.provenance.proofs.Existence.{After, after}
 use Rattle.columns.specs.Columns.{Columns, ownAt, hypergraph}
 use Rattle.columns.specs.Acceptance.{acceptance}
-use Rattle.columns.specs.Accepted.{table-accepted, well-formed}
+use Rattle.columns.proofs.Accepted.{table-accepted, well-formed}
 use Rattle.offers.specs.Lent.{Turning}
-use Rattle.offers.specs.Laws.{same-table, turning-columns}
+use Rattle.offers.proofs.Usable.{same-table, turning-columns}
 use Rattle.waiting.specs.Lines.{Lines}
 use Rattle.bestfirst.specs.Turns.{Waits, Underway}
 

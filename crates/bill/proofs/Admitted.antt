@@ -13,7 +13,7 @@ use Rattle.refusal.specs.declared.Answer.the-variants.{Accepted, Refused}
 use Rattle.provenance.specs.BestFirst.{Answers, labels}
 use Rattle.columns.specs.Columns.{Columns}
 use Rattle.columns.specs.Acceptance.{lentAcceptance}
-use Rattle.columns.specs.Accepted.{columns-accepted}
+use Rattle.columns.proofs.Accepted.{columns-accepted}
 use Rattle.columns.specs.Same.{same}
 use Rattle.settle.specs.Settling.{answersOf}
 use Rattle.bill.specs.Billing.{partAcceptance}

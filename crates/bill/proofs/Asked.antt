@@ -18,7 +18,7 @@ use Rattle.provenance.specs.Hypergraph.{depth}
 use Rattle.provenance.specs.BestFirst.{Answers, labels}
 use Rattle.columns.specs.Columns.{Columns}
 use Rattle.columns.specs.Acceptance.{test, lentAcceptance}
-use Rattle.columns.specs.Accepted.{test-passed, both-accepted}
+use Rattle.columns.proofs.Accepted.{test-passed, both-accepted}
 use Rattle.columns.specs.Owed.{Owed}
 use Rattle.columns.specs.Same.{same}
 use Rattle.columns.proofs.Exactly.{lent-exactly, lent-refused-exactly}

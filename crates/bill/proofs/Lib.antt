@@ -4,3 +4,5 @@ pub mod Admitted
 pub mod Printed
 pub mod Asked
 pub mod Rises
+pub mod Listing
+pub mod Bills

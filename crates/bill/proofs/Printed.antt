@@ -8,7 +8,7 @@ use lib.ListN.{length, getD}
 use borrow.Author.Tests.{ltb-true, le-leb, lt-leb}
 use Rattle.weights.specs.declared.Measure.{Measure}
 use Rattle.weights.specs.declared.Label.{Label}
-use Rattle.weights.specs.Choice.{both-true}
+use Rattle.weights.proofs.Choice.{both-true}
 use Rattle.weights.specs.Measures.{algebra}
 use Rattle.refusal.specs.declared.Refusal.{Refusal}
 use Rattle.refusal.specs.declared.Refusal.the-variants.{BillRoom}
@@ -19,11 +19,11 @@ use Rattle.provenance.specs.BestFirst.{Answers, labels}
 use Rattle.provenance.specs.Support.{bills, bill}
 use Rattle.columns.specs.Columns.{Columns, ownAt, tailAt, hypergraph}
 use Rattle.columns.specs.Acceptance.{allBelow}
-use Rattle.columns.specs.Accepted.{AcceptedColumns, table-accepted}
+use Rattle.columns.proofs.Accepted.{AcceptedColumns, table-accepted}
 use Rattle.bill.specs.declared.Budget.the-variants.{Left, Spent}
 use Rattle.bill.specs.Walk.{vertexBill, Each, Grounded, VertexFits, Written, spend}
 use Rattle.bill.specs.Billing.{billOf, partAcceptance, billAcceptance, printed, billed}
-use Rattle.bill.specs.Bills.{AcceptedPart, part-accepted}
+use Rattle.bill.proofs.Bills.{AcceptedPart, part-accepted}
 use Rattle.bill.proofs.Walks.{is-spent, is-left}
 
 module _ (c : Columns) (a : Answers) where

@@ -9,7 +9,7 @@ use Rattle.weights.specs.Labels.{entryOf}
 use Rattle.weights.proofs.States.{made-state}
 use Rattle.provenance.specs.Hypergraph.{listing}
 use Rattle.provenance.specs.Labelling.{Made}
-use Rattle.provenance.specs.Support.{follows-bill}
+use Rattle.provenance.proofs.Support.{follows-bill}
 use Rattle.provenance.specs.Counting.{count}
 use Rattle.columns.specs.Columns.{Columns}
 use Rattle.settle.specs.Demands.{Demand2}

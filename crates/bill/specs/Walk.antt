@@ -10,9 +10,8 @@ use Rattle.weights.specs.Choice.{pick}
 use Rattle.provenance.specs.Hypergraph.{Hypergraph}
 use Rattle.provenance.specs.BestFirst.{labels}
 use Rattle.provenance.specs.Support.{bills, bill}
-use Rattle.columns.specs.Columns.{columns, answers, hypergraph}
+use Rattle.columns.specs.Columns.{columns, answers, hypergraph, tailOf}
 use Rattle.columns.specs.Acceptance.{longestTail}
-use Rattle.columns.specs.Columns.{tailOf}
 use Rattle.bill.specs.declared.Budget.{Budget}
 use Rattle.bill.specs.declared.Budget.the-variants.{Left, Spent}
 

@@ -18,7 +18,7 @@ use Rattle.refusal.specs.declared.Answer.the-variants.{Accepted, Refused}
 use Rattle.provenance.specs.BestFirst.{Answers}
 use Rattle.columns.specs.Columns.{Columns, headAt, ownAt, offsetAt, lengthAt, part, tailAt}
 use Rattle.columns.specs.Acceptance.{mostVertices, mostEdges, mostListed, longestTail, test, allBelow, edgeAcceptance, edgeAt, edgesAcceptance, acceptance, lentAcceptance}
-use Rattle.columns.specs.Accepted.{both-accepted, below-at, below-all, edge-accepted, edge-accepts, table-accepted, columns-accepted, columns-accept}
+use Rattle.columns.proofs.Accepted.{both-accepted, below-at, below-all, edge-accepted, edge-accepts, table-accepted, columns-accepted, columns-accept}
 use Rattle.columns.specs.Right.{Few, Level, endBefore, RightHead, RightOwn, RightSpan, RightTail, RightEdge, RightTable, WrongEdge, FirstWrong, WrongTable, RightLent, WrongLent}
 use Rattle.columns.proofs.Refuses.{Refuses, none-refuses, test-refuses, then-refuses}
 

@@ -15,7 +15,7 @@ use Rattle.refusal.specs.declared.Answer.the-variants.{Accepted}
 use Rattle.provenance.specs.BestFirst.{Answers}
 use Rattle.columns.specs.Columns.{Columns, headAt, ownAt, offsetAt, lengthAt, part, tailOf, tailAt, hypergraph}
 use Rattle.columns.specs.Acceptance.{longestTail, test, andThen, allBelow, edgeAcceptance, edgeAt, edgesAcceptance, acceptance, lentAcceptance}
-use Rattle.columns.specs.Accepted.{table-accepted}
+use Rattle.columns.proofs.Accepted.{table-accepted}
 use Rattle.columns.specs.Gaps.{Gapped, withTails}
 
 -- parts of two columns of one length that agree place for place

@@ -5,7 +5,7 @@ use Rattle.refusal.specs.declared.Refusal.{Refusal}
 use Rattle.refusal.specs.declared.Answer.{Answer}
 use Rattle.refusal.specs.declared.Answer.the-variants.{Accepted, Refused}
 use Rattle.columns.specs.Acceptance.{test, andThen}
-use Rattle.columns.specs.Accepted.{refused}
+use Rattle.columns.proofs.Accepted.{refused}
 
 pub same-refusal : {r s : Refusal} → Refused r ≡ Refused s → r ≡ s
 same-refusal e = cc

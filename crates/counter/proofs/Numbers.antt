@@ -10,7 +10,8 @@ use lib.Dec.{eqb}
 use borrow.Author.Tests.{eqb-true}
 use Rattle.weights.specs.declared.Measure.{Measure}
 use Rattle.weights.specs.declared.Measure.the-variants.{Cost, Days}
-use Rattle.weights.specs.Choice.{pick, apart}
+use Rattle.weights.specs.Choice.{pick}
+use Rattle.weights.proofs.Choice.{apart}
 use Rattle.weights.specs.Figures.{greatest, struck}
 use Rattle.weights.specs.Labels.{aheadOf}
 use Rattle.weights.specs.Measures.{fold, weigh}
@@ -32,7 +33,7 @@ use Rattle.columns.specs.Right.{WrongEdge, WrongTable, WrongLent}
 use Rattle.columns.specs.Same.{equal, same}
 use Rattle.columns.proofs.Exactly.{lent-refused-exactly}
 use Rattle.settle.specs.Settling.{answersOf, settled}
-use Rattle.settle.specs.Demands.{settled-result}
+use Rattle.settle.proofs.Demands.{settled-result}
 use Rattle.reprice.specs.Repricing.{lineAcceptance, repriceAcceptance, repriced}
 use Rattle.reprice.specs.Changes.{WrongChange}
 use Rattle.reprice.proofs.Changes.{reprice-refused-exactly, repriced-result}

@@ -1,4 +1,3 @@
 pub mod Decoded
-pub mod Places
 pub mod Results
 pub mod Numbers

@@ -1,5 +1,5 @@
 -- A list is printed only of an input that was read to its end. Assumes nothing.
-use Prim.Native.Nat.{ℕ, _+_}
+use Prim.Native.Nat.{ℕ}
 use mathlib.Core.Path.{_≡_, refl, ap}
 use mathlib.Core.List.{List}
 use mathlib.Core.Logic.{_⊎_, inl, inr}
@@ -9,8 +9,8 @@ use native.Mathlib.Omega.{arith}
 use Rattle.refusal.specs.declared.Refusal.the-variants.{Text, InputLength}
 use Rattle.text.specs.Render.{digitsOn, digits}
 use Rattle.report.specs.Report.{refusedWord, refusedLine, report}
-use Rattle.report.specs.Laws.{report-long}
-use Rattle.report.specs.Examples.{empty-refused}
+use Rattle.report.proofs.Reports.{report-long}
+use Rattle.report.proofs.Examples.{empty-refused}
 use Rattle.input.specs.Input.{bufferLength, Ended}
 use Rattle.listing.specs.Printed.{printed}
 

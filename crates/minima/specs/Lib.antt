@@ -1,2 +1,1 @@
 pub mod Minima
-pub mod Laws

@@ -1,9 +1,7 @@
 pub mod Hypergraph
 pub mod Labelling
 pub mod Means
-pub mod LowerBound
 pub mod Support
-pub mod Meaning
 pub mod BestFirst
 pub mod Existence
 pub mod Semirings

@@ -19,9 +19,9 @@ use Rattle.weights.specs.Measures.{Algebra, algebra, fold, weigh}
 use Rattle.provenance.specs.Hypergraph.{Hypergraph}
 use Rattle.provenance.specs.Labelling.{each, greatest, noneZero, yield, offerOf}
 use Rattle.provenance.specs.BestFirst.{opening, next}
-use Rattle.provenance.specs.Existence.{greatest-at-most}
+use Rattle.provenance.proofs.Existence.{greatest-at-most}
 use Rattle.minima.specs.Minima.{none, keys, leastFrom, Grouped, lowered}
-use Rattle.minima.specs.Laws.{least-at-most, least-lower, least-greatest, lowered-same, lowered-other, lowered-grouped}
+use Rattle.minima.proofs.Laws.{least-at-most, least-lower, least-greatest, lowered-same, lowered-other, lowered-grouped}
 use Rattle.queue.specs.Keys.{heavy, packed, unpacked, Fits, Fitting, nothing, found, keyOf}
 use Rattle.queue.proofs.Packing.{unpacked-packed, below-none, key-earlier, fitting-earlier}
 use Rattle.queue.specs.Queue.{leastWith, offered, keyAt, Queued, Fitted}

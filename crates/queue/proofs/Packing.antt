@@ -14,8 +14,10 @@ use Rattle.weights.specs.declared.Offer.the-variants.{Found}
 use Rattle.weights.specs.Measures.{algebra}
 use Rattle.weights.specs.Choice.{pick}
 use Rattle.weights.specs.Labels.{aheadOf}
-use Rattle.weights.specs.Laws.{NoWorse, at-most, least, lawful}
-use Rattle.weights.specs.Order.{Ahead, Ranked, ahead, behind, ranked}
+use Rattle.weights.specs.Laws.{NoWorse}
+use Rattle.weights.proofs.Laws.{at-most, least, lawful}
+use Rattle.weights.specs.Order.{Ahead, Ranked, ahead, behind}
+use Rattle.weights.proofs.Order.{ranked}
 use Rattle.provenance.specs.BestFirst.{earlier}
 use Rattle.minima.specs.Minima.{none}
 use Rattle.queue.specs.Keys.{packed, unpacked, Fits, Fitting, nothing, found, keyOf}

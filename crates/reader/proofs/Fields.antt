@@ -16,7 +16,7 @@ use Rattle.weights.specs.Choice.{pick}
 use Rattle.columns.specs.Acceptance.{mostVertices}
 use Rattle.text.specs.Render.{digits, default, spoken, word, opening, measureText, header, ownText}
 use Rattle.text.specs.Machine.{digitOf}
-use Rattle.text.specs.Digits.{pick-by, digits-one, digits-more, by-digits, digit-byte, byte-digit}
+use Rattle.text.proofs.Digits.{pick-by, digits-one, digits-more, by-digits, digit-byte, byte-digit}
 use Rattle.cursor.specs.declared.Found.{Found}
 use Rattle.cursor.specs.declared.Found.the-variants.{Number, NotANumber}
 use Rattle.cursor.specs.declared.FoundWeight.{FoundWeight}
@@ -24,7 +24,7 @@ use Rattle.cursor.specs.declared.FoundWeight.the-variants.{Own, NotAWeight}
 use Rattle.cursor.specs.declared.Separator.{Separator}
 use Rattle.cursor.specs.declared.Separator.the-variants.{Space, LineEnd, Neither}
 use Rattle.cursor.specs.Cursor.{digitsFrom, numberOf, numberAt, asWeight, weightAt, separatorAt}
-use Rattle.cursor.specs.Laws.{byte-within, number-counts}
+use Rattle.cursor.proofs.Counts.{byte-within, number-counts}
 use Rattle.reading.specs.declared.FirstLine.{FirstLine}
 use Rattle.reading.specs.declared.FirstLine.the-variants as first
 use Rattle.reading.specs.Lines.{startsWith, onCount, firstLine}

@@ -9,13 +9,14 @@ use lib.ListN.{length, drop, length-append, length-drop, drop-of-length-le}
 use lib.Seq.{drop-append-seam}
 use borrow.Author.Tests.{lt-ltb, le-leb, lt-leb, leb-true}
 use Rattle.columns.specs.Acceptance.{longestTail, allBelow}
-use Rattle.columns.specs.Accepted.{below-at}
+use Rattle.columns.proofs.Accepted.{below-at}
 use Rattle.text.specs.Tables.{Edge, Table, tableOf}
 use Rattle.text.specs.Render.{digits, header, ownText, tailText, edgeText, edgesText, tableText, Permitted}
 use Rattle.text.specs.Machine.{digitOf}
-use Rattle.text.specs.Rows.{EdgeFits, All, none, one, accepted-fits}
-use Rattle.text.specs.Permitted.{table-permitted}
-use Rattle.cursor.specs.Laws.{number-counts, weight-counts}
+use Rattle.text.specs.Rows.{EdgeFits, All, none, one}
+use Rattle.text.proofs.Rows.{accepted-fits}
+use Rattle.text.proofs.Permitted.{table-permitted}
+use Rattle.cursor.proofs.Counts.{number-counts, weight-counts}
 use Rattle.reader.specs.Walk.{Parts, no-part, part, Line, Lines, no-line, line, Walks, EdgeFormed, Formed, Counted}
 use Rattle.reader.proofs.Fields.{behind, space-text, end-text, space-found, end-found, number-text, Stops, number-found, weight-text, weight-found, first-text, first-found}
 

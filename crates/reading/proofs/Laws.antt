@@ -16,7 +16,8 @@ use Rattle.refusal.specs.declared.Reading.the-variants as reading
 use Rattle.columns.specs.Acceptance.{mostVertices, mostEdges, mostListed, longestTail}
 use Rattle.text.specs.Machine.{Parse, Whole, Wrong, parse}
 use Rattle.text.specs.Render.{default, spoken, word, opening}
-use Rattle.columns.specs.Filled.{filled, filled-none, filled-set}
+use Rattle.columns.specs.Filled.{filled}
+use Rattle.columns.proofs.Filled.{filled-none, filled-set}
 use Rattle.cursor.specs.declared.Found.{Found}
 use Rattle.cursor.specs.declared.Found.the-variants.{Number, NotANumber}
 use Rattle.cursor.specs.Cursor.{numberAt, weightAt}
@@ -27,8 +28,8 @@ use Rattle.reading.specs.declared.Line.the-variants as line
 use Rattle.reading.specs.declared.Tail.{Tail}
 use Rattle.reading.specs.declared.Tail.the-variants as tail
 use Rattle.reading.specs.Lines.{startsWith, onCount, firstLine, onOwn, onHead, stemAt, Listing, Ends, Breaks, listEnd, listing, vertices, tailOf, ReadsTail, Row, Fails, onListing, onStem, rowAt, stored, lineOf, ReadsLine, scan, readingOf}
-use Rattle.reading.specs.Scanned.{scan-is-parse}
-use Rattle.reading.specs.Scanning.{row-counts, tells, fails, Scanning, scan-end, scan-fails, scan-next}
+use Rattle.reading.proofs.Scanned.{scan-is-parse}
+use Rattle.reading.proofs.Scanning.{row-counts, tells, fails, Scanning, scan-end, scan-fails, scan-next}
 
 -- of a word and a text from place i on: a byte that is the same, one that is not, the text's end, the word's end
 module _ (w s : List ℕ) (i : ℕ) where

@@ -21,9 +21,10 @@ use Rattle.refusal.specs.declared.Reading.the-variants as reading
 use Rattle.columns.specs.Acceptance.{mostEdges, mostListed, longestTail}
 use Rattle.text.specs.Tables.{Edge, edge, Table, total, headsOf, ownsOf, spansFrom, tailsOf}
 use Rattle.text.specs.Machine.{withEdge, mayList, Parse, Whole, Wrong, parse}
-use Rattle.text.specs.Rows.{total-snoc, heads-append, owns-append, spans-append, tails-append, length-heads, length-owns, length-spans, length-tails}
-use Rattle.text.specs.Sound.{never}
-use Rattle.columns.specs.Filled.{filled, filled-none, filled-set, filled-part, length-filled, part-whole, part-back}
+use Rattle.text.proofs.Rows.{total-snoc, heads-append, owns-append, spans-append, tails-append, length-heads, length-owns, length-spans, length-tails}
+use Rattle.text.proofs.Sound.{never}
+use Rattle.columns.specs.Filled.{filled}
+use Rattle.columns.proofs.Filled.{filled-none, filled-set, filled-part, length-filled, part-whole, part-back}
 use Rattle.cursor.specs.declared.Found.{Found}
 use Rattle.cursor.specs.declared.Found.the-variants.{Number, NotANumber}
 use Rattle.cursor.specs.Cursor.{numberAt}
@@ -32,8 +33,8 @@ use Rattle.reading.specs.declared.Stem.the-variants as stem
 use Rattle.reading.specs.declared.Line.{Line}
 use Rattle.reading.specs.declared.Line.the-variants as line
 use Rattle.reading.specs.Lines.{stemAt, Listing, Ends, Breaks, listEnd, onVertex, listing, Row, Holds, Fails, onListing, onStem, rowAt, stored, lineOf, ReadsLine, onRow, scanFrom, scan, headerOf, readingOf}
-use Rattle.reading.specs.Scanned.{scan-is-parse}
-use Rattle.reading.specs.Scanning.{row-counts, tells, Scanning, scan-full, scan-end, scan-fails, scan-next, scan-next-edges}
+use Rattle.reading.proofs.Scanned.{scan-is-parse}
+use Rattle.reading.proofs.Scanning.{row-counts, tells, Scanning, scan-full, scan-end, scan-fails, scan-next, scan-next-edges}
 use Rattle.readtable.specs.Read.{readOutcome, roomFor, readInto, readTable, edgesIn, Ready, Fills}
 
 -- a test of a definition, from the fact that a branch gives: `search tests` at a return

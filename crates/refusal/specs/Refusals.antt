@@ -1,13 +1,11 @@
 -- What a refusal's number and place are, and the one number that a caller in C gets. The paper's table of refusals, and "The calls" for C.
 -- Assumes nothing: these are definitions, and the law `exact` of one of them.
-use mathlib.Core.Path.{_≡_}
 use lib.Dec.{eqb}
 use Rattle.weights.specs.declared.Measure.the-variants.{Cost, Days}
 use Rattle.weights.specs.Choice.{pick}
 use Rattle.refusal.specs.declared.MeasureChoice.{MeasureChoice}
 use Rattle.refusal.specs.declared.MeasureChoice.the-variants as choice
-use Prim.Native.Nat.{ℕ, _+_, _*_, _≤_, min}
-use native.Mathlib.Omega.{arith}
+use Prim.Native.Nat.{ℕ, _+_, _*_, min}
 use Rattle.refusal.specs.declared.Refusal.{Refusal}
 use Rattle.refusal.specs.declared.Refusal.the-variants.{TooManyVertices, Lengths, Head, Own, Span, Tail, AnswerLength, WrongAnswers, NoSuchEdge, NewWeight, NoSuchVertex, Underivable, BillRoom, Text, TextRoom, MeasureNumber, InputLength}
 use Rattle.refusal.specs.declared.Code.{Code}
@@ -57,29 +55,6 @@ lastPlace = 4_294_967_295
 -- in C: the number times 2^32, plus the place. A table has at most 4,096 lines, so no place of a call is cut: `exact`
 abbrev pub resultOf : Code → ℕ
 resultOf c = c .number * 4_294_967_296 + min (c .place) lastPlace
-
-pub exact : (c : Code) → c .place ≤ lastPlace → resultOf c ≡ c .number * 4_294_967_296 + c .place
-exact c h = omega arith
-
--- there are seventeen, numbered from 1
-pub numbered : (r : Refusal) → (1 ≤ numberOf r) × (numberOf r ≤ 17)
-numbered TooManyVertices = omega arith
-numbered Lengths = omega arith
-numbered (Head e) = omega arith
-numbered (Own e) = omega arith
-numbered (Span e) = omega arith
-numbered (Tail e) = omega arith
-numbered AnswerLength = omega arith
-numbered WrongAnswers = omega arith
-numbered NoSuchEdge = omega arith
-numbered NewWeight = omega arith
-numbered NoSuchVertex = omega arith
-numbered Underivable = omega arith
-numbered BillRoom = omega arith
-numbered (Text line) = omega arith
-numbered TextRoom = omega arith
-numbered MeasureNumber = omega arith
-numbered InputLength = omega arith
 
 -- in C: 0 on acceptance; 1 for yes, 0 for no; a length as it is
 abbrev pub answerResult : Answer → ℕ

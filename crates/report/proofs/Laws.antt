@@ -17,15 +17,16 @@ use Rattle.refusal.specs.declared.Reading.the-variants as reading
 use Rattle.provenance.specs.BestFirst.{Answers, labels, blank}
 use Rattle.columns.specs.Columns.{Columns, answers}
 use Rattle.columns.specs.Acceptance.{mostVertices, lentAcceptance}
-use Rattle.columns.specs.Accepted.{columns-accepted}
+use Rattle.columns.proofs.Accepted.{columns-accepted}
 use Rattle.settle.specs.Settling.{Outcome, settled}
-use Rattle.settle.specs.Demands.{answers-sized, settled-result, settled-left}
+use Rattle.settle.proofs.Demands.{answers-sized, settled-result, settled-left}
 use Rattle.columns.specs.Filled.{filled}
 use Rattle.readtable.specs.Read.{ReadOutcome, readOutcome}
-use Rattle.writing.specs.Written.{Written, lent, lent-room, within, written-part, written-as}
+use Rattle.writing.specs.Written.{Written}
+use Rattle.writing.proofs.Written.{lent, lent-room, within, written-part, written-as}
 use Rattle.report.specs.Report.{mostInput, mostOutput, row, rows, list, refusedLine, pricedAs, priced, listedAs, listed, readInput, report}
 use Rattle.report.specs.Pieces.{Lent, lentColumns}
-use Rattle.report.specs.Laws.{report-short, report-fits, input-lent}
+use Rattle.report.proofs.Reports.{report-short, report-fits, input-lent}
 
 rows-next : (a : Answers) (i : ℕ) → rows a (i + 1) ≡ rows a i ++ row i (entryOf (labels a i))
 unfolding rows

@@ -11,13 +11,14 @@ use Rattle.columns.specs.Columns.{Columns}
 use Rattle.settle.specs.Settling.{answersOf}
 use Rattle.text.specs.Tables.{closed}
 use Rattle.text.specs.Machine.{Parse, Whole, Wrong, parse}
-use Rattle.text.specs.Permitted.{read-permitted, wrong-unpermitted}
+use Rattle.text.proofs.Permitted.{read-permitted, wrong-unpermitted}
 use Rattle.readtable.specs.Read.{ReadOutcome, columnsRead, readTable}
 use Rattle.writetable.specs.Write.{writeTable}
-use Rattle.roundtrip.specs.RoundTrip.{Room, headerFor, written, read-after-write}
+use Rattle.roundtrip.specs.RoundTrip.{Room, headerFor}
+use Rattle.roundtrip.proofs.RoundTrip.{written, read-after-write}
 use Rattle.report.specs.Report.{mostInput, report}
-use Rattle.report.specs.Closed.{answers-closed, filled-back}
-use Rattle.report.specs.Laws.{report-long, report-rendered, report-unpermitted}
+use Rattle.report.proofs.Closed.{answers-closed, filled-back}
+use Rattle.report.proofs.Reports.{report-long, report-rendered, report-unpermitted}
 use Rattle.report.specs.Prints.{Prints, ReadsBack}
 
 short-prints : (input : List ℕ) → length input ≤ mostInput → (P : Parse) → parse input ≡ P → Prints input (report input)

@@ -1,31 +1,6 @@
 -- The paper's worked text and its list, byte for byte, in cost and in days; and the empty input. The paper's "A table priced whole". Assumes nothing.
-use Prim.Native.Nat.{ℕ, _≤_}
-use mathlib.Core.Path.{_≡_, refl, sym, _∙_, ap}
+use Prim.Native.Nat.{ℕ}
 use mathlib.Core.List.{List, [], _∷_}
-use native.Mathlib.Omega.{arith}
-use lib.ListN.{length}
-use Rattle.weights.specs.declared.Measure.the-variants.{Cost, Days}
-use Rattle.weights.specs.Measures.{fold, weigh}
-use Rattle.weights.specs.Labels.{aheadOf}
-use Rattle.refusal.specs.declared.Answer.the-variants.{Accepted}
-use Rattle.provenance.specs.Labelling.{each, greatest, noneZero, offerOf}
-use Rattle.provenance.specs.BestFirst.{opening, next, turn, turns, best-first}
-use Rattle.columns.specs.Columns.{Columns, columns}
-use Rattle.columns.specs.Acceptance.{allBelow, edgeAcceptance, edgesAcceptance, acceptance}
-use Rattle.settle.specs.Settling.{answersOf}
-use Rattle.text.specs.Tables.{edgesFrom}
-use Rattle.text.specs.Render.{digitsOn, digits, word, opening as opened, measureText, header, ownText, tailText, edgeText, edgesText, tableText, render}
-use Rattle.text.specs.Machine.{run, finish, parse}
-use Rattle.readtable.specs.Read.{readInto}
-use Rattle.report.specs.Report.{mostInput, names, stateWord, row, rows, list, refusedWord, refusedLine, listedAs, readInput, report}
-use Rattle.report.specs.Laws.{report-short, report-rendered}
-
-worked : Columns
-worked = columns 5 (0 ∷ 1 ∷ 2 ∷ 2 ∷ 3 ∷ 4 ∷ []) (1200 ∷ 300 ∷ 500 ∷ 2100 ∷ 0 ∷ 10 ∷ []) (0 ∷ 0 ∷ 0 ∷ 0 ∷ 0 ∷ 2 ∷ 2 ∷ 0 ∷ 2 ∷ 3 ∷ 5 ∷ 1 ∷ []) (0 ∷ 1 ∷ 2 ∷ 1 ∷ 1 ∷ 4 ∷ [])
-
-accepted : acceptance worked ≡ Accepted
-unfolding worked allBelow edgeAcceptance edgesAcceptance acceptance
-accepted = refl
 
 -- the paper's text
 unfoldable pub costText : List ℕ
@@ -38,10 +13,6 @@ costText =
     ∷ 51 ∷ 32 ∷ 48 ∷ 32 ∷ 50 ∷ 32 ∷ 49 ∷ 32 ∷ 49 ∷ 10
     ∷ 52 ∷ 32 ∷ 49 ∷ 48 ∷ 32 ∷ 52 ∷ 10 ∷ []
 
-rendered-cost : render Cost worked ≡ costText
-unfolding worked costText edgesFrom digitsOn digits word opened measureText header ownText tailText edgeText edgesText tableText
-rendered-cost = refl
-
 -- the paper's list
 unfoldable pub costList : List ℕ
 costList =
@@ -51,16 +22,6 @@ costList =
     ∷ 50 ∷ 32 ∷ 109 ∷ 97 ∷ 100 ∷ 101 ∷ 32 ∷ 50 ∷ 48 ∷ 48 ∷ 48 ∷ 32 ∷ 50 ∷ 32 ∷ 50 ∷ 10
     ∷ 51 ∷ 32 ∷ 109 ∷ 97 ∷ 100 ∷ 101 ∷ 32 ∷ 50 ∷ 54 ∷ 48 ∷ 48 ∷ 32 ∷ 51 ∷ 32 ∷ 52 ∷ 10
     ∷ 52 ∷ 32 ∷ 117 ∷ 110 ∷ 109 ∷ 97 ∷ 100 ∷ 101 ∷ 32 ∷ 48 ∷ 32 ∷ 48 ∷ 32 ∷ 48 ∷ 10 ∷ []
-
-listed-cost : list (answersOf Cost worked) 5 ≡ costList
-unfolding worked costList fold weigh aheadOf each greatest noneZero offerOf opening next turn turns best-first answersOf digitsOn digits names stateWord row rows list
-listed-cost = refl
-
-pub worked-cost : report costText ≡ costList
-unfolding worked costText
-worked-cost =
-    let s : length (render Cost worked) ≤ mostInput = let e = ap length rendered-cost in omega arith in
-    ap report (sym rendered-cost) ∙ report-rendered Cost worked accepted s ∙ listed-cost
 
 -- the same table in days
 unfoldable pub daysText : List ℕ
@@ -73,10 +34,6 @@ daysText =
     ∷ 51 ∷ 32 ∷ 48 ∷ 32 ∷ 50 ∷ 32 ∷ 49 ∷ 32 ∷ 49 ∷ 10
     ∷ 52 ∷ 32 ∷ 49 ∷ 48 ∷ 32 ∷ 52 ∷ 10 ∷ []
 
-rendered-days : render Days worked ≡ daysText
-unfolding worked daysText edgesFrom digitsOn digits word opened measureText header ownText tailText edgeText edgesText tableText
-rendered-days = refl
-
 -- and its list
 unfoldable pub daysList : List ℕ
 daysList =
@@ -86,18 +43,3 @@ daysList =
     ∷ 50 ∷ 32 ∷ 109 ∷ 97 ∷ 100 ∷ 101 ∷ 32 ∷ 49 ∷ 50 ∷ 48 ∷ 48 ∷ 32 ∷ 50 ∷ 32 ∷ 50 ∷ 10
     ∷ 51 ∷ 32 ∷ 109 ∷ 97 ∷ 100 ∷ 101 ∷ 32 ∷ 49 ∷ 50 ∷ 48 ∷ 48 ∷ 32 ∷ 51 ∷ 32 ∷ 52 ∷ 10
     ∷ 52 ∷ 32 ∷ 117 ∷ 110 ∷ 109 ∷ 97 ∷ 100 ∷ 101 ∷ 32 ∷ 48 ∷ 32 ∷ 48 ∷ 32 ∷ 48 ∷ 10 ∷ []
-
-listed-days : list (answersOf Days worked) 5 ≡ daysList
-unfolding worked daysList fold weigh aheadOf each greatest noneZero offerOf opening next turn turns best-first answersOf digitsOn digits names stateWord row rows list
-listed-days = refl
-
-pub worked-days : report daysText ≡ daysList
-unfolding worked daysText
-worked-days =
-    let s : length (render Days worked) ≤ mostInput = let e = ap length rendered-days in omega arith in
-    ap report (sym rendered-days) ∙ report-rendered Days worked accepted s ∙ listed-days
-
--- no byte: `refused 14 1`
-pub empty-refused : report [] ≡ 114 ∷ 101 ∷ 102 ∷ 117 ∷ 115 ∷ 101 ∷ 100 ∷ 32 ∷ 49 ∷ 52 ∷ 32 ∷ 49 ∷ 10 ∷ []
-unfolding run finish parse readInto readInput listedAs digitsOn digits refusedWord refusedLine
-empty-refused = report-short [] (omega arith)

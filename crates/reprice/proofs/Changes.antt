@@ -9,7 +9,7 @@ use lib.ListN.{length}
 use lib.Dec.{ltb, leb}
 use borrow.Author.Tests.{ltb-true, leb-true, leb-false, eqb-false, lt-ltb, ne-eqb, not-true}
 use Rattle.weights.specs.declared.Measure.{Measure}
-use Rattle.weights.specs.Choice.{both-true}
+use Rattle.weights.proofs.Choice.{both-true}
 use Rattle.weights.specs.Figures.{greatest, struck, isStruck}
 use Rattle.refusal.specs.declared.Refusal.{Refusal}
 use Rattle.refusal.specs.declared.Refusal.the-variants.{WrongAnswers, NoSuchEdge, NewWeight}
@@ -18,14 +18,14 @@ use Rattle.refusal.specs.declared.Answer.the-variants.{Accepted, Refused}
 use Rattle.provenance.specs.BestFirst.{Answers}
 use Rattle.columns.specs.Columns.{Columns, ownAt, withOwn}
 use Rattle.columns.specs.Acceptance.{test, andThen, lentAcceptance}
-use Rattle.columns.specs.Accepted.{refused, test-passed, both-accepted, columns-accepted, columns-accept}
+use Rattle.columns.proofs.Accepted.{refused, test-passed, both-accepted, columns-accepted, columns-accept}
 use Rattle.columns.specs.Owed.{Owed}
-use Rattle.columns.specs.Repriced.{acceptance-kept}
+use Rattle.columns.proofs.Repriced.{acceptance-kept}
 use Rattle.columns.specs.Same.{same}
 use Rattle.columns.proofs.Exactly.{lent-exactly, lent-refused-exactly}
 use Rattle.columns.proofs.Refuses.{Refuses, none-refuses, test-refuses, then-refuses}
 use Rattle.settle.specs.Settling.{answersOf}
-use Rattle.settle.specs.Demands.{answers-mean, answers-sized}
+use Rattle.settle.proofs.Demands.{answers-mean, answers-sized}
 use Rattle.settle.proofs.Exactly.{same-exactly, same-fails, yes-exactly}
 use Rattle.settle.proofs.States.{answers-state}
 use Rattle.reprice.specs.Repricing.{stands, lineAcceptance, answersAcceptance, repriceAcceptance, strikeAcceptance, Change, changed, repriced, stricken}

@@ -16,22 +16,23 @@ use Rattle.weights.specs.declared.Label.{Label}
 use Rattle.weights.specs.Figures.{greatest, over, isStruck}
 use Rattle.weights.specs.Measures.{algebra, cost}
 use Rattle.weights.specs.Labels.{entryOf}
-use Rattle.weights.specs.Laws.{lawful, cost-lawful, below-over}
+use Rattle.weights.proofs.Laws.{lawful, cost-lawful, below-over}
 use Rattle.refusal.specs.declared.Answer.the-variants.{Accepted}
 use Rattle.provenance.specs.Hypergraph.{Hypergraph, Derivation, listing}
 use Rattle.provenance.specs.Labelling.{Made, Fixpoint}
 use Rattle.provenance.specs.Means.{Follows}
 use Rattle.provenance.specs.BestFirst.{Answers}
-use Rattle.provenance.specs.Existence.{label-within}
+use Rattle.provenance.proofs.Existence.{label-within}
 use Rattle.provenance.specs.Counting.{count, Raised}
-use Rattle.provenance.specs.Sensitivity.{same-made, Within, cost-rise, days-rise}
+use Rattle.provenance.proofs.Sensitivity.{same-made, cost-rise, days-rise}
+use Rattle.provenance.specs.Sensitivity.{Within}
 use Rattle.columns.specs.Columns.{Columns, ownAt, withOwn, hypergraph}
 use Rattle.columns.specs.Acceptance.{acceptance}
-use Rattle.columns.specs.Accepted.{table-accepted, columns-accept}
-use Rattle.columns.specs.Same.{same-refl}
+use Rattle.columns.proofs.Accepted.{table-accepted, columns-accept}
+use Rattle.columns.proofs.Same.{same-refl}
 use Rattle.settle.specs.Settling.{answersOf, settled}
 use Rattle.weights.proofs.States.{unmade-state, made-state}
-use Rattle.settle.specs.Demands.{answers-fixpoint, answers-sized, answers-mean, settled-left, settled-result}
+use Rattle.settle.proofs.Demands.{answers-fixpoint, answers-sized, answers-mean, settled-left, settled-result}
 use Rattle.settle.proofs.States.{unstruck-own}
 use Rattle.reprice.specs.Demand3.{labelsOf, Pair, Rise, Carries, Demand3}
 use Rattle.reprice.specs.Repricing.{lineAcceptance, repriceAcceptance, repriced}

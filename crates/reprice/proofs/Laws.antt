@@ -7,7 +7,7 @@ use lib.ListN.{length, set}
 use lib.Dec.{ltb}
 use borrow.Author.Tests.{ltb-true, le-leb, lt-leb}
 use Rattle.weights.specs.declared.Measure.{Measure}
-use Rattle.weights.specs.Choice.{both-true}
+use Rattle.weights.proofs.Choice.{both-true}
 use Rattle.weights.specs.Figures.{greatest, struck, isStruck}
 use Rattle.refusal.specs.declared.Refusal.{Refusal}
 use Rattle.refusal.specs.declared.Refusal.the-variants.{WrongAnswers, NoSuchEdge, NewWeight}
@@ -16,8 +16,8 @@ use Rattle.refusal.specs.declared.Answer.the-variants.{Accepted, Refused}
 use Rattle.provenance.specs.BestFirst.{Answers}
 use Rattle.columns.specs.Columns.{Columns, columns, ownAt, withOwn}
 use Rattle.columns.specs.Acceptance.{lentAcceptance}
-use Rattle.columns.specs.Accepted.{AcceptedColumns, test-passed, both-accepted, columns-accepted, table-accepted}
-use Rattle.columns.specs.Repriced.{acceptance-kept}
+use Rattle.columns.proofs.Accepted.{AcceptedColumns, test-passed, both-accepted, columns-accepted, table-accepted}
+use Rattle.columns.proofs.Repriced.{acceptance-kept}
 use Rattle.columns.specs.Same.{same}
 use Rattle.settle.specs.Settling.{answersOf}
 use Rattle.settle.proofs.Settled.{told-accepted, told-answers}

@@ -13,7 +13,7 @@ use Rattle.refusal.specs.declared.Answer.the-variants.{Accepted, Refused}
 use Rattle.provenance.specs.BestFirst.{Answers}
 use Rattle.columns.specs.Columns.{Columns, ownAt, withOwn}
 use Rattle.columns.specs.Acceptance.{test, andThen, lentAcceptance}
-use Rattle.columns.specs.Accepted.{AcceptedColumns}
+use Rattle.columns.proofs.Accepted.{AcceptedColumns}
 use Rattle.columns.specs.Same.{same}
 use Rattle.settle.specs.Settling.{answersOf}
 

@@ -9,7 +9,7 @@ use native.Mathlib.Decide.{decLe}
 use lib.ListN.{length}
 use lib.Dec.{leb}
 use borrow.Author.Tests.{leb-true}
-use Rattle.weights.specs.Choice.{apart, both-true}
+use Rattle.weights.proofs.Choice.{apart, both-true}
 use Rattle.refusal.specs.declared.Refusal.{Refusal}
 use Rattle.refusal.specs.declared.Refusal.the-variants.{Text, TextRoom}
 use Rattle.refusal.specs.declared.Reading.the-variants as reading
@@ -18,12 +18,15 @@ use Rattle.columns.specs.Owed.{Owed}
 use Rattle.text.specs.Tables.{Table, total, tableOf, columnsOf, closed}
 use Rattle.text.specs.Render.{Permitted}
 use Rattle.text.specs.Machine.{Parse, Whole, Wrong, parse}
-use Rattle.text.specs.Rows.{length-heads, length-owns, length-spans, length-tails}
-use Rattle.text.specs.Permitted.{permitted-read, read-permitted, wrong-unpermitted, wrong-place, FirstWrong}
+use Rattle.text.proofs.Rows.{length-heads, length-owns, length-spans, length-tails}
+use Rattle.text.proofs.Permitted.{permitted-read, read-permitted, wrong-unpermitted, wrong-place}
+use Rattle.text.specs.Permitted.{FirstWrong}
 use Rattle.reading.specs.Lines.{headerOf}
 use Rattle.readtable.specs.Read.{readOutcome, roomFor, readInto, readTable}
-use Rattle.roundtrip.specs.RoundTrip.{Room, roomy}
-use Rattle.roundtrip.specs.Refused.{permitted-is-read, refusedAt}
+use Rattle.roundtrip.specs.RoundTrip.{Room}
+use Rattle.roundtrip.proofs.RoundTrip.{roomy}
+use Rattle.roundtrip.proofs.Refused.{permitted-is-read}
+use Rattle.roundtrip.specs.Refused.{refusedAt}
 use Rattle.roundtrip.specs.Reads.{Lent, lent, RightRead, WrongRead, ReadOwes}
 
 roomed : (u : Table) (h o s t : List ℕ) → roomFor (headerOf u) (length h) (length o) (length s) (length t) ≡ true → Room (columnsOf (u .vertices) (u .edges)) h o s t

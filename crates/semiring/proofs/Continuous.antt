@@ -7,7 +7,8 @@ use native.Mathlib.Omega.{arith}
 use mathlib.Core.Bool.{Bool, true, false}
 use lib.Dec.{leb}
 use borrow.Author.Tests.{leb-true, leb-false}
-use Rattle.semiring.specs.Semiring.{Semiring, Below, Sum, partial, sum-same, sum-partial, below-trans, plus-right, below-plus, Extended, finite, infinite, least, extend, Joining, least-semiring, +-joining, max-joining, tropical, bottleneck}
+use Rattle.semiring.specs.Semiring.{Semiring, Below, Sum, partial, Extended, finite, infinite, least, extend, Joining}
+use Rattle.semiring.proofs.Semiring.{sum-same, sum-partial, below-trans, plus-right, below-plus, least-semiring, +-joining, max-joining, tropical, bottleneck}
 
 -- the sequence a has the members of the family f: then f's sum is the infimum of a's partial sums
 pub sum-sequence : (S : Semiring) {I : Type 0} (f : I → S .Carrier) (a : ℕ → S .Carrier) → ((i : I) → (n : ℕ) × (f i ≡ a n)) → ((n : ℕ) → (i : I) × (f i ≡ a n))

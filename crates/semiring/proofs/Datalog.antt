@@ -2,7 +2,8 @@
 use mathlib.Core.Path.{_≡_, refl, sym, _∙_, ap, ap₂}
 use mathlib.Core.Logic.{inl, inr, _↔_}
 use mathlib.Core.List.{List, _++_, map, map-append}
-use Rattle.semiring.specs.Semiring.{Semiring, product, sum-same, product-append}
+use Rattle.semiring.specs.Semiring.{Semiring, product}
+use Rattle.semiring.proofs.Semiring.{sum-same, product-append}
 use Rattle.semiring.specs.Datalog.{Program, Proof, Proofs, fact, rule, leaves, all-leaves, Provenance, representation, Tree, Trees, node, weight, weights, BestWeight, derivation, derivations, proof, proofs}
 
 module _ {S : Semiring} {q : Program S} where

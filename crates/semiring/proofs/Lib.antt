@@ -1,2 +1,3 @@
 pub mod Datalog
 pub mod Continuous
+pub mod Semiring

@@ -1,29 +1,31 @@
 -- The laws by which `answers_right` and `check_answers` go: where every test passes the answers are the table's, and where one fails they are not. Assumes nothing.
 use mathlib.Core.Path.{_≡_, refl, sym, _∙_, ap, subst}
 use mathlib.Core.Bool.{Bool, true, false}
-use Prim.Native.Nat.{ℕ, _+_, _≤_, _<_}
+use Prim.Native.Nat.{ℕ, _+_, _≤_}
 use native.Mathlib.Omega.{arith}
 use native.Mathlib.Decide.{decLe}
 use lib.ListN.{length, getD, List·getD-eq-default}
 use Rattle.weights.specs.declared.Measure.{Measure}
-use Rattle.weights.specs.Choice.{apart}
+use Rattle.weights.proofs.Choice.{apart}
 use Rattle.weights.specs.Measures.{algebra}
-use Rattle.weights.specs.Laws.{lawful}
+use Rattle.weights.proofs.Laws.{lawful}
 use Rattle.refusal.specs.declared.Refusal.{Refusal}
 use Rattle.refusal.specs.declared.Answer.the-variants.{Accepted, Refused}
 use Rattle.refusal.specs.declared.Verdict.the-variants as verdict
 use Rattle.provenance.specs.Labelling.{Fixpoint}
 use Rattle.provenance.specs.BestFirst.{Answers, labels}
-use Rattle.provenance.specs.Existence.{exists-shallow}
-use Rattle.provenance.specs.Local.{every, vertexRight, edgeRight, all-right, not-fixpoint, vertex-fails, edge-fails}
+use Rattle.provenance.proofs.Existence.{exists-shallow}
+use Rattle.provenance.specs.Local.{every, vertexRight, edgeRight}
+use Rattle.provenance.proofs.Local.{all-right, not-fixpoint, vertex-fails, edge-fails}
 use Rattle.columns.specs.Columns.{Columns, ownAt, hypergraph}
 use Rattle.columns.specs.Acceptance.{mostVertices, lentAcceptance, allBelow}
-use Rattle.columns.specs.Accepted.{AcceptedColumns, table-accepted, well-formed, below-at, below-all}
-use Rattle.columns.specs.Same.{same, same-refl, same-not}
+use Rattle.columns.proofs.Accepted.{AcceptedColumns, table-accepted, well-formed, below-at, below-all}
+use Rattle.columns.specs.Same.{same}
+use Rattle.columns.proofs.Same.{same-refl, same-not}
 use Rattle.offers.specs.Lent.{Turning}
 use Rattle.settle.specs.Settling.{answersOf}
 use Rattle.settle.specs.Checking.{verdict as judged, checked}
-use Rattle.offers.specs.Laws.{same-table, turning-columns}
+use Rattle.offers.proofs.Usable.{same-table, turning-columns}
 
 module _ (m : Measure) (c : Columns) (a : Answers) where
   pub checked-refused : (r : Refusal) → lentAcceptance c a ≡ Refused r → verdict.Refused r ≡ checked m c a

@@ -7,23 +7,24 @@ use native.Mathlib.Omega.{arith}
 use lib.Seq.{ext-getD}
 use Rattle.weights.specs.declared.Measure.{Measure}
 use Rattle.weights.specs.declared.Label.{Label}
-use Rattle.weights.specs.Choice.{apart}
+use Rattle.weights.proofs.Choice.{apart}
 use Rattle.weights.specs.Measures.{algebra}
-use Rattle.weights.specs.Laws.{lawful}
+use Rattle.weights.proofs.Laws.{lawful}
 use Rattle.refusal.specs.declared.Refusal.{Refusal}
 use Rattle.refusal.specs.declared.Answer.{Answer}
 use Rattle.refusal.specs.declared.Answer.the-variants.{Accepted, Refused}
 use Rattle.refusal.specs.declared.Verdict.the-variants as verdict
 use Rattle.provenance.specs.Means.{Means}
-use Rattle.provenance.specs.Meaning.{means-unique}
+use Rattle.provenance.proofs.Meaning.{means-unique}
 use Rattle.provenance.specs.BestFirst.{Answers, labels}
 use Rattle.columns.specs.Columns.{Columns, ownAt, hypergraph}
 use Rattle.columns.specs.Acceptance.{lentAcceptance}
-use Rattle.columns.specs.Accepted.{columns-accepted}
-use Rattle.columns.specs.Same.{same, same-refl, same-true}
+use Rattle.columns.proofs.Accepted.{columns-accepted}
+use Rattle.columns.specs.Same.{same}
+use Rattle.columns.proofs.Same.{same-refl, same-true}
 use Rattle.settle.specs.Settling.{answersOf}
 use Rattle.settle.specs.Checking.{verdict as told, checked}
-use Rattle.settle.specs.Demands.{answers-mean, answers-sized}
+use Rattle.settle.proofs.Demands.{answers-mean, answers-sized}
 use Rattle.settle.specs.Defined.{AllMean, Defined}
 
 yes-not-no : {A : Type 0} → verdict.No ≡ verdict.Yes → A

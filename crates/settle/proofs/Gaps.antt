@@ -12,7 +12,7 @@ use Rattle.provenance.specs.Hypergraph.{Hypergraph}
 use Rattle.provenance.specs.BestFirst.{Answers, best-first}
 use Rattle.columns.specs.Columns.{Columns, ownAt}
 use Rattle.columns.specs.Acceptance.{acceptance, lentAcceptance}
-use Rattle.columns.specs.Accepted.{columns-accepted}
+use Rattle.columns.proofs.Accepted.{columns-accepted}
 use Rattle.columns.specs.Same.{same}
 use Rattle.columns.specs.Gaps.{Gapped, withTails}
 use Rattle.columns.proofs.Gaps.{gaps-lent, gaps-hypergraph}

@@ -9,11 +9,12 @@ use Rattle.weights.specs.Measures.{algebra}
 use Rattle.refusal.specs.declared.Refusal.{Refusal}
 use Rattle.refusal.specs.declared.Answer.the-variants.{Accepted, Refused}
 use Rattle.provenance.specs.BestFirst.{Answers, turns, best-first}
-use Rattle.provenance.specs.Existence.{Sized, zeros}
+use Rattle.provenance.specs.Existence.{Sized}
+use Rattle.provenance.proofs.Existence.{zeros}
 use Rattle.columns.specs.Columns.{Columns, answers, ownAt, hypergraph}
 use Rattle.columns.specs.Acceptance.{mostVertices, lentAcceptance}
-use Rattle.columns.specs.Accepted.{AcceptedColumns}
-use Rattle.offers.specs.Laws.{same-table, turning-columns}
+use Rattle.columns.proofs.Accepted.{AcceptedColumns}
+use Rattle.offers.proofs.Usable.{same-table, turning-columns}
 use Rattle.bestfirst.specs.Turns.{Unmade}
 use Rattle.settle.specs.Settling.{answersOf, settled}
 

@@ -13,7 +13,7 @@ use Rattle.weights.specs.declared.State.the-variants.{Made, Over, Unmade}
 use Rattle.weights.specs.declared.Label.{Label}
 use Rattle.weights.specs.Figures.{greatest, struck, over, capped, isStruck}
 use Rattle.weights.specs.Labels.{unmade, entryOf}
-use Rattle.weights.specs.Laws.{at-most}
+use Rattle.weights.proofs.Laws.{at-most}
 use Rattle.weights.specs.Measures.{Algebra, algebra, cost, days, fold, weigh}
 use Rattle.weights.proofs.States.{unmade-state, over-state, made-state}
 use Rattle.refusal.specs.declared.Answer.the-variants.{Accepted}
@@ -21,12 +21,12 @@ use Rattle.provenance.specs.Hypergraph.{Hypergraph, Derivation, Derivations, no
 use Rattle.provenance.specs.Means.{Means, Derivable, underivable, derivable}
 use Rattle.provenance.specs.BestFirst.{Answers, labels}
 use Rattle.provenance.specs.Counting.{total}
-use Rattle.provenance.specs.Sensitivity.{cost-total}
+use Rattle.provenance.proofs.Sensitivity.{cost-total}
 use Rattle.columns.specs.Columns.{Columns, ownAt, hypergraph}
 use Rattle.columns.specs.Acceptance.{acceptance}
-use Rattle.columns.specs.Accepted.{table-accepted, columns-accepted}
+use Rattle.columns.proofs.Accepted.{table-accepted, columns-accepted}
 use Rattle.settle.specs.Settling.{answersOf, settled}
-use Rattle.settle.specs.Demands.{answers-mean, settled-result, demand-2}
+use Rattle.settle.proofs.Demands.{answers-mean, settled-result, demand-2}
 use Rattle.settle.specs.States.{Dear, Affordable, StateMeans}
 
 deep : {H : Hypergraph} {v : ℕ} (d : Derivation H v) → 0 < depth d

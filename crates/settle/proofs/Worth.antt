@@ -8,10 +8,10 @@ use Rattle.weights.specs.declared.Label.{Label}
 use Rattle.refusal.specs.declared.Answer.the-variants.{Accepted}
 use Rattle.provenance.specs.BestFirst.{Answers, labels}
 use Rattle.provenance.specs.Provenance.{HasProvenance, empty, worth}
-use Rattle.provenance.specs.Semirings.{cost-computes, days-computes}
+use Rattle.provenance.proofs.Semirings.{cost-computes, days-computes}
 use Rattle.columns.specs.Columns.{Columns, ownAt, hypergraph}
 use Rattle.settle.specs.Settling.{settled}
-use Rattle.settle.specs.Demands.{demand-2}
+use Rattle.settle.proofs.Demands.{demand-2}
 use Rattle.settle.specs.Worth.{Bottleneck, CostMeans, DaysMeans}
 
 module _ (c : Columns) (l : Label) (v : ℕ) where

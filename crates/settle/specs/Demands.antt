@@ -1,31 +1,15 @@
 -- What the answers of a table mean: demand 2, of what settling leaves, and the rule of the answer check. Assumes nothing.
-use mathlib.Core.Path.{_≡_, refl, sym, _∙_, subst}
-use mathlib.Core.Bool.{Bool, true, false}
 use Prim.Native.Nat.{ℕ, _≤_}
-use native.Mathlib.Omega.{arith}
-use borrow.Author.Tests.{eq-eqb}
 use Rattle.weights.specs.declared.Measure.{Measure}
 use Rattle.weights.specs.declared.Label.{Label}
 use Rattle.weights.specs.Measures.{algebra}
-use Rattle.weights.specs.Laws.{lawful}
-use Rattle.refusal.specs.declared.Answer.{Answer}
-use Rattle.refusal.specs.declared.Answer.the-variants.{Accepted, Refused}
-use Rattle.refusal.specs.declared.Refusal.{Refusal}
-use Rattle.refusal.specs.declared.Verdict.the-variants as verdict
-use Rattle.provenance.specs.Labelling.{Made, Fixpoint}
+use Rattle.provenance.specs.Labelling.{Made}
 use Rattle.provenance.specs.Means.{Means}
-use Rattle.provenance.specs.Support.{ChosenDerivation, Supports, chosen, supports}
-use Rattle.provenance.specs.Meaning.{meaning}
-use Rattle.provenance.specs.BestFirst.{Answers, labels}
-use Rattle.provenance.specs.Existence.{Sized, exists, exists-sized, exists-shallow}
-use Rattle.provenance.specs.Semirings.{computes}
-use Rattle.provenance.specs.Provenance.{HasProvenance, provenance}
+use Rattle.provenance.specs.Support.{ChosenDerivation, Supports}
+use Rattle.provenance.proofs.Support.{chosen, supports}
+use Rattle.provenance.proofs.Semirings.{computes}
+use Rattle.provenance.specs.Provenance.{HasProvenance}
 use Rattle.columns.specs.Columns.{Columns, ownAt, hypergraph}
-use Rattle.columns.specs.Acceptance.{acceptance, lentAcceptance}
-use Rattle.columns.specs.Accepted.{columns-accepted, well-formed}
-use Rattle.columns.specs.Same.{same, same-refl, same-true}
-use Rattle.settle.specs.Settling.{answersOf, outcome, settled}
-use Rattle.settle.specs.Checking.{verdict, checked}
 
 -- the entry of part v: it means what the paper says; its figure is the provenance; if it is made, its chosen make-up is thrifty and has its figure and depth; and
 -- its depth is at most n
@@ -35,75 +19,3 @@ pub record Demand2 (m : Measure) (c : Columns) (ls : ℕ → Label) (v : ℕ) : 
   pub chosen : Made (ls v) → ChosenDerivation (hypergraph c) ls v
   pub supports : (k : Made (ls v)) → Supports (algebra m) (ownAt c) ls (chosen k .tree)
   pub shallow : ls v .depth ≤ c .vertices
-
-module _ (m : Measure) (c : Columns) (p : acceptance c ≡ Accepted) where
-  pub answers-fixpoint : Fixpoint (algebra m) (hypergraph c) (ownAt c) (labels (answersOf m c))
-  unfolding answersOf
-  answers-fixpoint = exists (lawful m) (ownAt c) (well-formed c p)
-
-  pub answers-sized : Sized (c .vertices) (answersOf m c)
-  unfolding answersOf
-  answers-sized = exists-sized (lawful m) (ownAt c) (well-formed c p)
-
-  answers-shallow : (v : ℕ) → labels (answersOf m c) v .depth ≤ c .vertices
-  unfolding answersOf
-  answers-shallow = exists-shallow (lawful m) (ownAt c) (well-formed c p)
-
-  -- the answers of an accepted table
-  pub answers-mean : (v : ℕ) → Demand2 m c (labels (answersOf m c)) v
-  answers-mean v =
-      let fix = answers-fixpoint in
-      record {
-        means = meaning (lawful m) fix v;
-        worth = provenance (computes m) (hypergraph c) (ownAt c) (lawful m) (well-formed c p) fix v;
-        chosen = chosen (lawful m) fix v;
-        supports = λ k. let t = chosen (lawful m) fix v k in supports (lawful m) fix (t .tree) (t .follows);
-        shallow = answers-shallow v;
-      }
-
-module _ (m : Measure) (c : Columns) (a : Answers) where
-  pub settled-left : lentAcceptance c a ≡ Accepted → settled m c a .left ≡ answersOf m c
-  unfolding settled
-  settled-left p = rw p
-
-  -- settling is accepted exactly where no refusal of 1 to 7 applies, and a refusal leaves the columns
-  pub settled-result : settled m c a .result ≡ lentAcceptance c a
-  unfolding settled
-  settled-result = go (lentAcceptance c a)
-    where
-      go : (r : Answer) → outcome r (answersOf m c) a .result ≡ r
-      go Accepted = refl
-      go (Refused r) = refl
-
-  pub settled-keeps : (r : Refusal) → lentAcceptance c a ≡ Refused r → settled m c a .left ≡ a
-  unfolding settled
-  settled-keeps r p = rw p
-
-  -- demand 2: of what settling leaves, for every part
-  pub demand-2 : settled m c a .result ≡ Accepted → (v : ℕ) → Demand2 m c (labels (settled m c a .left)) v
-  demand-2 p v =
-      let q = sym settled-result ∙ p in
-      subst (λ (b : Answers). Demand2 m c (labels b) v) (sym (settled-left q)) (answers-mean m c (columns-accepted c a q .table) v)
-
-  -- answers of the table's length are lent rightly
-  lent-accepted : acceptance c ≡ Accepted → Sized (c .vertices) a → lentAcceptance c a ≡ Accepted
-  unfolding lentAcceptance
-  lent-accepted p s = rw (p, eq-eqb _ _ (s .weights), eq-eqb _ _ (s .depths), eq-eqb _ _ (s .edges))
-
-  -- the answer check says yes to the table's answers, and to nothing else
-  pub yes-only : checked m c a ≡ verdict.Yes → a ≡ answersOf m c
-  unfolding checked
-  yes-only e = go (lentAcceptance c a) (same a (answersOf m c)) refl e
-    where
-      go : (x : Answer) (b : Bool) → same a (answersOf m c) ≡ b → verdict x b ≡ verdict.Yes → a ≡ answersOf m c
-      go (Refused r) b q k = let z : _≡_ {A = ℕ} 0 1 = cc in absurd (omega arith)
-      go Accepted true q k = same-true a (answersOf m c) q
-      go Accepted false q k = let z : _≡_ {A = ℕ} 0 1 = cc in absurd (omega arith)
-
-pub yes-settled : (m : Measure) (c : Columns) (a : Answers) → settled m c a .result ≡ Accepted → checked m c (settled m c a .left) ≡ verdict.Yes
-unfolding checked
-yes-settled m c a p =
-    let q = sym (settled-result m c a) ∙ p in
-    let t = columns-accepted c a q .table in
-    let e = settled-left m c a q in
-    subst (λ (b : Answers). verdict (lentAcceptance c b) (same b (answersOf m c)) ≡ verdict.Yes) (sym e) (rw (lent-accepted m c (answersOf m c) t (answers-sized m c t), same-refl (answersOf m c)))

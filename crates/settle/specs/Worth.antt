@@ -8,7 +8,7 @@ use Rattle.weights.specs.declared.Label.{Label}
 use Rattle.weights.specs.Figures.{ceiling, over}
 use Rattle.provenance.specs.Labelling.{Made}
 use Rattle.provenance.specs.Program.{part, program}
-use Rattle.provenance.specs.Semirings.{cost-computes, days-computes}
+use Rattle.provenance.proofs.Semirings.{cost-computes, days-computes}
 use Rattle.columns.specs.Columns.{Columns, ownAt, hypergraph}
 
 -- x is the provenance of v: in the tropical semiring for cost, in the bottleneck semiring for days

@@ -18,7 +18,7 @@ ghost use Rattle.weights.specs.Labels.{entryOf};
 ghost use Rattle.provenance.specs.BestFirst.{labels};
 ghost use Rattle.provenance.specs.Local.{every, gives, keepsUp, vertexRight, edgeRight};
 ghost use Rattle.columns.specs.Columns.{columns, answers, hypergraph};
-ghost use Rattle.columns.specs.Accepted.{AcceptedColumns};
+ghost use Rattle.columns.proofs.Accepted.{AcceptedColumns};
 ghost use Rattle.columns.specs.Same.{same};
 ghost use Rattle.offers.specs.Lent.{lent, cell, Turning};
 ghost use Rattle.settle.specs.Settling.{answersOf, settled};

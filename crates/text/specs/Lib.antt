@@ -1,11 +1,7 @@
 pub mod Tables
 pub mod Render
 pub mod Machine
-pub mod Digits
 pub mod Rows
-pub mod Sound
-pub mod Complete
 pub mod Places
 pub mod Permitted
 pub mod Prefixes
-pub mod Examples

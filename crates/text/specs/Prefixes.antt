@@ -1,67 +1,17 @@
 -- Which bytes begin a permitted text: those with which reading has not failed, and no others. So the first byte with which it fails is the first that can't
 -- stand where it stands. Assumes nothing.
-use Prim.Native.Nat.{ℕ, _<_}
-use mathlib.Core.Path.{_≡_, refl, sym, _∙_, ap}
-use mathlib.Core.List.{List, [], _∷_, _++_}
-use native.Mathlib.Omega.{arith}
-use borrow.Author.Tests.{lt-ltb}
-use Rattle.text.specs.Tables.{edge, Table, total}
-use Rattle.text.specs.Render.{default, Permitted}
-use Rattle.text.specs.Machine.{Place, Vertices, Head, Own, Listed, State, Spelling, First, Within, Failed, begun, withEdge, limit, digitOf, grown, after, ended, step, run, finish, begin, parse}
-use Rattle.text.specs.Sound.{Spells, Reached, begin-reached, run-reached}
-use Rattle.text.specs.Complete.{run-append, run-word}
-use Rattle.text.specs.Places.{run-failed}
-use Rattle.text.specs.Permitted.{read-permitted, wrong-unpermitted}
+use Prim.Native.Nat.{ℕ}
+use mathlib.Core.List.{List, _++_}
+use Rattle.text.specs.Render.{Permitted}
+use Rattle.text.specs.Machine.{State, Spelling, First, Within, Failed}
 
 -- some permitted text begins with p
 pub record Begins (p : List ℕ) : Type 0 where
   pub rest : List ℕ
   pub whole : Permitted (p ++ rest)
 
-pub failed-begins-none : (p : List ℕ) (l : ℕ) → run begin p ≡ Failed l → Begins p → ⊥
-unfolding parse finish
-failed-begins-none p l e b = wrong-unpermitted (p ++ b .rest) l (ap finish (run-append begin p (b .rest) ∙ ap (λ (σ : State). run σ (b .rest)) e ∙ run-failed l (b .rest))) (b .whole)
-
--- bytes that bring a state to the end of a line
-record Ends (σ : State) : Type 0 where
-  rest : List ℕ
-  table : Table
-  there : run σ rest ≡ First (Head table)
-
 abbrev pub NotFailed : State → Type 0
 NotFailed (Spelling ws p) = Unit {0}
 NotFailed (First p) = Unit {0}
 NotFailed (Within p v) = Unit {0}
 NotFailed (Failed l) = ⊥
-
-first-ends : (p : Place) (s : List ℕ) → Reached (First p) s → Ends (First p)
-unfolding run step digitOf grown limit ended after total
-first-ends Vertices s r = record { rest = 48 ∷ 10 ∷ []; table = begun 0 default; there = refl }
-first-ends (Head t) s r = record { rest = []; table = t; there = refl }
-first-ends (Own t h) s r = record { rest = 48 ∷ 10 ∷ []; table = withEdge t (edge h 0 []); there = refl }
-first-ends (Listed t h o xs) s r =
-    let l : h < t .vertices = r .1 .0 .one-more .head in
-    let l′ : 0 < t .vertices = omega arith in
-    record { rest = 48 ∷ 10 ∷ []; table = withEdge t (edge h o (xs ++ 0 ∷ [])); there = rw (lt-ltb _ _ l′) }
-
-spelled : (ws : List ℕ) (p : Place) → Spells ws p → run (Spelling ws p) ws ≡ First p
-spelled [] p s = absurd s
-spelled (w ∷ ws) p s = run-word w ws p
-
-ends : (σ : State) (s : List ℕ) → Reached σ s → NotFailed σ → Ends σ
-unfolding run step digitOf ended after total
-ends (Spelling ws p) s r g =
-    let e = first-ends p (s ++ ws) (sym (r .0), r .1) in
-    record { rest = ws ++ e .rest; table = e .table; there = run-append (Spelling ws p) ws (e .rest) ∙ ap (λ (σ : State). run σ (e .rest)) (spelled ws p (r .2)) ∙ e .there }
-ends (First p) s r g = first-ends p s r
-ends (Within Vertices v) s r g = record { rest = 10 ∷ []; table = begun v default; there = refl }
-ends (Within (Head t) v) s r g = record { rest = 32 ∷ 48 ∷ 10 ∷ []; table = withEdge t (edge v 0 []); there = unfold grown limit in refl }
-ends (Within (Own t h) v) s r g = record { rest = 10 ∷ []; table = withEdge t (edge h v []); there = refl }
-ends (Within (Listed t h o xs) v) s r g = record { rest = 10 ∷ []; table = withEdge t (edge h o (xs ++ v ∷ [])); there = refl }
-ends (Failed l) s r g = absurd g
-
-pub others-begin-one : (p : List ℕ) → NotFailed (run begin p) → Begins p
-unfolding parse finish
-others-begin-one p g =
-    let e = ends (run begin p) p (run-reached begin [] p begin-reached) g in
-    record { rest = e .rest; whole = read-permitted (p ++ e .rest) (e .table) (ap finish (run-append begin p (e .rest) ∙ e .there)) }

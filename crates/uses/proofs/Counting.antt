@@ -13,8 +13,8 @@ use Rattle.weights.specs.Choice.{pick}
 use Rattle.columns.specs.Columns.{tailOf}
 use Rattle.uses.specs.Uses.{usesBelow, pairs, pairsIn}
 use Rattle.uses.specs.Indexable.{Readable, Counting, markBelow, counted}
-use Rattle.uses.specs.Pairs.{pairs-ext, length-pairs, pairs-first, pairs-second, pair-set}
-use Rattle.uses.specs.Lists.{uses-few}
+use Rattle.uses.proofs.Pairs.{pairs-ext, length-pairs, pairs-first, pairs-second, pair-set}
+use Rattle.uses.proofs.Lists.{uses-few}
 use Rattle.uses.proofs.Seen.{seenIn, usesBy, seen-now, seen-other, seen-again}
 
 abbrev pub markBy : (tail : ℕ → List ℕ) → ℕ → (ℕ → Bool) → ℕ → ℕ

@@ -13,11 +13,12 @@ use borrow.Author.Tests.{eq-eqb, ne-eqb, ltb-true, ltb-false}
 use Rattle.weights.specs.Lists.{member}
 use Rattle.weights.proofs.Lists.{true-or-false}
 use Rattle.columns.specs.Columns.{tailOf}
-use Rattle.columns.specs.Filled.{filled, length-filled}
+use Rattle.columns.specs.Filled.{filled}
+use Rattle.columns.proofs.Filled.{length-filled}
 use Rattle.uses.specs.Uses.{usesBelow, useList, pairs, pairsIn, useOffset, useCount}
 use Rattle.uses.specs.Indexable.{Readable, endsIn, Laid, FilledTo, Filling}
-use Rattle.uses.specs.Pairs.{same-or-not, last-or-below, pairs-first, pairs-second, second-set}
-use Rattle.uses.specs.Lists.{more-length, uses-grow, uses-mono, uses-sound, offset-next, offset-end}
+use Rattle.uses.proofs.Pairs.{same-or-not, last-or-below, pairs-first, pairs-second, second-set}
+use Rattle.uses.proofs.Lists.{more-length, uses-grow, uses-mono, uses-sound, offset-next, offset-end}
 use Rattle.uses.proofs.Seen.{seenIn, usesBy, seen-now, seen-other, seen-again}
 
 -- the uses below e stand, and e for the vertices that were seen

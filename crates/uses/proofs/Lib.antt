@@ -3,3 +3,8 @@ pub mod Counting
 pub mod Placing
 pub mod Filling
 pub mod Whole
+pub mod Example
+pub mod Laws
+pub mod Lists
+pub mod Pairs
+pub mod Room

@@ -13,10 +13,10 @@ use Rattle.weights.specs.Lists.{member}
 use Rattle.weights.proofs.Lists.{either, member-at, member-snoc}
 use Rattle.weights.specs.Choice.{pick}
 use Rattle.columns.specs.Columns.{tailOf}
-use Rattle.columns.specs.Accepted.{below-at}
+use Rattle.columns.proofs.Accepted.{below-at}
 use Rattle.uses.specs.Uses.{usesBelow}
 use Rattle.uses.specs.Indexable.{TailReadable}
-use Rattle.uses.specs.Pairs.{same-or-not}
+use Rattle.uses.proofs.Pairs.{same-or-not}
 
 -- the vertices of a list
 abbrev pub seenIn : List ℕ → ℕ → Bool

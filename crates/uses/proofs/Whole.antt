@@ -7,7 +7,7 @@ use lib.ListN.{length}
 use Rattle.columns.specs.Columns.{tailOf}
 use Rattle.uses.specs.Uses.{useList, pairs, pairsIn, useOffset, indexed}
 use Rattle.uses.specs.Indexable.{Readable, Indexable, counted, running, Placeable, placed, FilledTo, Offset}
-use Rattle.uses.specs.Pairs.{length-pairs}
+use Rattle.uses.proofs.Pairs.{length-pairs}
 use Rattle.uses.proofs.Placing.{running-offset, placed-offsets}
 use Rattle.uses.proofs.Filling.{filled-all}
 

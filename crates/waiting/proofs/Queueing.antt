@@ -13,7 +13,8 @@ use Rattle.weights.specs.Lists.{member}
 use Rattle.weights.proofs.Lists.{member-at}
 use Rattle.weights.specs.declared.Offer.{Offer}
 use Rattle.weights.specs.declared.Offer.the-variants.{Nothing}
-use Rattle.weights.specs.Choice.{pick, apart}
+use Rattle.weights.specs.Choice.{pick}
+use Rattle.weights.proofs.Choice.{apart}
 use Rattle.weights.specs.Figures.{isStruck}
 use Rattle.weights.specs.Measures.{Algebra}
 use Rattle.provenance.specs.Labelling.{noneZero, offerOf}
@@ -21,7 +22,7 @@ use Rattle.provenance.specs.BestFirst.{opening}
 use Rattle.columns.specs.Columns.{Columns, headAt, ownAt, tailAt, hypergraph}
 use Rattle.offers.specs.Lent.{cell}
 use Rattle.minima.specs.Minima.{none, keys, raised}
-use Rattle.minima.specs.Laws.{raised-same, raised-other, raised-grouped}
+use Rattle.minima.proofs.Laws.{raised-same, raised-other, raised-grouped}
 use Rattle.queue.specs.Keys.{Fitting, keyOf}
 use Rattle.queue.specs.Queue.{leastWith, Queued}
 use Rattle.queue.proofs.Laws.{with-at-most, with-lower, with-greatest, zero-stops, open-same, open-unmade, open-made}

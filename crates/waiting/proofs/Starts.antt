@@ -8,13 +8,13 @@ use native.Mathlib.Omega.{arith}
 use native.Mathlib.Decide.{ℕ-discrete}
 use lib.ListN.{length}
 use Rattle.weights.specs.declared.Measure.{Measure}
-use Rattle.weights.specs.Choice.{apart}
+use Rattle.weights.proofs.Choice.{apart}
 use Rattle.weights.specs.Figures.{isStruck}
 use Rattle.weights.specs.Measures.{algebra}
 use Rattle.columns.specs.Columns.{Columns, headAt, ownAt, offsetAt, lengthAt, tailAt}
 use Rattle.offers.specs.Lent.{cell}
 use Rattle.minima.specs.Minima.{Grouped}
-use Rattle.minima.specs.Laws.{no-keys, no-keys-grouped}
+use Rattle.minima.proofs.Laws.{no-keys, no-keys-grouped}
 use Rattle.waiting.specs.Lines.{Lines, pushed, Carried, Gone, Pushable, ended, kept, Moved, stays, waits, Went, Offerable, Going, Starting, Rested, Empty}
 use Rattle.waiting.proofs.Keeping.{carried-none, pushed-sizes, went-stays, went-waits}
 use Rattle.waiting.proofs.Steps.{few, edge-room, head-key, tail-length, tail-at, tail-below, edge-fits, went-on, pushable}

@@ -22,9 +22,9 @@ use Rattle.provenance.specs.Hypergraph.{Hypergraph}
 use Rattle.provenance.specs.Labelling.{each, greatest, noneZero}
 use Rattle.provenance.specs.BestFirst.{opening}
 use Rattle.columns.specs.Columns.{Columns, headAt, ownAt, offsetAt, lengthAt, tailAt, hypergraph}
-use Rattle.columns.specs.Accepted.{table-accepted, below-at}
+use Rattle.columns.proofs.Accepted.{table-accepted, below-at}
 use Rattle.offers.specs.Lent.{cell}
-use Rattle.offers.specs.Laws.{edge-in}
+use Rattle.offers.proofs.Usable.{edge-in}
 use Rattle.offers.proofs.Laws.{rest, rest-end, rest-whole}
 use Rattle.minima.specs.Minima.{keys}
 use Rattle.queue.specs.Keys.{Fits, Fitting, nothing, found}

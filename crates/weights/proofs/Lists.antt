@@ -8,7 +8,8 @@ use native.Mathlib.Omega.{arith}
 use lib.ListN.{length, getD, take}
 use lib.Dec.{eqb}
 use borrow.Author.Tests.{eq-eqb}
-use Rattle.weights.specs.Choice.{pick, apart}
+use Rattle.weights.specs.Choice.{pick}
+use Rattle.weights.proofs.Choice.{apart}
 use Rattle.weights.specs.Lists.{member}
 
 -- a test is true or false

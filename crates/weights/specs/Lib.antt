@@ -3,6 +3,5 @@ pub mod Figures
 pub mod Measures
 pub mod Labels
 pub mod Laws
-pub mod Weighing
 pub mod Order
 pub mod Lists

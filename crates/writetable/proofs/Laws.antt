@@ -15,12 +15,13 @@ use Rattle.refusal.specs.declared.Answer.the-variants.{Accepted, Refused}
 use Rattle.refusal.specs.declared.Extent.the-variants as extent
 use Rattle.columns.specs.Columns.{Columns, headAt, ownAt, offsetAt, lengthAt, tailAt}
 use Rattle.columns.specs.Acceptance.{mostVertices, mostEdges, mostListed, allBelow, acceptance}
-use Rattle.columns.specs.Accepted.{table-accepted, below-at}
+use Rattle.columns.proofs.Accepted.{table-accepted, below-at}
 use Rattle.text.specs.Tables.{edge, edgesFrom, edgesOf}
 use Rattle.text.specs.Render.{header, edgeText, edgesText, tableText, render}
 use Rattle.text.specs.Rows.{EdgeFits}
-use Rattle.writing.specs.Written.{Written, lent-room, within, written-part, written-as}
-use Rattle.writing.specs.Widths.{line-most}
+use Rattle.writing.specs.Written.{Written}
+use Rattle.writing.proofs.Written.{lent-room, within, written-part, written-as}
+use Rattle.writing.proofs.Widths.{line-most}
 use Rattle.writetable.specs.Write.{writeOutcome, writeText, writeAs, writeTable}
 
 -- A hyperedge of an accepted table ----------------------------------------------------------------------------------------------------------

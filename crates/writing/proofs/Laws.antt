@@ -7,11 +7,12 @@ use native.Mathlib.Omega.{arith}
 use lib.ListN.{length, getD, take, drop, set, length-append, length-set, take-append-drop}
 use lib.Seq.{take-suc, set-at, length-take-le, take-all}
 use Rattle.text.specs.Render.{digits, tailText}
-use Rattle.text.specs.Digits.{digits-one}
-use Rattle.text.specs.Sound.{tail-text-append}
+use Rattle.text.proofs.Digits.{digits-one}
+use Rattle.text.proofs.Sound.{tail-text-append}
 use Rattle.columns.specs.Filled.{filled}
-use Rattle.writing.specs.Widths.{last-digit, width-more, width-one, one-listed}
-use Rattle.writing.specs.Written.{Written, written-byte, lent, lent-room, within, written-part, written-as}
+use Rattle.writing.proofs.Widths.{last-digit, width-more, width-one, one-listed}
+use Rattle.writing.specs.Written.{Written}
+use Rattle.writing.proofs.Written.{written-byte, lent, lent-room, within, written-part, written-as}
 
 -- Numbers ------------------------------------------------------------------------------------------------------------------------------------
 

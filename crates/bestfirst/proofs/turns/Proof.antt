@@ -6,7 +6,7 @@ use Prim.Native.Nat.{_-_, _≤_, _<_}
 use native.Mathlib.Omega.{arith}
 use lib.ListN.{length}
 use Rattle.columns.specs.Columns.{columns, answers}
-use Rattle.columns.specs.Accepted.{table-accepted}
+use Rattle.columns.proofs.Accepted.{table-accepted}
 use Rattle.waiting.specs.Lines.{lines}
 use Rattle.bestfirst.specs.Turns.{Waits}
 use Rattle.bestfirst.proofs.Whole.{turnsOf, all-turns, sizes, underway, waits-on, turns-more}

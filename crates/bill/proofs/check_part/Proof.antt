@@ -8,7 +8,7 @@ use Rattle.refusal.specs.declared.Answer.the-variants.{Accepted}
 use Rattle.provenance.specs.BestFirst.{Answers}
 use Rattle.columns.specs.Columns.{Columns, columns, answers}
 use Rattle.columns.specs.Acceptance.{lentAcceptance}
-use Rattle.columns.specs.Accepted.{columns-accepted}
+use Rattle.columns.proofs.Accepted.{columns-accepted}
 use Rattle.columns.specs.Same.{same}
 use Rattle.settle.specs.Settling.{answersOf}
 use Rattle.bill.proofs.Admitted.{part-refused, part-absent, part-wrong, part-placed, part-underivable, part-accepted}

@@ -10,7 +10,7 @@ use lib.ListN.{length}
 use Rattle.refusal.specs.declared.Answer.the-variants.{Accepted}
 use Rattle.columns.specs.Columns.{Columns, columns}
 use Rattle.columns.specs.Acceptance.{edgeAt, edgesAcceptance}
-use Rattle.columns.specs.Accepted.{edge-accepted}
+use Rattle.columns.proofs.Accepted.{edge-accepted}
 use Rattle.columns.proofs.Laws.{edges-step, edges-stop, edges-end}
 
 abbrev Inv-loop : tie.InvT-loop

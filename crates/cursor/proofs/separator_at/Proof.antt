@@ -5,7 +5,7 @@ use borrow.Author.Needs.{needs}
 use borrow.Author.Tests.{eq-eqb, ne-eqb}
 use lib.ListN.{getD}
 use Rattle.cursor.specs.Cursor.{separatorAt}
-use Rattle.cursor.specs.Laws.{byte-within}
+use Rattle.cursor.proofs.Counts.{byte-within}
 use Rattle.cursor.proofs.separator_at.Statement.{statement}
 use Rattle.cursor.proofs.separator_at.Tie as tie
 

@@ -6,7 +6,7 @@ use borrow.Author.Tests.{eq-eqb, ne-eqb}
 use lib.ListN.{getD}
 use Rattle.weights.specs.Figures.{struck}
 use Rattle.cursor.specs.Cursor.{numberAt, asWeight, weightAt}
-use Rattle.cursor.specs.Laws.{byte-within}
+use Rattle.cursor.proofs.Counts.{byte-within}
 use Rattle.cursor.proofs.weight_at.Statement.{statement}
 use Rattle.cursor.proofs.weight_at.Tie as tie
 

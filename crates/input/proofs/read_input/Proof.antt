@@ -11,7 +11,7 @@ use lib.IntN.{ℤ, pos, negsuc}
 use lib.ListN.{length, take, drop, length-append, length-drop}
 use lib.Seq.{length-take-le}
 use Rattle.io.specs.Counts.{clamped}
-use Rattle.columns.specs.Filled.{part-whole, part-back}
+use Rattle.columns.proofs.Filled.{part-whole, part-back}
 use Rattle.input.specs.Input.{bufferLength, Ended}
 use Rattle.input.proofs.read_input.Statement.{statement}
 use Rattle.input.proofs.read_input.Tie as tie

@@ -3,7 +3,7 @@ use borrow.Author.Needs.{needs}
 use Rattle.minima.proofs.least.Statement.{statement}
 use Rattle.minima.proofs.least.Tie as tie
 use mathlib.Core.Path.{_∙_}
-use Rattle.minima.specs.Laws.{least-key}
+use Rattle.minima.proofs.Laws.{least-key}
 
 add-least-from : tie.Need-add-least-from
 add-least-from c = search needs

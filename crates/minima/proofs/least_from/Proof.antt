@@ -6,7 +6,7 @@ use Prim.Native.Nat.{_≤_, _-_}
 use native.Mathlib.Omega.{arith}
 use borrow.Author.Needs.{needs}
 use Rattle.minima.specs.Minima.{leastFrom}
-use Rattle.minima.specs.Laws.{least-start, least-more}
+use Rattle.minima.proofs.Laws.{least-start, least-more}
 
 abbrev Inv-loop : tie.InvT-loop
 Inv-loop q at k least₀ i₀ least i = (i ≤ k) × (least ≡ leastFrom q at i)

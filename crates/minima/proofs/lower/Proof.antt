@@ -1,6 +1,6 @@
 -- `minima::lower` meets its contract: the key, and the least of its two groups. Assumes nothing.
 use borrow.Author.Needs.{needs}
-use Rattle.minima.specs.Laws.{lowered-is}
+use Rattle.minima.proofs.Laws.{lowered-is}
 use Rattle.minima.proofs.lower.Statement.{statement}
 use Rattle.minima.proofs.lower.Tie as tie
 

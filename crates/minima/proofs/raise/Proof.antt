@@ -4,7 +4,7 @@ use Rattle.minima.proofs.raise.Statement.{statement}
 use Rattle.minima.proofs.raise.Tie as tie
 use native.Mathlib.Omega.{arith}
 use lib.ListN.{length-set}
-use Rattle.minima.specs.Laws.{raised-is}
+use Rattle.minima.proofs.Laws.{raised-is}
 
 least-from-requires : tie.Need-least-from-requires
 least-from-requires c κs = simp length-set (omega (arith, c .before .before .pre .0, c .before .before .pre .1))

@@ -6,7 +6,7 @@ use borrow.Author.Needs.{needs}
 use lib.ListN.{length}
 use Rattle.columns.specs.Acceptance.{longestTail}
 use Rattle.text.specs.Machine.{Wrong}
-use Rattle.reading.specs.Scanning.{Scanning, scan-unopened, scan-begun, scan-full}
+use Rattle.reading.proofs.Scanning.{Scanning, scan-unopened, scan-begun, scan-full}
 use Rattle.reading.proofs.Laws.{told, all-told, line-wrong, line-next}
 use Rattle.reading.proofs.check_text.Statement.{statement}
 use Rattle.reading.proofs.check_text.Tie as tie

@@ -9,13 +9,13 @@ use lib.ListN.{getD, drop, length-drop}
 use Rattle.weights.specs.declared.Measure.{Measure}
 use Rattle.columns.specs.Acceptance.{mostVertices}
 use Rattle.text.specs.Render.{word, opening}
-use Rattle.columns.specs.Filled.{part-whole}
+use Rattle.columns.proofs.Filled.{part-whole}
 use Rattle.cursor.specs.declared.Found.the-variants.{Number}
 use Rattle.cursor.specs.Cursor.{numberAt}
-use Rattle.cursor.specs.Laws.{byte-within, number-counts}
+use Rattle.cursor.proofs.Counts.{byte-within, number-counts}
 use Rattle.reading.specs.declared.FirstLine.the-variants as first
 use Rattle.reading.specs.Lines.{startsWith, onCount, firstLine}
-use Rattle.reading.specs.Scanning.{starts-length}
+use Rattle.reading.proofs.Scanning.{starts-length}
 use Rattle.reading.proofs.Laws.{first-unopened, first-opened, count-silent, count-named, count-unnamed}
 use Rattle.reading.proofs.first_line.Statement.{statement}
 use Rattle.reading.proofs.first_line.Tie as tie

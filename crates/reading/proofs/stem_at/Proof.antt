@@ -5,7 +5,7 @@ use borrow.Author.Needs.{needs}
 use lib.ListN.{getD}
 use Rattle.cursor.specs.declared.Found.the-variants.{Number}
 use Rattle.cursor.specs.Cursor.{numberAt}
-use Rattle.cursor.specs.Laws.{byte-within}
+use Rattle.cursor.proofs.Counts.{byte-within}
 use Rattle.reading.specs.Lines.{onOwn, onHead, stemAt}
 use Rattle.reading.proofs.Laws.{stem-none, stem-own}
 use Rattle.reading.proofs.stem_at.Statement.{statement}

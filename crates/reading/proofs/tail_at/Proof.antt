@@ -6,7 +6,7 @@ use borrow.Author.Needs.{needs}
 use lib.ListN.{length, getD}
 use Rattle.cursor.specs.declared.Found.the-variants.{Number}
 use Rattle.cursor.specs.Cursor.{numberAt}
-use Rattle.cursor.specs.Laws.{byte-within, number-counts}
+use Rattle.cursor.proofs.Counts.{byte-within, number-counts}
 use Rattle.reading.proofs.Laws.{Listed, listed-none, list-full, list-none, list-more, list-broken, list-ends}
 use Rattle.reading.proofs.tail_at.Statement.{statement}
 use Rattle.reading.proofs.tail_at.Tie as tie

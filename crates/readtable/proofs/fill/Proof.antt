@@ -4,9 +4,9 @@ use Prim.Native.Nat.{_+_, _*_, _-_, _≤_, _<_, _^_}
 use native.Mathlib.Omega.{arith}
 use borrow.Author.Needs.{needs}
 use lib.ListN.{length, length-set}
-use Rattle.text.specs.Sound.{never}
-use Rattle.reading.specs.Scanned.{scan-is-parse}
-use Rattle.reading.specs.Scanning.{scan-unopened, scan-begun, scan-begun-edges}
+use Rattle.text.proofs.Sound.{never}
+use Rattle.reading.proofs.Scanned.{scan-is-parse}
+use Rattle.reading.proofs.Scanning.{scan-unopened, scan-begun, scan-begun-edges}
 use Rattle.readtable.proofs.Laws.{Filling, filling-none, tails-room, edge-room, never-wrong, filling-next, filling-end}
 use Rattle.readtable.proofs.fill.Statement.{statement}
 use Rattle.readtable.proofs.fill.Tie as tie

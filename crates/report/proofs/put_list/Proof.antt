@@ -5,7 +5,7 @@ use native.Mathlib.Omega.{arith}
 use borrow.Author.Needs.{needs}
 use lib.ListN.{length}
 use Rattle.columns.specs.Columns.{answers}
-use Rattle.writing.specs.Written.{lent-room, within, written-part, first-fits}
+use Rattle.writing.proofs.Written.{lent-room, within, written-part, first-fits}
 use Rattle.report.specs.Report.{names, rows, list}
 use Rattle.report.proofs.put_list.Statement.{statement}
 use Rattle.report.proofs.put_list.Tie as tie

@@ -6,7 +6,7 @@ use borrow.Author.Needs.{needs}
 use lib.ListN.{length}
 use Rattle.columns.specs.Columns.{columns, answers}
 use Rattle.settle.specs.Settling.{settled}
-use Rattle.writing.specs.Written.{written-as}
+use Rattle.writing.proofs.Written.{written-as}
 use Rattle.report.specs.Report.{list, refusedLine, priced}
 use Rattle.report.proofs.Laws.{priced-refused, priced-accepted}
 use Rattle.report.proofs.put_priced.Statement.{statement}

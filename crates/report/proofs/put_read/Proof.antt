@@ -5,7 +5,7 @@ use Prim.Native.Nat.{ℕ, _*_, _≤_}
 use borrow.Author.Needs.{needs}
 use lib.ListN.{length}
 use lib.Seq.{length-take-le}
-use Rattle.writing.specs.Written.{written-as}
+use Rattle.writing.proofs.Written.{written-as}
 use Rattle.report.specs.Pieces.{lentColumns}
 use Rattle.report.proofs.Laws.{zeros-long, priced-blank}
 use Rattle.report.proofs.put_read.Statement.{statement}

@@ -6,9 +6,9 @@ use native.Mathlib.Omega.{arith}
 use borrow.Author.Needs.{needs}
 use lib.ListN.{length}
 use Rattle.text.specs.Render.{digits, tailText}
-use Rattle.writing.specs.Written.{lent-room, within, written-part, written-as, first-fits}
+use Rattle.writing.proofs.Written.{lent-room, within, written-part, written-as, first-fits}
 use Rattle.report.specs.Report.{stateWord}
-use Rattle.report.specs.Pieces.{row-split}
+use Rattle.report.proofs.Pieces.{row-split}
 use Rattle.report.proofs.put_row.Statement.{statement}
 use Rattle.report.proofs.put_row.Tie as tie
 

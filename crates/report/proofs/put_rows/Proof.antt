@@ -4,7 +4,8 @@ use native.Mathlib.Omega.{arith}
 use borrow.Author.Needs.{needs}
 use lib.ListN.{length}
 use Rattle.columns.specs.Columns.{answers}
-use Rattle.writing.specs.Written.{Written, written-none}
+use Rattle.writing.specs.Written.{Written}
+use Rattle.writing.proofs.Written.{written-none}
 use Rattle.report.specs.Report.{rows}
 use Rattle.report.proofs.Laws.{rows-within, row-starts, row-room, row-next, rows-all}
 use Rattle.report.proofs.put_rows.Statement.{statement}

@@ -5,7 +5,7 @@ use native.Mathlib.Omega.{arith}
 use borrow.Author.Needs.{needs}
 use lib.ListN.{length}
 use Rattle.weights.specs.declared.State.{State}
-use Rattle.writing.specs.Written.{written-as}
+use Rattle.writing.proofs.Written.{written-as}
 use Rattle.report.specs.Report.{stateWord}
 use Rattle.report.proofs.put_state.Statement.{statement}
 use Rattle.report.proofs.put_state.Tie as tie

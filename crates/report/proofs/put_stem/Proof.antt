@@ -5,7 +5,7 @@ use native.Mathlib.Omega.{arith}
 use borrow.Author.Needs.{needs}
 use lib.ListN.{length}
 use Rattle.text.specs.Render.{digits}
-use Rattle.writing.specs.Written.{lent-room, within, written-part, first-fits}
+use Rattle.writing.proofs.Written.{lent-room, within, written-part, first-fits}
 use Rattle.report.specs.Report.{stateWord}
 use Rattle.report.proofs.put_stem.Statement.{statement}
 use Rattle.report.proofs.put_stem.Tie as tie

@@ -9,7 +9,7 @@ use Rattle.provenance.specs.BestFirst.{blank}
 use Rattle.settle.specs.Settling.{settled}
 use Rattle.report.specs.Report.{mostInput, refusedLine, priced, readInput, report}
 use Rattle.report.specs.Pieces.{lentColumns}
-use Rattle.report.specs.Laws.{report-long}
+use Rattle.report.proofs.Reports.{report-long}
 use Rattle.report.proofs.Laws.{reported, report-refused, report-table, table-lent, report-within}
 use Rattle.report.proofs.report.Statement.{statement}
 use Rattle.report.proofs.report.Tie as tie

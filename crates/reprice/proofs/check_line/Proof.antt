@@ -6,7 +6,7 @@ use Rattle.refusal.specs.declared.Answer.the-variants.{Accepted}
 use Rattle.provenance.specs.BestFirst.{Answers}
 use Rattle.columns.specs.Columns.{Columns, columns, answers}
 use Rattle.columns.specs.Acceptance.{lentAcceptance}
-use Rattle.columns.specs.Accepted.{columns-accepted, table-accepted}
+use Rattle.columns.proofs.Accepted.{columns-accepted, table-accepted}
 use Rattle.reprice.specs.Repricing.{lineAcceptance}
 use borrow.Author.Needs.{needs}
 use Rattle.reprice.proofs.check_line.Statement.{statement}

@@ -6,7 +6,7 @@ use Rattle.refusal.specs.declared.Answer.the-variants.{Accepted}
 use Rattle.provenance.specs.BestFirst.{Answers}
 use Rattle.columns.specs.Columns.{Columns, columns, answers}
 use Rattle.columns.specs.Acceptance.{lentAcceptance}
-use Rattle.columns.specs.Accepted.{columns-accepted}
+use Rattle.columns.proofs.Accepted.{columns-accepted}
 use Rattle.settle.proofs.Checked.{checked-refused, checked-told}
 use Rattle.settle.proofs.check_answers.Statement.{statement}
 use Rattle.settle.proofs.check_answers.Tie as tie

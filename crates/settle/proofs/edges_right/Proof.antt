@@ -9,7 +9,8 @@ use lib.ListN.{length}
 use Rattle.weights.specs.Measures.{algebra}
 use Rattle.columns.specs.Columns.{answers, hypergraph}
 use Rattle.provenance.specs.BestFirst.{labels}
-use Rattle.provenance.specs.Local.{every, edgeRight, every-more, every-stop}
+use Rattle.provenance.specs.Local.{every, edgeRight}
+use Rattle.provenance.proofs.Local.{every-more, every-stop}
 use Rattle.offers.specs.Lent.{lent, cell}
 use Rattle.settle.proofs.edges_right.Statement.{statement}
 use Rattle.settle.proofs.edges_right.Tie as tie

@@ -7,7 +7,7 @@ use Rattle.refusal.specs.declared.Answer.the-variants.{Accepted}
 use Rattle.provenance.specs.BestFirst.{Answers}
 use Rattle.columns.specs.Columns.{Columns, columns, answers}
 use Rattle.columns.specs.Acceptance.{lentAcceptance}
-use Rattle.columns.specs.Accepted.{AcceptedColumns, columns-accepted}
+use Rattle.columns.proofs.Accepted.{AcceptedColumns, columns-accepted}
 use Rattle.settle.proofs.Settled.{settled-refused, settled-all, told-accepted, told-answers}
 
 -- the table and the answer columns as they came, which are accepted

@@ -9,7 +9,7 @@ use lib.ListN.{length, length-replicate}
 use Rattle.columns.specs.Columns.{tailOf}
 use Rattle.uses.specs.Uses.{pairsIn}
 use Rattle.uses.specs.Indexable.{Readable, counted}
-use Rattle.uses.specs.Pairs.{length-pairs}
+use Rattle.uses.proofs.Pairs.{length-pairs}
 use Rattle.uses.proofs.Counting.{count-none, counting}
 
 abbrev Inv-loop : tie.InvT-loop

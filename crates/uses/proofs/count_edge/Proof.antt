@@ -11,7 +11,7 @@ use lib.ListN.{length, getD, take, length-set}
 use Rattle.columns.specs.Columns.{tailOf}
 use Rattle.uses.specs.Uses.{pairsIn}
 use Rattle.uses.specs.Indexable.{TailReadable}
-use Rattle.uses.specs.Pairs.{length-pairs}
+use Rattle.uses.proofs.Pairs.{length-pairs}
 use Rattle.uses.proofs.Seen.{seenIn, vertex-below, one-more, whole}
 use Rattle.uses.proofs.Counting.{countedBy, count-first, count-last, count-fits, count-again, count-new}
 

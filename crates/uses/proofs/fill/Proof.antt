@@ -8,7 +8,7 @@ use lib.ListN.{length}
 use Rattle.columns.specs.Columns.{tailOf}
 use Rattle.uses.specs.Uses.{pairsIn}
 use Rattle.uses.specs.Indexable.{FilledTo}
-use Rattle.uses.specs.Pairs.{length-pairs}
+use Rattle.uses.proofs.Pairs.{length-pairs}
 use Rattle.uses.proofs.Filling.{fill-none, filling, fill-more}
 
 abbrev Inv-loop : tie.InvT-loop

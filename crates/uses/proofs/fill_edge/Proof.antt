@@ -15,7 +15,7 @@ use lib.ListN.{length, getD, take}
 use Rattle.columns.specs.Columns.{tailOf}
 use Rattle.uses.specs.Uses.{pairsIn, useOffset}
 use Rattle.uses.specs.Indexable.{TailReadable, endsIn}
-use Rattle.uses.specs.Pairs.{length-pairs}
+use Rattle.uses.proofs.Pairs.{length-pairs}
 use Rattle.uses.proofs.Seen.{seenIn, usesBy, vertex-below, vertex-listed, one-more, whole}
 use Rattle.uses.proofs.Filling.{FilledBy, fill-first, fill-last, start-is, size-is, end-within, ends-seen, fill-again, place-free, fill-new}
 

@@ -7,7 +7,7 @@ use native.Mathlib.Omega.{arith}
 use lib.ListN.{length, length-set}
 use Rattle.uses.specs.Uses.{pairsIn}
 use Rattle.uses.specs.Indexable.{running}
-use Rattle.uses.specs.Pairs.{length-pairs}
+use Rattle.uses.proofs.Pairs.{length-pairs}
 use Rattle.uses.proofs.Placing.{placedTo, place-none, place-all, running-mono, running-next, place-count, place-more}
 
 abbrev Inv-loop : tie.InvT-loop

@@ -12,7 +12,7 @@ use Rattle.weights.specs.Measures.{algebra}
 use Rattle.provenance.specs.BestFirst.{opening}
 use Rattle.columns.specs.Columns.{offsetAt, lengthAt, tailAt, hypergraph}
 use Rattle.offers.specs.Lent.{lent, cell}
-use Rattle.offers.specs.Laws.{edge-in}
+use Rattle.offers.proofs.Usable.{edge-in}
 use Rattle.minima.specs.Minima.{lowered}
 use Rattle.queue.specs.Queue.{offered}
 use Rattle.waiting.specs.Lines.{lines, Gone}

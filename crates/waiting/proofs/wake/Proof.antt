@@ -6,7 +6,7 @@ use native.Mathlib.Omega.{arith}
 use borrow.Author.Needs.{needs}
 use Rattle.weights.specs.Measures.{algebra}
 use Rattle.offers.specs.Lent.{lent, cell}
-use Rattle.offers.specs.Laws.{head-in}
+use Rattle.offers.proofs.Usable.{head-in}
 use Rattle.waiting.specs.Lines.{stays}
 use Rattle.waiting.proofs.Steps.{edge-room, heard-made}
 

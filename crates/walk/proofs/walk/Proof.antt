@@ -9,8 +9,8 @@ use Rattle.weights.specs.declared.Measure.{Measure}
 use Rattle.columns.specs.Acceptance.{mostListed, longestTail}
 use Rattle.text.specs.Machine.{Parse, Whole, Wrong, parse}
 use Rattle.reading.specs.Lines.{scan}
-use Rattle.reading.specs.Scanned.{scan-is-parse}
-use Rattle.reading.specs.Scanning.{Scanning, scan-unopened, scan-begun, scan-full, scan-end}
+use Rattle.reading.proofs.Scanned.{scan-is-parse}
+use Rattle.reading.proofs.Scanning.{Scanning, scan-unopened, scan-begun, scan-full, scan-end}
 use Rattle.reading.proofs.Laws.{line-wrong, line-next}
 use Rattle.walk.specs.Walked.{walkedOf}
 use Rattle.walk.proofs.walk.Statement.{statement}

@@ -4,7 +4,7 @@ use native.Mathlib.Omega.{arith}
 use borrow.Author.Needs.{needs}
 use lib.ListN.{length}
 use Rattle.columns.specs.Columns.{Columns, columns}
-use Rattle.writing.specs.Written.{written-as}
+use Rattle.writing.proofs.Written.{written-as}
 use Rattle.writetable.proofs.Laws.{EdgeHere, edge-here, sliced-line, render-length, Putting, putting-none, putting-next, putting-all, place, next-room}
 use Rattle.writetable.proofs.put_text.Statement.{statement}
 use Rattle.writetable.proofs.put_text.Tie as tie

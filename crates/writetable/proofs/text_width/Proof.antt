@@ -5,8 +5,8 @@ use native.Mathlib.Omega.{arith}
 use borrow.Author.Needs.{needs}
 use lib.ListN.{length}
 use Rattle.columns.specs.Columns.{Columns, columns}
-use Rattle.columns.specs.Accepted.{table-accepted}
-use Rattle.writing.specs.Widths.{header-most}
+use Rattle.columns.proofs.Accepted.{table-accepted}
+use Rattle.writing.proofs.Widths.{header-most}
 use Rattle.writetable.proofs.Laws.{EdgeHere, edge-here, sliced-fits, sliced-line, Measured, measured-none, measured-next, measured-all}
 use Rattle.writetable.proofs.text_width.Statement.{statement}
 use Rattle.writetable.proofs.text_width.Tie as tie

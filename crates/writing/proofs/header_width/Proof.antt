@@ -4,7 +4,7 @@ use native.Mathlib.Omega.{arith}
 use borrow.Author.Needs.{needs}
 use lib.ListN.{length-append}
 use Rattle.text.specs.Render.{digits, opening, measureText, header}
-use Rattle.writing.specs.Widths.{width-most, measure-most}
+use Rattle.writing.proofs.Widths.{width-most, measure-most}
 use Rattle.writing.proofs.header_width.Statement.{statement}
 use Rattle.writing.proofs.header_width.Tie as tie
 

@@ -3,7 +3,7 @@ use mathlib.Core.Path.{sym, _∙_, ap}
 use borrow.Author.Needs.{needs}
 use lib.ListN.{length}
 use Rattle.text.specs.Render.{word}
-use Rattle.writing.specs.Widths.{default-end, named-end}
+use Rattle.writing.proofs.Widths.{default-end, named-end}
 use Rattle.writing.proofs.measure_width.Statement.{statement}
 use Rattle.writing.proofs.measure_width.Tie as tie
 

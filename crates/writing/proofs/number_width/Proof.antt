@@ -4,7 +4,7 @@ use Prim.Native.Nat.{_+_, _≤_}
 use native.Mathlib.Omega.{arith}
 use lib.ListN.{length}
 use Rattle.text.specs.Render.{digits}
-use Rattle.writing.specs.Widths.{width-more, width-one}
+use Rattle.writing.proofs.Widths.{width-more, width-one}
 use Rattle.writing.proofs.number_width.Statement.{statement}
 use Rattle.writing.proofs.number_width.Tie as tie
 

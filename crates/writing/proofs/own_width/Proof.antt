@@ -7,7 +7,7 @@ use borrow.Author.Needs.{needs}
 use borrow.Author.Tests.{eq-eqb, ne-eqb}
 use lib.ListN.{length}
 use Rattle.text.specs.Render.{digits, ownText}
-use Rattle.writing.specs.Widths.{own-struck, own-plain, width-most}
+use Rattle.writing.proofs.Widths.{own-struck, own-plain, width-most}
 use Rattle.writing.proofs.own_width.Statement.{statement}
 use Rattle.writing.proofs.own_width.Tie as tie
 

@@ -3,7 +3,8 @@ use Prim.Native.Nat.{_-_, _≤_}
 use native.Mathlib.Omega.{arith}
 use borrow.Author.Needs.{needs}
 use lib.ListN.{length, take}
-use Rattle.writing.specs.Written.{Written, written-none}
+use Rattle.writing.specs.Written.{Written}
+use Rattle.writing.proofs.Written.{written-none}
 use Rattle.writing.proofs.Laws.{bytes-next, bytes-all}
 use Rattle.writing.proofs.put_bytes.Statement.{statement}
 use Rattle.writing.proofs.put_bytes.Tie as tie

@@ -7,8 +7,8 @@ use borrow.Author.Needs.{needs}
 use lib.ListN.{length}
 use Rattle.text.specs.Tables.{edge}
 use Rattle.text.specs.Render.{digits, ownText, tailText}
-use Rattle.writing.specs.Written.{lent-room, within, written-part, written-as, first-fits}
-use Rattle.writing.specs.Widths.{line-split}
+use Rattle.writing.proofs.Written.{lent-room, within, written-part, written-as, first-fits}
+use Rattle.writing.proofs.Widths.{line-split}
 use Rattle.writing.proofs.put_edge.Statement.{statement}
 use Rattle.writing.proofs.put_edge.Tie as tie
 

@@ -5,7 +5,7 @@ use native.Mathlib.Omega.{arith}
 use borrow.Author.Needs.{needs}
 use lib.ListN.{length}
 use Rattle.text.specs.Render.{digits, opening, measureText, header}
-use Rattle.writing.specs.Written.{lent-room, within, written-part, first-fits}
+use Rattle.writing.proofs.Written.{lent-room, within, written-part, first-fits}
 use Rattle.writing.proofs.put_header.Statement.{statement}
 use Rattle.writing.proofs.put_header.Tie as tie
 

@@ -5,8 +5,8 @@ use native.Mathlib.Omega.{arith}
 use borrow.Author.Needs.{needs}
 use lib.ListN.{length}
 use Rattle.text.specs.Render.{word, measureText}
-use Rattle.writing.specs.Widths.{default-end, named-end}
-use Rattle.writing.specs.Written.{written-as}
+use Rattle.writing.proofs.Widths.{default-end, named-end}
+use Rattle.writing.proofs.Written.{written-as}
 use Rattle.writing.proofs.put_measure.Statement.{statement}
 use Rattle.writing.proofs.put_measure.Tie as tie
 

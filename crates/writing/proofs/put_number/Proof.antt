@@ -2,7 +2,7 @@
 use native.Mathlib.Omega.{arith}
 use borrow.Author.Needs.{needs}
 use lib.ListN.{length-set}
-use Rattle.writing.specs.Widths.{width-more, width-one}
+use Rattle.writing.proofs.Widths.{width-more, width-one}
 use Rattle.writing.proofs.Laws.{Digits, digits-none, digits-next, digits-written}
 use Rattle.writing.proofs.put_number.Statement.{statement}
 use Rattle.writing.proofs.put_number.Tie as tie

@@ -7,8 +7,8 @@ use borrow.Author.Needs.{needs}
 use borrow.Author.Tests.{eq-eqb, ne-eqb}
 use lib.ListN.{length}
 use Rattle.text.specs.Render.{digits, ownText}
-use Rattle.writing.specs.Written.{written-none, written-byte, written-as}
-use Rattle.writing.specs.Widths.{own-struck, own-plain}
+use Rattle.writing.proofs.Written.{written-none, written-byte, written-as}
+use Rattle.writing.proofs.Widths.{own-struck, own-plain}
 use Rattle.writing.proofs.put_own.Statement.{statement}
 use Rattle.writing.proofs.put_own.Tie as tie
 

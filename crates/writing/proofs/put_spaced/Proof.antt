@@ -4,7 +4,8 @@ use native.Mathlib.Omega.{arith}
 use borrow.Author.Needs.{needs}
 use lib.ListN.{set}
 use Rattle.text.specs.Render.{digits}
-use Rattle.writing.specs.Written.{Written, written-none, written-byte, lent-room, within, written-part}
+use Rattle.writing.specs.Written.{Written}
+use Rattle.writing.proofs.Written.{written-none, written-byte, lent-room, within, written-part}
 use Rattle.writing.proofs.put_spaced.Statement.{statement}
 use Rattle.writing.proofs.put_spaced.Tie as tie
 

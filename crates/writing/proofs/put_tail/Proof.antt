@@ -4,7 +4,8 @@ use native.Mathlib.Omega.{arith}
 use borrow.Author.Needs.{needs}
 use lib.ListN.{length, take}
 use Rattle.text.specs.Render.{tailText}
-use Rattle.writing.specs.Written.{Written, written-none}
+use Rattle.writing.specs.Written.{Written}
+use Rattle.writing.proofs.Written.{written-none}
 use Rattle.writing.proofs.Laws.{tail-next, tail-room, tail-ends, listed-within}
 use Rattle.writing.proofs.put_tail.Statement.{statement}
 use Rattle.writing.proofs.put_tail.Tie as tie

@@ -6,7 +6,7 @@ use borrow.Author.Needs.{needs}
 use lib.ListN.{length, take}
 use Rattle.columns.specs.Acceptance.{mostVertices, longestTail}
 use Rattle.text.specs.Render.{tailText}
-use Rattle.writing.specs.Widths.{width-listed, listed-most, width-tail}
+use Rattle.writing.proofs.Widths.{width-listed, listed-most, width-tail}
 use Rattle.writing.proofs.tail_width.Statement.{statement}
 use Rattle.writing.proofs.tail_width.Tie as tie
 

@@ -1,5 +1,5 @@
 use native.Mathlib.Omega.{arith}
-use Rattle.refusal.specs.Refusals.{numbered}
+use Rattle.refusal.proofs.Refusals.{numbered}
 use borrow.Author.Needs.{needs}
 use Rattle.refusal.proofs.Refusal.result.Statement.{statement}
 use Rattle.refusal.proofs.Refusal.result.Tie as tie

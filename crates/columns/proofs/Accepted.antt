@@ -12,7 +12,7 @@ use lib.Dec.{ltb}
 use borrow.Author.Tests.{ltb-true, leb-true, eqb-true, lt-ltb, le-leb, eq-eqb}
 use Rattle.weights.specs.declared.Hyperedge.{Hyperedge}
 use Rattle.weights.specs.Figures.{struck}
-use Rattle.weights.specs.Choice.{both-true}
+use Rattle.weights.proofs.Choice.{both-true}
 use Rattle.refusal.specs.declared.Refusal.{Refusal}
 use Rattle.refusal.specs.declared.Answer.{Answer}
 use Rattle.refusal.specs.declared.Answer.the-variants.{Accepted, Refused}

@@ -17,25 +17,26 @@ use Rattle.refusal.specs.Refusals.{placeOf}
 use Rattle.provenance.specs.BestFirst.{Answers, blank}
 use Rattle.columns.specs.Columns.{Columns}
 use Rattle.columns.specs.Acceptance.{mostEdges, mostListed, acceptance, lentAcceptance}
-use Rattle.columns.specs.Accepted.{table-accepted, columns-accept}
+use Rattle.columns.proofs.Accepted.{table-accepted, columns-accept}
 use Rattle.settle.specs.Settling.{answersOf, settled}
-use Rattle.settle.specs.Demands.{settled-result}
+use Rattle.settle.proofs.Demands.{settled-result}
 use Rattle.text.specs.Tables.{Table, headsOf, ownsOf, spansFrom, tailsOf, closed}
 use Rattle.text.specs.Render.{render, Permitted}
 use Rattle.text.specs.Machine.{Parse, Whole, Wrong, parse}
-use Rattle.text.specs.Digits.{pick-by}
-use Rattle.text.specs.Rows.{closed-accepted, length-heads, length-owns, length-spans, length-tails}
-use Rattle.text.specs.Sound.{sound}
+use Rattle.text.proofs.Digits.{pick-by}
+use Rattle.text.proofs.Rows.{closed-accepted, length-heads, length-owns, length-spans, length-tails}
+use Rattle.text.proofs.Sound.{sound}
 use Rattle.text.specs.Permitted.{FirstWrong}
-use Rattle.columns.specs.Filled.{length-filled}
+use Rattle.columns.proofs.Filled.{length-filled}
 use Rattle.reading.specs.Lines.{headerOf}
 use Rattle.readtable.specs.Read.{ReadOutcome, columnsRead, roomFor, readInto}
-use Rattle.roundtrip.specs.RoundTrip.{Room, headerFor, filledWith, held, read-accepted, read-rendered}
-use Rattle.roundtrip.specs.Refused.{unpermitted-is-refused}
+use Rattle.roundtrip.specs.RoundTrip.{Room, headerFor, filledWith}
+use Rattle.roundtrip.proofs.RoundTrip.{held, read-accepted, read-rendered}
+use Rattle.roundtrip.proofs.Refused.{unpermitted-is-refused}
 use Rattle.report.specs.Report.{mostInput, mostOutput, list, refusedLine, priced, listedAs, listed, readInput, report}
 use Rattle.report.specs.Pieces.{Lent}
-use Rattle.report.specs.Closed.{answers-closed, filled-back}
-use Rattle.report.specs.Bounds.{answers-ranged, list-most, refused-most, wrong-low}
+use Rattle.report.proofs.Closed.{answers-closed, filled-back}
+use Rattle.report.proofs.Bounds.{answers-ranged, list-most, refused-most, wrong-low}
 
 -- A table that was read ------------------------------------------------------------------------------------------------------------------------
 

@@ -12,12 +12,13 @@ use Rattle.weights.specs.declared.Measure.the-variants.{Cost, Days}
 use Rattle.weights.specs.Figures.{struck, isStruck}
 use Rattle.weights.specs.Choice.{pick}
 use Rattle.columns.specs.Acceptance.{mostVertices, mostEdges, mostListed, allBelow}
-use Rattle.columns.specs.Accepted.{below-at}
+use Rattle.columns.proofs.Accepted.{below-at}
 use Rattle.text.specs.Tables.{Edge, edge, Table, total}
 use Rattle.text.specs.Render.{digits, word, opening, measureText, header, ownText, tailText, edgeText, edgesText, tableText}
 use Rattle.text.specs.Machine.{Place, Vertices, Head, Own, Listed, State, Spelling, First, Within, Failed, begun, withEdge, mayList, limit, digitOf, grown, instead, after, spell, ended, step, run, Whole, finish, begin, parse}
-use Rattle.text.specs.Digits.{digits-one, digits-more, byte-digit, by-digits}
-use Rattle.text.specs.Rows.{EdgeFits, All, one, Fits, total-append}
+use Rattle.text.proofs.Digits.{digits-one, digits-more, byte-digit, by-digits}
+use Rattle.text.specs.Rows.{EdgeFits, All, one, Fits}
+use Rattle.text.proofs.Rows.{total-append}
 
 -- reading what is joined is reading twice
 pub run-append : (σ : State) (a b : List ℕ) → run σ (a ++ b) ≡ run (run σ a) b

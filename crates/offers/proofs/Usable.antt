@@ -9,7 +9,7 @@ use Rattle.provenance.specs.BestFirst.{Answers}
 use Rattle.provenance.specs.Existence.{Sized}
 use Rattle.columns.specs.Columns.{Columns, columns, headAt}
 use Rattle.columns.specs.Acceptance.{mostVertices, acceptance}
-use Rattle.columns.specs.Accepted.{table-accepted, below-at}
+use Rattle.columns.proofs.Accepted.{table-accepted, below-at}
 use Rattle.offers.specs.Lent.{cell, EdgeIn, Usable, Turning}
 
 module _ {c : Columns} {ws ds : List ℕ} (u : Usable c ws ds) (e : ℕ) (h : e < length (c .heads)) where

@@ -10,7 +10,7 @@ use lib.ListN.{length, getD, length-append, List·getD-append}
 use lib.Seq.{getD-at, getD-append-add}
 use Rattle.weights.specs.Lists.{member}
 use Rattle.weights.proofs.Lists.{true-or-false}
-use Rattle.uses.specs.Pairs.{last-or-below}
+use Rattle.uses.proofs.Pairs.{last-or-below}
 use Rattle.uses.specs.Uses.{usesBelow, useList, useOffset, useCount}
 
 module _ (tail : ℕ → List ℕ) (v : ℕ) where

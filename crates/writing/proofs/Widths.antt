@@ -11,12 +11,12 @@ use Rattle.weights.specs.declared.Measure.{Measure}
 use Rattle.weights.specs.declared.Measure.the-variants.{Cost, Days}
 use Rattle.weights.specs.Figures.{struck, isStruck}
 use Rattle.columns.specs.Acceptance.{mostVertices}
-use Rattle.columns.specs.Accepted.{below-at}
+use Rattle.columns.proofs.Accepted.{below-at}
 use Rattle.text.specs.Tables.{Edge}
 use Rattle.text.specs.Render.{digits, default, same, opening, word, measureText, header, ownText, tailText, edgeText}
-use Rattle.text.specs.Digits.{pick-by, digits-one, digits-more, by-digits}
+use Rattle.text.proofs.Digits.{pick-by, digits-one, digits-more, by-digits}
 use Rattle.text.specs.Rows.{EdgeFits}
-use Rattle.text.specs.Sound.{tail-text-snoc}
+use Rattle.text.proofs.Sound.{tail-text-snoc}
 use Rattle.writing.specs.Written.{TailFits}
 
 -- Numbers ------------------------------------------------------------------------------------------------------------------------------------

@@ -6,7 +6,7 @@ use Prim.Native.Nat.{ℕ}
 use Rattle.weights.specs.declared.Label.{Label}
 use Rattle.weights.specs.Measures.{Algebra}
 use Rattle.weights.specs.Laws.{NoWorse, Lawful}
-use Rattle.weights.specs.Weighing.{Pointwise, weigh-mono}
+use Rattle.weights.proofs.Weighing.{Pointwise, weigh-mono}
 use Rattle.provenance.specs.Hypergraph.{Hypergraph, Stands, Derivation, Derivations, node, none, more, weight, weights}
 use Rattle.provenance.specs.Labelling.{Made, AllMade, each, tail-weights, Ready, Fixpoint}
 

@@ -8,10 +8,11 @@ use native.Mathlib.Numerals.{add-one}
 use native.Mathlib.Omega.{arith}
 use lib.ListN.{length, getD, drop, List·getD-append}
 use Rattle.weights.specs.Lists.{member}
-use Rattle.columns.specs.Filled.{filled, length-filled}
+use Rattle.columns.specs.Filled.{filled}
+use Rattle.columns.proofs.Filled.{length-filled}
 use Rattle.uses.specs.Uses.{usesBelow, useList, useOffset, useCount, usePairs, Index, indexed}
-use Rattle.uses.specs.Pairs.{length-pairs, pairs-first, pairs-second}
-use Rattle.uses.specs.Lists.{uses-sound, uses-complete, uses-ascend, offset-next, offset-end, uses-at}
+use Rattle.uses.proofs.Pairs.{length-pairs, pairs-first, pairs-second}
+use Rattle.uses.proofs.Lists.{uses-sound, uses-complete, uses-ascend, offset-next, offset-end, uses-at}
 
 -- the three parts of what indexing leaves
 pub record Indexed (tail : ℕ → List ℕ) (m n : ℕ) (old : List ℕ) (total : ℕ) (index list : List ℕ) : Type 0 where

@@ -11,7 +11,7 @@ use Rattle.refusal.specs.declared.Answer.the-variants.{Accepted}
 use Rattle.provenance.specs.BestFirst.{Answers}
 use Rattle.columns.specs.Columns.{Columns, ownAt, offsetAt, lengthAt, withOwn}
 use Rattle.columns.specs.Acceptance.{edgeAt, edgesAcceptance, acceptance, lentAcceptance}
-use Rattle.columns.specs.Accepted.{both-accepted, edge-accepted, edge-accepts, table-accepted, columns-accepted, columns-accept}
+use Rattle.columns.proofs.Accepted.{both-accepted, edge-accepted, edge-accepts, table-accepted, columns-accepted, columns-accept}
 
 module _ (c : Columns) (e w : ℕ) (fits : e < length (c .own)) where
   own-here : ownAt (withOwn c e w) e ≡ w

@@ -16,14 +16,14 @@ use Rattle.columns.specs.Acceptance.{mostVertices, mostEdges, mostListed, longe
 use Rattle.text.specs.Tables.{Edge, Table, total}
 use Rattle.text.specs.Render.{spoken, word, opening}
 use Rattle.text.specs.Machine.{begun, withEdge, nextLine, mayList, Whole, Wrong}
-use Rattle.text.specs.Digits.{pick-by}
-use Rattle.text.specs.Rows.{total-snoc}
+use Rattle.text.proofs.Digits.{pick-by}
+use Rattle.text.proofs.Rows.{total-snoc}
 use Rattle.cursor.specs.declared.Found.{Found}
 use Rattle.cursor.specs.declared.Found.the-variants.{Number, NotANumber}
 use Rattle.cursor.specs.declared.FoundWeight.{FoundWeight}
 use Rattle.cursor.specs.declared.FoundWeight.the-variants as weight
 use Rattle.cursor.specs.Cursor.{numberAt, weightAt}
-use Rattle.cursor.specs.Laws.{byte-within, number-counts, weight-counts}
+use Rattle.cursor.proofs.Counts.{byte-within, number-counts, weight-counts}
 use Rattle.reading.specs.declared.FirstLine.{FirstLine}
 use Rattle.reading.specs.declared.FirstLine.the-variants as first
 use Rattle.reading.specs.declared.Stem.{Stem}

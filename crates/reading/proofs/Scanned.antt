@@ -15,14 +15,14 @@ use Rattle.columns.specs.Acceptance.{mostVertices, mostEdges}
 use Rattle.text.specs.Tables.{edge, Table}
 use Rattle.text.specs.Render.{default, spoken, word, opening}
 use Rattle.text.specs.Machine.{Place, Vertices, Head, Own, Listed, State, Spelling, First, Within, Failed, begun, withEdge, nextLine, mayList, limit, lineAt, digitOf, grown, instead, after, spell, ended, step, run, Parse, Whole, Wrong, finish, begin, parse}
-use Rattle.text.specs.Digits.{pick-by, digit-byte}
-use Rattle.text.specs.Places.{run-failed}
+use Rattle.text.proofs.Digits.{pick-by, digit-byte}
+use Rattle.text.proofs.Places.{run-failed}
 use Rattle.cursor.specs.declared.Found.{Found}
 use Rattle.cursor.specs.declared.Found.the-variants.{Number, NotANumber}
 use Rattle.cursor.specs.declared.FoundWeight.{FoundWeight}
 use Rattle.cursor.specs.declared.FoundWeight.the-variants as weight
 use Rattle.cursor.specs.Cursor.{digitsFrom, numberOf, numberAt, asWeight, weightAt}
-use Rattle.cursor.specs.Laws.{byte-within}
+use Rattle.cursor.proofs.Counts.{byte-within}
 use Rattle.reading.specs.declared.FirstLine.{FirstLine}
 use Rattle.reading.specs.declared.FirstLine.the-variants as first
 use Rattle.reading.specs.declared.Stem.{Stem}

@@ -13,13 +13,13 @@ use Rattle.weights.specs.Measures.{algebra}
 use Rattle.refusal.specs.declared.Answer.the-variants.{Accepted}
 use Rattle.provenance.specs.Hypergraph.{Hypergraph}
 use Rattle.provenance.specs.BestFirst.{best-first}
-use Rattle.columns.specs.Filled.{take-filled}
+use Rattle.columns.proofs.Filled.{take-filled}
 use Rattle.columns.specs.Columns.{Columns, columns, headAt, ownAt, part, tailAt, hypergraph}
 use Rattle.columns.specs.Acceptance.{acceptance}
-use Rattle.columns.specs.Accepted.{AcceptedTable, table-accepted}
+use Rattle.columns.proofs.Accepted.{AcceptedTable, table-accepted}
 use Rattle.settle.specs.Settling.{answersOf}
 use Rattle.text.specs.Tables.{Edge, edge, edgesFrom, edgesOf, closed}
-use Rattle.text.specs.Rows.{length-heads, closed-edges, closed-accepted}
+use Rattle.text.proofs.Rows.{length-heads, closed-edges, closed-accepted}
 use Rattle.readtable.specs.Read.{columnsRead}
 use Rattle.roundtrip.specs.RoundTrip.{headerFor, filledWith}
 

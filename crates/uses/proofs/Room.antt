@@ -14,12 +14,12 @@ use Rattle.refusal.specs.declared.Answer.the-variants.{Accepted}
 use Rattle.weights.specs.Choice.{pick}
 use Rattle.columns.specs.Columns.{Columns, offsetAt, lengthAt, tailAt}
 use Rattle.columns.specs.Acceptance.{allBelow, edgeAt, edgesAcceptance, acceptance}
-use Rattle.columns.specs.Accepted.{below-at, below-all, both-accepted, edge-accepted, table-accepted}
+use Rattle.columns.proofs.Accepted.{below-at, below-all, both-accepted, edge-accepted, table-accepted}
 use Rattle.uses.specs.Uses.{usesBelow, useList, pairsIn}
-use Rattle.uses.specs.Laws.{Indexed}
+use Rattle.uses.proofs.Laws.{Indexed}
 use Rattle.uses.specs.Indexable.{Indexable}
-use Rattle.uses.specs.Pairs.{same-or-not}
-use Rattle.uses.specs.Lists.{uses-same, more-length, offset-next}
+use Rattle.uses.proofs.Pairs.{same-or-not}
+use Rattle.uses.proofs.Lists.{uses-same, more-length, offset-next}
 
 -- how many of the vertices below n are in a list
 unfoldable hits : ℕ → List ℕ → ℕ

@@ -11,7 +11,7 @@ use borrow.Author.Tests.{ltb-true, ltb-false, eqb-true}
 use Rattle.weights.specs.declared.Weight.{Weight}
 use Rattle.weights.specs.Figures.{struck}
 use Rattle.text.specs.Machine.{digitOf}
-use Rattle.text.specs.Digits.{pick-by}
+use Rattle.text.proofs.Digits.{pick-by}
 use Rattle.cursor.specs.declared.Found.{Found}
 use Rattle.cursor.specs.declared.Found.the-variants.{Number, NotANumber}
 use Rattle.cursor.specs.declared.FoundWeight.{FoundWeight}

@@ -15,8 +15,9 @@ use Rattle.columns.specs.Acceptance.{mostVertices, mostEdges, mostListed, allBe
 use Rattle.text.specs.Tables.{Edge, edge, Table, total}
 use Rattle.text.specs.Render.{digits, default, spoken, word, opening, measureText, header, ownText, tailText, edgeText, edgesText, tableText}
 use Rattle.text.specs.Machine.{Place, Vertices, Head, Own, Listed, State, Spelling, First, Within, Failed, begun, withEdge, nextLine, mayList, limit, digitOf, grown, instead, after, spell, ended, step, run, Whole, Wrong, finish, begin, parse}
-use Rattle.text.specs.Digits.{pick-by, digits-one, digits-more, digit-byte}
-use Rattle.text.specs.Rows.{EdgeFits, none, Fits, all-snoc, below-snoc, total-snoc}
+use Rattle.text.proofs.Digits.{pick-by, digits-one, digits-more, digit-byte}
+use Rattle.text.specs.Rows.{EdgeFits, none, Fits}
+use Rattle.text.proofs.Rows.{all-snoc, below-snoc, total-snoc}
 
 -- Texts of one more ----------------------------------------------------------------------------------------------------------------------
 

@@ -8,14 +8,14 @@ use native.Mathlib.Decide.{decLe}
 use Rattle.weights.specs.declared.Label.{Label}
 use Rattle.weights.specs.Measures.{Algebra, weigh}
 use Rattle.weights.specs.Laws.{NoWorse, Lawful}
-use Rattle.weights.specs.Weighing.{no-worse-eq}
+use Rattle.weights.proofs.Weighing.{no-worse-eq}
 use Rattle.weights.specs.Order.{Ahead}
 use Rattle.provenance.specs.Hypergraph.{Hypergraph, Stands, Derivation, Derivations, node, none, more, weight, weights, Best, Thrifty, AllThrifty, depth, root}
 use Rattle.provenance.specs.Hypergraph
 use Rattle.provenance.specs.Labelling.{each, greatest, tail-weights, deepest, candidate, Fixpoint}
 use Rattle.provenance.specs.Means.{Derivable, Means, underivable, derivable}
-use Rattle.provenance.specs.LowerBound.{bound, bounds}
-use Rattle.provenance.specs.Support.{follows-root, chosen, supports}
+use Rattle.provenance.proofs.LowerBound.{bound, bounds}
+use Rattle.provenance.proofs.Support.{follows-root, chosen, supports}
 
 module _ (A : Algebra) {H : Hypergraph} (own : ℕ → ℕ) (ls : ℕ → Label) where
   -- what holds of a thrifty derivation

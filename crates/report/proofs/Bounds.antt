@@ -19,24 +19,25 @@ use Rattle.weights.specs.Labels.{unmade, stateOf, entryOf}
 use Rattle.weights.specs.Measures.{days, algebra, fold, weigh}
 use Rattle.refusal.specs.declared.Refusal.{Refusal}
 use Rattle.refusal.specs.declared.Answer.the-variants.{Accepted}
-use Rattle.refusal.specs.Refusals.{numberOf, placeOf, numbered}
+use Rattle.refusal.specs.Refusals.{numberOf, placeOf}
+use Rattle.refusal.proofs.Refusals.{numbered}
 use Rattle.provenance.specs.Hypergraph.{Derivation, Derivations, node, none, more, weight, weights, root}
 use Rattle.provenance.specs.Means.{Means, underivable, derivable}
 use Rattle.provenance.specs.BestFirst.{Answers, labels}
 use Rattle.columns.specs.Columns.{Columns, ownAt, hypergraph}
 use Rattle.columns.specs.Acceptance.{mostVertices, mostEdges, acceptance}
-use Rattle.columns.specs.Accepted.{table-accepted}
+use Rattle.columns.proofs.Accepted.{table-accepted}
 use Rattle.settle.specs.Settling.{answersOf}
-use Rattle.settle.specs.Demands.{answers-fixpoint, answers-mean}
+use Rattle.settle.proofs.Demands.{answers-fixpoint, answers-mean}
 use Rattle.text.specs.Tables.{Edge, Table}
 use Rattle.text.specs.Render.{digits}
-use Rattle.text.specs.Digits.{pick-by}
+use Rattle.text.proofs.Digits.{pick-by}
 use Rattle.text.specs.Machine.{begun, withEdge, mayList, Parse, Whole, Wrong, parse}
 use Rattle.reading.specs.declared.FirstLine.{FirstLine}
 use Rattle.reading.specs.declared.FirstLine.the-variants as first
 use Rattle.reading.specs.Lines.{firstLine, Row, Holds, Fails, rowAt, onRow, scanFrom, onFirst, scan}
-use Rattle.reading.specs.Scanned.{scan-is-parse}
-use Rattle.writing.specs.Widths.{width-one, width-more}
+use Rattle.reading.proofs.Scanned.{scan-is-parse}
+use Rattle.writing.proofs.Widths.{width-one, width-more}
 use Rattle.report.specs.Report.{mostOutput, names, stateWord, row, rows, list, refusedWord, refusedLine}
 
 -- Numbers ----------------------------------------------------------------------------------------------------------------------------------------

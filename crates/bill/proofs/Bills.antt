@@ -1,0 +1,89 @@
+-- What a bill is: theorems beside the contract. Where a part is accepted, its bill lists its chosen make-up: it is as long as that has nodes, each line stands in it
+-- as often as in the make-up, and its own figures come to the part's figure. The paper's "The calls": a bill's length is a count of the chosen make-up, and a line's
+-- count is what demand 3 counts. Assumes nothing.
+use mathlib.Core.Path.{_≡_, refl, sym, _∙_, ap, subst}
+use mathlib.Core.List.{List, _++_}
+use Prim.Native.Nat.{ℕ, _<_}
+use native.Mathlib.Omega.{arith}
+use lib.ListN.{length, drop}
+use borrow.Author.Tests.{ltb-true}
+use Rattle.weights.specs.declared.Measure.{Measure}
+use Rattle.weights.specs.Measures.{algebra}
+use Rattle.weights.proofs.Laws.{lawful}
+use Rattle.refusal.specs.declared.Refusal.{Refusal}
+use Rattle.refusal.specs.declared.Answer.{Answer}
+use Rattle.refusal.specs.declared.Answer.the-variants as answer
+use Rattle.refusal.specs.declared.Extent.the-variants.{Length, Refused}
+use Rattle.provenance.specs.Hypergraph.{Derivation, listing}
+use Rattle.provenance.specs.Labelling.{Made, Fixpoint}
+use Rattle.provenance.specs.Means.{Follows}
+use Rattle.provenance.specs.BestFirst.{Answers, labels}
+use Rattle.provenance.proofs.Support.{follows-bill, chosen, supports}
+use Rattle.provenance.specs.Counting.{count}
+use Rattle.columns.specs.Columns.{Columns, ownAt, hypergraph}
+use Rattle.columns.proofs.Accepted.{AcceptedColumns, columns-accepted, both-accepted, test-passed}
+use Rattle.columns.proofs.Same.{same-true}
+use Rattle.settle.specs.Settling.{answersOf}
+use Rattle.settle.proofs.Demands.{answers-fixpoint}
+use Rattle.bill.specs.Billing.{billOf, partAcceptance, billAcceptance, outcome, billed}
+use Rattle.bill.specs.Listing.{amount}
+use Rattle.bill.proofs.Listing.{listing-nodes, listing-uses, listing-amount}
+use Rattle.bill.specs.Bills.{IsBill, Printed}
+
+-- a part whose bill can be asked for
+pub record AcceptedPart (m : Measure) (c : Columns) (a : Answers) (v : ℕ) : Type 0 where
+  pub columns : AcceptedColumns c a
+  pub vertex : v < c .vertices
+  pub fixed : Fixpoint (algebra m) (hypergraph c) (ownAt c) (labels a)
+  pub made : Made (labels a v)
+
+pub part-accepted : (m : Measure) (c : Columns) (a : Answers) (v : ℕ) → partAcceptance m c a v ≡ answer.Accepted → AcceptedPart m c a v
+unfolding partAcceptance
+part-accepted m c a v p =
+    let t = both-accepted _ _ p in
+    let l = columns-accepted c a (t .0) in
+    let t1 = test-passed _ _ _ (t .1) in
+    let t2 = test-passed _ _ _ (t1 .1) in
+    let t3 = test-passed _ _ _ (t2 .1) in
+    record {
+      columns = l;
+      vertex = ltb-true _ _ (t1 .0);
+      fixed = subst (λ (b : Answers). Fixpoint (algebra m) (hypergraph c) (ownAt c) (labels b)) (sym (same-true a (answersOf m c) (t2 .0))) (answers-fixpoint m c (l .table));
+      made = record { deep = ltb-true _ _ (t3 .0) };
+    }
+
+module _ {m : Measure} {c : Columns} {a : Answers} {v : ℕ} (p : AcceptedPart m c a v) where
+  bill-lists : (t : Derivation (hypergraph c) v) → Follows (labels a) t → billOf c a v ≡ listing t
+  unfolding billOf
+  bill-lists t f = sym (follows-bill (labels a) t f (labels a v .depth) (omega (arith, supports (lawful m) (p .fixed) t f .deep)))
+
+  pub is-bill : IsBill m c (labels a) v (billOf c a v)
+  is-bill =
+      let t = chosen (lawful m) (p .fixed) v (p .made) in
+      record {
+        chosen = t;
+        lists = bill-lists;
+        long = λ u f. ap length (bill-lists u f) ∙ listing-nodes u;
+        counts = λ u f e. ap (count e) (bill-lists u f) ∙ listing-uses e u;
+        worth = ap (amount m (ownAt c)) (bill-lists (t .tree) (t .follows)) ∙ sym (listing-amount (ownAt c) m (t .tree)) ∙ supports (lawful m) (p .fixed) (t .tree) (t .follows) .weighs;
+      }
+
+module _ (m : Measure) (c : Columns) (a : Answers) (v : ℕ) (room : List ℕ) where
+  pub bill-printed : (size : ℕ) → billed m c a v room .result ≡ Length size → Printed m c a v room size (billed m c a v room .left)
+  unfolding billed billAcceptance
+  bill-printed size e = go (billAcceptance m c a v (length room)) refl e
+    where
+      go : (x : Answer) → billAcceptance m c a v (length room) ≡ x → outcome x (billOf c a v) room .result ≡ Length size → Printed m c a v room size (outcome x (billOf c a v) room .left)
+      go (answer.Refused r) p q = let z : _≡_ {A = ℕ} 0 1 = cc in absurd (omega arith)
+      go answer.Accepted p q =
+          let h : size ≡ length (billOf c a v) = cc in
+          record { bill = is-bill (part-accepted m c a v (both-accepted _ _ p .0)); counted = h; holds = ap (λ (k : ℕ). billOf c a v ++ drop k room) (sym h) }
+
+  -- a refusal leaves the room
+  pub bill-keeps : (r : Refusal) → billed m c a v room .result ≡ Refused r → billed m c a v room .left ≡ room
+  unfolding billed
+  bill-keeps r e = go (billAcceptance m c a v (length room)) e
+    where
+      go : (x : Answer) → outcome x (billOf c a v) room .result ≡ Refused r → outcome x (billOf c a v) room .left ≡ room
+      go (answer.Refused s) q = refl
+      go answer.Accepted q = let z : _≡_ {A = ℕ} 0 1 = cc in absurd (omega arith)

@@ -1,0 +1,11 @@
+pub mod BestFirst
+pub mod Counting
+pub mod Existence
+pub mod Local
+pub mod LowerBound
+pub mod Meaning
+pub mod Program
+pub mod Provenance
+pub mod Semirings
+pub mod Sensitivity
+pub mod Support

@@ -1,0 +1,132 @@
+-- Sensitivity: what becomes of the labels where own figures change. The same parts are unmade. In cost each part within the ceiling keeps to the bounds that its two
+-- bills set, the sums over all lines of figure × count; for one line raised by d, it rises by at least d × its count in the new bill and at most d × its count
+-- in the old. In days it rises by 0 to d. The paper's demand 3. Assumes nothing.
+use mathlib.Core.Path.{_≡_, refl, _∙_, ap}
+use mathlib.Core.List.{List, [], _∷_}
+use Prim.Native.Nat.{ℕ, _+_, _*_, _≤_, max}
+use native.Mathlib.Omega.{arith}
+use Rattle.weights.specs.declared.Label.{Label}
+use Rattle.weights.specs.Figures.{capped}
+use Rattle.weights.specs.Measures.{Algebra, cost, days, fold, weigh}
+use Rattle.weights.specs.Laws.{NoWorse, Lawful}
+use Rattle.weights.proofs.Laws.{least, at-most, cost-lawful, days-lawful}
+use Rattle.weights.proofs.Weighing.{no-worse-eq, Pointwise, weigh-mono}
+use Rattle.provenance.specs.Hypergraph.{Hypergraph, Derivation, Derivations, node, none, more, weight, weights, listing, listings}
+use Rattle.provenance.specs.Labelling.{Made, greatest, Fixpoint}
+use Rattle.provenance.specs.Means.{Follows}
+use Rattle.provenance.proofs.LowerBound.{bound}
+use Rattle.provenance.proofs.Support.{chosen, supports}
+use Rattle.provenance.proofs.Semirings.{joined, cost-computes}
+use Rattle.provenance.proofs.Provenance.{weight-capped}
+use Rattle.provenance.specs.Counting.{count, charge, total, Raised}
+use Rattle.provenance.proofs.Counting.{total-charge, total-append, AllBelow, below-append, raised-more, raised-most, raised-total}
+use Rattle.provenance.specs.Sensitivity.{Within, Exchange, CostRise, DaysRise}
+
+-- whether a part is made does not look at figures
+pub same-made : {A : Algebra} {H : Hypergraph} {own own′ : ℕ → ℕ} {ls ls′ : ℕ → Label} → Lawful A → Fixpoint A H own ls → Fixpoint A H own′ ls′ → (v : ℕ) → Made (ls v) → Made (ls′ v)
+same-made L fix fix′ v a = bound L fix′ (chosen L fix v a .tree) .made
+
+module _ {H : Hypergraph} where
+  mutual
+    unfolding listing
+
+    pub listing-below : {v : ℕ} (t : Derivation H v) → AllBelow (H .edges) (listing t)
+    listing-below (node e s h ds) = AllBelow.more (s .numbered) (listings-below ds)
+
+    listings-below : {vs : List ℕ} (ds : Derivations H vs) → AllBelow (H .edges) (listings ds)
+    listings-below none = AllBelow.none
+    listings-below (more d ds) = below-append (listing-below d) (listings-below ds)
+
+-- an exact cost is the total along the listing
+fold-total : (a : ℕ) (ws : List ℕ) → fold _+_ a ws ≡ a + total (λ w. w) ws
+unfolding fold total
+fold-total a [] = omega arith
+fold-total a (w ∷ ws) = omega (arith, fold-total (a + w) ws)
+
+module _ {H : Hypergraph} (own : ℕ → ℕ) where
+  mutual
+    unfolding weight listing total weigh
+
+    exact-total : {v : ℕ} (t : Derivation H v) → weight (joined _+_) own t ≡ total own (listing t)
+    exact-total (node e s h ds) = omega (arith, fold-total 0 (weights (joined _+_) own ds), exact-totals ds)
+
+    exact-totals : {vs : List ℕ} (ds : Derivations H vs) → total (λ w. w) (weights (joined _+_) own ds) ≡ total own (listings ds)
+    exact-totals none = refl
+    exact-totals (more d ds) = omega (arith, exact-total d, exact-totals ds, total-append own (listing d) (listings ds))
+
+  -- a cost is what its bill costs, capped
+  pub cost-total : {v : ℕ} (t : Derivation H v) → weight cost own t ≡ capped (total own (listing t))
+  cost-total t = weight-capped cost-computes H own t ∙ ap capped (exact-total t)
+
+module _ {H : Hypergraph} {own : ℕ → ℕ} {ls : ℕ → Label} (fix : Fixpoint cost H own ls) {v : ℕ} where
+  -- a figure within the ceiling is what the bill costs
+  bill-cost : Within (ls v) → (t : Derivation H v) → Follows ls t → ls v .weight .0 ≡ total own (listing t)
+  bill-cost a t f = omega (arith, a .low, supports cost-lawful fix t f .weighs, cost-total own t)
+
+  -- and no make-up costs less
+  bill-least : (t : Derivation H v) → ls v .weight .0 ≤ total own (listing t)
+  bill-least t = omega (arith, at-most (bound cost-lawful fix t .low), cost-total own t)
+
+module _ {H : Hypergraph} {own own′ : ℕ → ℕ} {ls ls′ : ℕ → Label} (fix : Fixpoint cost H own ls) (fix′ : Fixpoint cost H own′ ls′) {v : ℕ}
+    (a : Within (ls v)) (a′ : Within (ls′ v)) (t t′ : Derivation H v) (f : Follows ls t) (f′ : Follows ls′ t′) where
+  -- each new figure against the old, whichever lines changed
+  pub exchange : Exchange own own′ (H .edges) (ls v .weight .0) (ls′ v .weight .0) (listing t) (listing t′)
+  exchange = record {
+    old = bill-cost fix a t f ∙ total-charge own (listing-below t);
+    new = bill-cost fix′ a′ t′ f′ ∙ total-charge own′ (listing-below t′);
+    least = omega (arith, bill-least fix t′, total-charge own (listing-below t′));
+    most = omega (arith, bill-least fix′ t, total-charge own′ (listing-below t));
+  }
+
+  -- the case of one line: its raise, times its count in either bill, is what separates the charges
+  pub cost-rise : {e d : ℕ} → Raised own own′ e d → CostRise d (ls v .weight .0) (ls′ v .weight .0) (count e (listing t)) (count e (listing t′))
+  cost-rise {e} {d} r = record {
+    least = omega (arith, exchange .new, exchange .least, raised-charge t′);
+    most = omega (arith, exchange .old, exchange .most, raised-charge t);
+  }
+    where
+      raised-charge : (u : Derivation H v) → charge own′ (H .edges) (listing u) ≡ charge own (H .edges) (listing u) + d * count e (listing u)
+      raised-charge u = omega (arith, raised-total r (listing u), total-charge own (listing-below u), total-charge own′ (listing-below u))
+
+-- a worse own figure makes no weight better
+module _ {A : Algebra} (L : Lawful A) {H : Hypergraph} (own own′ : ℕ → ℕ) (worse : (e : ℕ) → NoWorse (A .leq) (own e) (own′ e)) where
+  mutual
+    unfolding weight
+
+    weight-mono : {v : ℕ} (t : Derivation H v) → NoWorse (A .leq) (weight A own t) (weight A own′ t)
+    weight-mono (node e s h ds) = weigh-mono L (worse e) (weights-mono ds)
+
+    weights-mono : {vs : List ℕ} (ds : Derivations H vs) → Pointwise A (weights A own ds) (weights A own′ ds)
+    weights-mono none = Pointwise.none
+    weights-mono (more d ds) = Pointwise.more (weight-mono d) (weights-mono ds)
+
+  pub label-mono : {ls ls′ : ℕ → Label} → Fixpoint A H own ls → Fixpoint A H own′ ls′ → (v : ℕ) → Made (ls′ v) → NoWorse (A .leq) (ls v .weight .0) (ls′ v .weight .0)
+  label-mono fix fix′ v a =
+      let t = chosen L fix′ v a in
+      L .ordered .transitive (bound L fix (t .tree) .low) (L .ordered .transitive (weight-mono (t .tree)) (no-worse-eq L (supports L fix′ (t .tree) (t .follows) .weighs)))
+
+-- in days no weight rises by more than d
+fold-greatest : (a : ℕ) (xs : List ℕ) → fold max a xs ≡ max a (greatest (λ x. x) xs)
+unfolding fold greatest
+fold-greatest a [] = omega arith
+fold-greatest a (x ∷ xs) = omega (arith, fold-greatest (max a x) xs)
+
+module _ {H : Hypergraph} {own own′ : ℕ → ℕ} {e d : ℕ} (r : Raised own own′ e d) where
+  mutual
+    unfolding weight weigh greatest
+
+    days-most : {v : ℕ} (t : Derivation H v) → weight days own′ t ≤ weight days own t + d
+    days-most (node e s h ds) = omega (arith, raised-most r e, fold-greatest 0 (weights days own ds), fold-greatest 0 (weights days own′ ds), all-days-most ds)
+
+    all-days-most : {vs : List ℕ} (ds : Derivations H vs) → greatest (λ x. x) (weights days own′ ds) ≤ greatest (λ x. x) (weights days own ds) + d
+    all-days-most none = omega arith
+    all-days-most (more t ds) = omega (arith, days-most t, all-days-most ds)
+
+  pub days-rise : {ls ls′ : ℕ → Label} → Fixpoint days H own ls → Fixpoint days H own′ ls′ → (v : ℕ) → Made (ls v) → DaysRise d (ls v .weight .0) (ls′ v .weight .0)
+  days-rise {ls} {ls′} fix fix′ v a =
+      let t = chosen days-lawful fix v a in
+      let b = bound days-lawful fix′ (t .tree) in
+      record {
+        least = at-most (label-mono days-lawful own own′ (λ x. least (raised-more r x)) fix fix′ v (b .made));
+        most = omega (arith, at-most (b .low), days-most (t .tree), supports days-lawful fix (t .tree) (t .follows) .weighs);
+      }
