@@ -5,18 +5,17 @@ use mathlib.Core.List.{List}
 use native.Mathlib.Omega.{arith}
 use lib.ListN.{length, length-replicate, getD-replicate}
 use Rattle.weights.specs.declared.Measure.{Measure}
-use Rattle.provenance.specs.BestFirst.{Answers, turns}
+use Rattle.columns.specs.Columns.{Answers, Columns, cell}
+use Rattle.provenance.specs.BestFirst.{turns}
 use Rattle.provenance.proofs.Existence.{zeros}
-use Rattle.columns.specs.Columns.{Columns}
 use Rattle.columns.specs.Acceptance.{mostVertices}
 use Rattle.columns.proofs.Accepted.{table-accepted}
-use Rattle.offers.specs.Lent.{cell}
 use Rattle.minima.specs.Minima.{none, size}
 use Rattle.queue.specs.Keys.{heavy}
 use Rattle.waiting.specs.Lines.{end, Lines, Offerable, Rested, Empty}
-use Rattle.bestfirst.specs.Turns.{Unmade, Ready, Cleared}
+use Rattle.bestfirst.specs.Turns.{Blank, Begun, Cleared}
 
-module _ {m : Measure} {c : Columns} {a : Answers} {s : Lines} {q : List ℕ} (u : Unmade m c a) (k : Cleared (length (c .heads)) s q) where
+module _ {m : Measure} {c : Columns} {a : Answers} {s : Lines} {q : List ℕ} (u : Blank m c a) (k : Cleared (length (c .heads)) s q) where
   light : (v : ℕ) → cell (a .weights) v < heavy
   unfolding turns
   light v = omega (arith, ap (λ (b : Answers). cell (b .weights) v) (u .blank), zeros (c .vertices) v)
@@ -40,5 +39,5 @@ module _ {m : Measure} {c : Columns} {a : Answers} {s : Lines} {q : List ℕ} (u
     nothing = k .queue;
   }
 
-  pub ready : {s′ : Lines} {q′ : List ℕ} → Rested m c (a .weights) (a .depths) s′ q′ → Ready m c a s′ q′
+  pub ready : {s′ : Lines} {q′ : List ℕ} → Rested m c (a .weights) (a .depths) s′ q′ → Begun m c a s′ q′
   ready r = record { unmade = u; waits = record { light = light; rested = r } }

@@ -13,17 +13,17 @@ use Rattle.weights.specs.declared.Offer.{Offer}
 use Rattle.weights.specs.declared.Offer.the-variants.{Found}
 use Rattle.weights.specs.Measures.{Algebra, algebra}
 use Rattle.weights.proofs.Laws.{lawful}
-use Rattle.refusal.specs.declared.Answer.the-variants.{Accepted}
+use Rattle.refusal.specs.declared.Acceptance.the-variants.{Accepted}
 use Rattle.provenance.specs.Hypergraph.{Hypergraph}
-use Rattle.provenance.specs.Labelling.{greatest, candidate}
-use Rattle.provenance.specs.BestFirst.{Answers, labels, put, place, next, turn}
+use Rattle.provenance.specs.Labelling.{greatestDepth, candidate}
+use Rattle.columns.specs.Columns.{Answers, Columns, cell}
+use Rattle.provenance.specs.BestFirst.{labels, put, place, next, turn}
 use Rattle.provenance.proofs.BestFirst.{Next, next-is}
 use Rattle.provenance.proofs.Existence.{greatest-at-most}
-use Rattle.columns.specs.Columns.{Columns, hypergraph}
+use Rattle.tables.specs.Table.{hypergraph}
 use Rattle.columns.specs.Acceptance.{acceptance}
 use Rattle.columns.proofs.Accepted.{table-accepted}
-use Rattle.offers.specs.Lent.{cell}
-use Rattle.offers.proofs.Usable.{same-table}
+use Rattle.columns.proofs.Usable.{same-table}
 use Rattle.minima.specs.Minima.{none, keys, size, leastFrom, raised}
 use Rattle.minima.proofs.Laws.{raised-length}
 use Rattle.queue.specs.Keys.{heavy, unpacked, Fitting, keyOf}
@@ -45,7 +45,7 @@ told-next a f (Next.stuck n) p = absurd (let z : _≡_ {A = ℕ} 0 1 = cc in ome
 told-next {A} {H} {own} a {k = k} {l = l} f (Next.found e o b) p =
     let q : l ≡ candidate A H own (labels a) e = cc in
     let e′ : l .edge .0 ≡ e = ap (λ (x : Label). x .edge .0) q in
-    let d : l .depth ≡ greatest (cell (a .depths)) (H .tail e) + 1 = ap (λ (x : Label). x .depth) q in
+    let d : l .depth ≡ greatestDepth (cell (a .depths)) (H .tail e) + 1 = ap (λ (x : Label). x .depth) q in
     record {
       numbered = omega (arith, e′, o .ready .stands .numbered);
       fresh = ap (λ (x : ℕ). cell (a .depths) (H .head x)) e′ ∙ o .fresh;

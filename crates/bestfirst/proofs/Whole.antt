@@ -8,15 +8,16 @@ use lib.ListN.{length}
 use Rattle.weights.specs.declared.Measure.{Measure}
 use Rattle.weights.specs.Measures.{algebra}
 use Rattle.weights.proofs.Laws.{lawful}
-use Rattle.refusal.specs.declared.Answer.the-variants.{Accepted}
-use Rattle.provenance.specs.BestFirst.{Answers, turn, turns, best-first}
-use Rattle.provenance.specs.Existence.{Sized}
+use Rattle.refusal.specs.declared.Acceptance.the-variants.{Accepted}
+use Rattle.columns.specs.Columns.{Answers, Sized, Columns, ownAt}
+use Rattle.provenance.specs.BestFirst.{turn, turns, best-first}
 use Rattle.provenance.proofs.Existence.{After, after}
-use Rattle.columns.specs.Columns.{Columns, ownAt, hypergraph}
+use Rattle.tables.specs.Table.{hypergraph}
 use Rattle.columns.specs.Acceptance.{acceptance}
-use Rattle.columns.proofs.Accepted.{table-accepted, well-formed}
-use Rattle.offers.specs.Lent.{Turning}
-use Rattle.offers.proofs.Usable.{same-table, turning-columns}
+use Rattle.columns.proofs.Accepted.{table-accepted}
+use Rattle.tables.proofs.Formed.{well-formed}
+use Rattle.columns.specs.Lent.{Turning}
+use Rattle.columns.proofs.Usable.{same-table, turning-columns}
 use Rattle.waiting.specs.Lines.{Lines}
 use Rattle.bestfirst.specs.Turns.{Waits, Underway}
 

@@ -7,10 +7,11 @@ use lib.ListN.{length, replicate}
 use Rattle.weights.specs.declared.Measure.{Measure}
 use Rattle.weights.specs.declared.Label.{Label}
 use Rattle.weights.specs.Measures.{algebra}
-use Rattle.provenance.specs.BestFirst.{Answers, turns}
-use Rattle.columns.specs.Columns.{Columns, hypergraph}
+use Rattle.columns.specs.Columns.{Answers, Columns, cell}
+use Rattle.provenance.specs.BestFirst.{turns}
+use Rattle.tables.specs.Table.{hypergraph}
 use Rattle.columns.specs.Acceptance.{mostVertices}
-use Rattle.offers.specs.Lent.{cell, Turning}
+use Rattle.columns.specs.Lent.{Turning}
 use Rattle.minima.specs.Minima.{none, size}
 use Rattle.queue.specs.Keys.{heavy}
 use Rattle.waiting.specs.Lines.{end, Lines, Sizes, Rested}
@@ -36,12 +37,12 @@ pub record Underway (m : Measure) (c : Columns) (a : Answers) (s : Lines) (q : L
   pub waits : Waits m c (a .weights) (a .depths) s q
 
 -- before the first turn
-pub record Unmade (m : Measure) (c : Columns) (a : Answers) : Type 0 where
+pub record Blank (m : Measure) (c : Columns) (a : Answers) : Type 0 where
   pub turning : Turning c a
   pub blank : a ≡ turns (algebra m) (hypergraph c) (cell (c .own)) 0
 
-pub record Ready (m : Measure) (c : Columns) (a : Answers) (s : Lines) (q : List ℕ) : Type 0 where
-  pub unmade : Unmade m c a
+pub record Begun (m : Measure) (c : Columns) (a : Answers) (s : Lines) (q : List ℕ) : Type 0 where
+  pub unmade : Blank m c a
   pub waits : Waits m c (a .weights) (a .depths) s q
 
 -- columns to work in, for as many hyperedges: every list ends at once, and no key waits

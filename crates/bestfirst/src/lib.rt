@@ -7,10 +7,11 @@ ghost use Prim.Native.Nat.{_≤_, _<_};
 ghost use lib.ListN.{length};
 ghost use Rattle.weights.specs.Measures.{algebra};
 ghost use Rattle.provenance.specs.BestFirst.{put, turn, best-first};
-ghost use Rattle.columns.specs.Columns.{answers, hypergraph};
-ghost use Rattle.offers.specs.Lent.{lent, cell};
+ghost use Rattle.columns.specs.Columns.{answers, cell};
+ghost use Rattle.tables.specs.Table.{hypergraph};
+ghost use Rattle.columns.specs.Lent.{lent};
 ghost use Rattle.waiting.specs.Lines.{fewEdges, lines};
-ghost use Rattle.bestfirst.specs.Turns.{Placeable, Waits, Underway, Unmade, Ready, Cleared};
+ghost use Rattle.bestfirst.specs.Turns.{Placeable, Waits, Underway, Blank, Begun, Cleared};
 
 // The head of a label's hyperedge gets the label; gives that head.
 fn store(
@@ -97,7 +98,7 @@ fn turns(
     deepest: &mut [u16],
     queue: &mut [u64],
 )
-    requires { ⌜ Ready measure (lent (now heads) (now own) (now spans) (now tails) (now depths)) (answers (now weights) (now depths) (now edges)) (lines (now first) (now next) (now at) (now joined) (now deepest)) (now queue) ⌝ }
+    requires { ⌜ Begun measure (lent (now heads) (now own) (now spans) (now tails) (now depths)) (answers (now weights) (now depths) (now edges)) (lines (now first) (now next) (now at) (now joined) (now deepest)) (now queue) ⌝ }
     ensures { λ r. ⌜ answers (now (weights .exit)) (now (depths .exit)) (now (edges .exit)) ≡ best-first (algebra measure) (hypergraph (lent (now (heads .entry)) (now (own .entry)) (now (spans .entry)) (now (tails .entry)) (now (depths .entry)))) (cell (now (own .entry))) ⌝ }
 {
     let mut k = 0;
@@ -139,7 +140,7 @@ fn label_with(
     deepest: &mut [u16],
     queue: &mut [u64],
 )
-    requires { ⌜ (Unmade measure (lent (now heads) (now own) (now spans) (now tails) (now depths)) (answers (now weights) (now depths) (now edges))) × Cleared (length (now heads)) (lines (now first) (now next) (now at) (now joined) (now deepest)) (now queue) ⌝ }
+    requires { ⌜ (Blank measure (lent (now heads) (now own) (now spans) (now tails) (now depths)) (answers (now weights) (now depths) (now edges))) × Cleared (length (now heads)) (lines (now first) (now next) (now at) (now joined) (now deepest)) (now queue) ⌝ }
     ensures { λ r. ⌜ answers (now (weights .exit)) (now (depths .exit)) (now (edges .exit)) ≡ best-first (algebra measure) (hypergraph (lent (now (heads .entry)) (now (own .entry)) (now (spans .entry)) (now (tails .entry)) (now (depths .entry)))) (cell (now (own .entry))) ⌝ }
 {
     waiting::start(
@@ -186,7 +187,7 @@ fn label_few(
     depths: &mut [u64],
     edges: &mut [u64],
 )
-    requires { ⌜ (Unmade measure (lent (now heads) (now own) (now spans) (now tails) (now depths)) (answers (now weights) (now depths) (now edges))) × (length (now heads) ≤ fewEdges) ⌝ }
+    requires { ⌜ (Blank measure (lent (now heads) (now own) (now spans) (now tails) (now depths)) (answers (now weights) (now depths) (now edges))) × (length (now heads) ≤ fewEdges) ⌝ }
     ensures { λ r. ⌜ answers (now (weights .exit)) (now (depths .exit)) (now (edges .exit)) ≡ best-first (algebra measure) (hypergraph (lent (now (heads .entry)) (now (own .entry)) (now (spans .entry)) (now (tails .entry)) (now (depths .entry)))) (cell (now (own .entry))) ⌝ }
 {
     let mut first = [65535u16; 1024];
@@ -224,7 +225,7 @@ fn label_many(
     depths: &mut [u64],
     edges: &mut [u64],
 )
-    requires { ⌜ (Unmade measure (lent (now heads) (now own) (now spans) (now tails) (now depths)) (answers (now weights) (now depths) (now edges))) × (fewEdges < length (now heads)) ⌝ }
+    requires { ⌜ (Blank measure (lent (now heads) (now own) (now spans) (now tails) (now depths)) (answers (now weights) (now depths) (now edges))) × (fewEdges < length (now heads)) ⌝ }
     ensures { λ r. ⌜ answers (now (weights .exit)) (now (depths .exit)) (now (edges .exit)) ≡ best-first (algebra measure) (hypergraph (lent (now (heads .entry)) (now (own .entry)) (now (spans .entry)) (now (tails .entry)) (now (depths .entry)))) (cell (now (own .entry))) ⌝ }
 {
     let mut first = [65535u16; 1024];
@@ -262,7 +263,7 @@ pub fn label_all(
     depths: &mut [u64],
     edges: &mut [u64],
 )
-    requires { ⌜ Unmade measure (lent (now heads) (now own) (now spans) (now tails) (now depths)) (answers (now weights) (now depths) (now edges)) ⌝ }
+    requires { ⌜ Blank measure (lent (now heads) (now own) (now spans) (now tails) (now depths)) (answers (now weights) (now depths) (now edges)) ⌝ }
     ensures { λ r. ⌜ answers (now (weights .exit)) (now (depths .exit)) (now (edges .exit)) ≡ best-first (algebra measure) (hypergraph (lent (now (heads .entry)) (now (own .entry)) (now (spans .entry)) (now (tails .entry)) (now (depths .entry)))) (cell (now (own .entry))) ⌝ }
 {
     if heads.len() <= 256 {

@@ -9,12 +9,12 @@ use borrow.Author.Tests.{lt-ltb, le-ltb}
 use Rattle.weights.specs.declared.Measure.{Measure}
 use Rattle.refusal.specs.declared.Refusal.{Refusal}
 use Rattle.refusal.specs.declared.Refusal.the-variants.{NoSuchVertex, WrongAnswers, Underivable}
-use Rattle.refusal.specs.declared.Answer.the-variants.{Accepted, Refused}
-use Rattle.provenance.specs.BestFirst.{Answers, labels}
-use Rattle.columns.specs.Columns.{Columns}
+use Rattle.refusal.specs.declared.Acceptance.the-variants.{Accepted, Refused}
+use Rattle.columns.specs.Columns.{Answers, Columns}
+use Rattle.provenance.specs.BestFirst.{labels}
 use Rattle.columns.specs.Acceptance.{lentAcceptance}
 use Rattle.columns.proofs.Accepted.{columns-accepted}
-use Rattle.columns.specs.Same.{same}
+use Rattle.columns.specs.Same.{sameAnswers}
 use Rattle.settle.specs.Settling.{answersOf}
 use Rattle.bill.specs.Billing.{partAcceptance}
 
@@ -32,11 +32,11 @@ module _ (m : Measure) (c : Columns) (a : Answers) (v : ℕ) where
       pub part-placed : v < length (a .depths)
       part-placed = omega (arith, columns-accepted c a p .sized .depths)
 
-      pub part-wrong : same a (answersOf m c) ≡ false → Refused WrongAnswers ≡ partAcceptance m c a v
+      pub part-wrong : sameAnswers a (answersOf m c) ≡ false → Refused WrongAnswers ≡ partAcceptance m c a v
       unfolding partAcceptance
       part-wrong q = rw (p, lt-ltb v (c .vertices) h, q)
 
-      module _ (q : same a (answersOf m c) ≡ true) where
+      module _ (q : sameAnswers a (answersOf m c) ≡ true) where
         pub part-underivable : labels a v .depth ≡ 0 → Refused Underivable ≡ partAcceptance m c a v
         unfolding partAcceptance
         part-underivable z = rw (p, lt-ltb v (c .vertices) h, q, le-ltb 0 (labels a v .depth) (omega arith))

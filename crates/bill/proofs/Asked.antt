@@ -11,16 +11,16 @@ use borrow.Author.Tests.{ltb-true, ltb-false, leb-true, leb-false, lt-ltb, le-lt
 use Rattle.weights.specs.declared.Measure.{Measure}
 use Rattle.refusal.specs.declared.Refusal.{Refusal}
 use Rattle.refusal.specs.declared.Refusal.the-variants.{NoSuchVertex, WrongAnswers, Underivable}
-use Rattle.refusal.specs.declared.Answer.{Answer}
-use Rattle.refusal.specs.declared.Answer.the-variants as answer
+use Rattle.refusal.specs.declared.Acceptance.{Acceptance}
+use Rattle.refusal.specs.declared.Acceptance.the-variants as answer
 use Rattle.refusal.specs.declared.Extent.the-variants.{Refused}
 use Rattle.provenance.specs.Hypergraph.{depth}
-use Rattle.provenance.specs.BestFirst.{Answers, labels}
-use Rattle.columns.specs.Columns.{Columns}
+use Rattle.columns.specs.Columns.{Answers, Columns}
+use Rattle.provenance.specs.BestFirst.{labels}
 use Rattle.columns.specs.Acceptance.{test, lentAcceptance}
 use Rattle.columns.proofs.Accepted.{test-passed, both-accepted}
 use Rattle.columns.specs.Owed.{Owed}
-use Rattle.columns.specs.Same.{same}
+use Rattle.columns.specs.Same.{sameAnswers}
 use Rattle.columns.proofs.Exactly.{lent-exactly, lent-refused-exactly}
 use Rattle.columns.proofs.Refuses.{Refuses, none-refuses, test-refuses, then-refuses}
 use Rattle.settle.specs.Settling.{answersOf}
@@ -31,10 +31,10 @@ use Rattle.bill.specs.Asked.{RightBill, WrongBill, BillOwes}
 
 module _ (m : Measure) (c : Columns) (a : Answers) (v places : ℕ) where
   -- the tests behind those of the lent columns
-  abbrev late : Answer
+  abbrev late : Acceptance
   late =
       test (ltb v (c .vertices)) NoSuchVertex
-      (test (same a (answersOf m c)) WrongAnswers
+      (test (sameAnswers a (answersOf m c)) WrongAnswers
       (test (ltb 0 (labels a v .depth)) Underivable
       answer.Accepted))
 
@@ -49,14 +49,14 @@ module _ (m : Measure) (c : Columns) (a : Answers) (v places : ℕ) where
       let l = lent-exactly c a .0 p in
       test-refuses (ltb v (c .vertices)) _ _ (λ b. WrongBill.part l (λ h. omega (arith, ltb-false v (c .vertices) b, h))) (λ b.
       let h = ltb-true v (c .vertices) b in
-      test-refuses (same a (answersOf m c)) _ _ (λ s. WrongBill.answers l h (same-fails m c a p .0 s)) (λ s.
+      test-refuses (sameAnswers a (answersOf m c)) _ _ (λ s. WrongBill.answers l h (same-fails m c a p .0 s)) (λ s.
       let f = same-exactly m c a p .0 s in
       test-refuses (ltb 0 k) _ _ (λ b. WrongBill.unmade l h f (λ d. omega (arith, ltb-false 0 k b, made-deep (f v h) d))) (λ _. none-refuses)))))
       (λ q.
       let t = both-accepted (lentAcceptance c a) late q in
       let l = lent-exactly c a .0 (t .0) in
       let t1 = test-passed (ltb v (c .vertices)) _ _ (t .1) in
-      let t2 = test-passed (same a (answersOf m c)) _ _ (t1 .1) in
+      let t2 = test-passed (sameAnswers a (answersOf m c)) _ _ (t1 .1) in
       let t3 = test-passed (ltb 0 k) _ _ (t2 .1) in
       let h = ltb-true v (c .vertices) (t1 .0) in
       let f = same-exactly m c a (t .0) .0 (t2 .0) in
@@ -86,7 +86,7 @@ module _ (m : Measure) (c : Columns) (a : Answers) (v places : ℕ) where
       let u = both-accepted (partAcceptance m c a v) (roomAcceptance (billOf c a v) places) q in
       let t = both-accepted (lentAcceptance c a) late (u .0) in
       let t1 = test-passed (ltb v (c .vertices)) _ _ (t .1) in
-      let t2 = test-passed (same a (answersOf m c)) _ _ (t1 .1) in
+      let t2 = test-passed (sameAnswers a (answersOf m c)) _ _ (t1 .1) in
       let t3 = test-passed (ltb 0 k) _ _ (t2 .1) in
       let h = ltb-true v (c .vertices) (t1 .0) in
       let f = same-exactly m c a (t .0) .0 (t2 .0) in
@@ -115,15 +115,15 @@ pub bill-owes : (m : Measure) (c : Columns) (a : Answers) (v : ℕ) (room : List
 unfolding billed
 bill-owes m c a v room = go (billAcceptance m c a v (length room)) refl
   where
-    go : (x : Answer) → billAcceptance m c a v (length room) ≡ x → BillOwes m c a v room (outcome x (billOf c a v) room)
+    go : (x : Acceptance) → billAcceptance m c a v (length room) ≡ x → BillOwes m c a v room (outcome x (billOf c a v) room)
     go answer.Accepted p = Owed.accepted (bill-exactly m c a v (length room) .0 p)
     go (answer.Refused r) p = Owed.refused (bill-refused-exactly m c a v (length room) r .0 p)
 
 -- the call is refused by what its tests refuse by
 pub bill-refused : (m : Measure) (c : Columns) (a : Answers) (v : ℕ) (room : List ℕ) (r : Refusal) → (billed m c a v room .result ≡ Refused r) ↔ (billAcceptance m c a v (length room) ≡ answer.Refused r)
 unfolding billed
-bill-refused m c a v room r = (go (billAcceptance m c a v (length room)), λ p. ap (λ (x : Answer). outcome x (billOf c a v) room .result) p)
+bill-refused m c a v room r = (go (billAcceptance m c a v (length room)), λ p. ap (λ (x : Acceptance). outcome x (billOf c a v) room .result) p)
   where
-    go : (x : Answer) → outcome x (billOf c a v) room .result ≡ Refused r → x ≡ answer.Refused r
+    go : (x : Acceptance) → outcome x (billOf c a v) room .result ≡ Refused r → x ≡ answer.Refused r
     go answer.Accepted q = let z : _≡_ {A = ℕ} 0 1 = cc in absurd (omega arith)
     go (answer.Refused s) q = let e : s ≡ r = cc in ap answer.Refused e

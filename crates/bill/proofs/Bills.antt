@@ -11,16 +11,17 @@ use Rattle.weights.specs.declared.Measure.{Measure}
 use Rattle.weights.specs.Measures.{algebra}
 use Rattle.weights.proofs.Laws.{lawful}
 use Rattle.refusal.specs.declared.Refusal.{Refusal}
-use Rattle.refusal.specs.declared.Answer.{Answer}
-use Rattle.refusal.specs.declared.Answer.the-variants as answer
+use Rattle.refusal.specs.declared.Acceptance.{Acceptance}
+use Rattle.refusal.specs.declared.Acceptance.the-variants as answer
 use Rattle.refusal.specs.declared.Extent.the-variants.{Length, Refused}
 use Rattle.provenance.specs.Hypergraph.{Derivation, listing}
 use Rattle.provenance.specs.Labelling.{Made, Fixpoint}
 use Rattle.provenance.specs.Means.{Follows}
-use Rattle.provenance.specs.BestFirst.{Answers, labels}
+use Rattle.columns.specs.Columns.{Answers, Columns, ownAt}
+use Rattle.provenance.specs.BestFirst.{labels}
 use Rattle.provenance.proofs.Support.{follows-bill, chosen, supports}
 use Rattle.provenance.specs.Counting.{count}
-use Rattle.columns.specs.Columns.{Columns, ownAt, hypergraph}
+use Rattle.tables.specs.Table.{hypergraph}
 use Rattle.columns.proofs.Accepted.{AcceptedColumns, columns-accepted, both-accepted, test-passed}
 use Rattle.columns.proofs.Same.{same-true}
 use Rattle.settle.specs.Settling.{answersOf}
@@ -73,7 +74,7 @@ module _ (m : Measure) (c : Columns) (a : Answers) (v : ℕ) (room : List ℕ) w
   unfolding billed billAcceptance
   bill-printed size e = go (billAcceptance m c a v (length room)) refl e
     where
-      go : (x : Answer) → billAcceptance m c a v (length room) ≡ x → outcome x (billOf c a v) room .result ≡ Length size → Printed m c a v room size (outcome x (billOf c a v) room .left)
+      go : (x : Acceptance) → billAcceptance m c a v (length room) ≡ x → outcome x (billOf c a v) room .result ≡ Length size → Printed m c a v room size (outcome x (billOf c a v) room .left)
       go (answer.Refused r) p q = let z : _≡_ {A = ℕ} 0 1 = cc in absurd (omega arith)
       go answer.Accepted p q =
           let h : size ≡ length (billOf c a v) = cc in
@@ -84,6 +85,6 @@ module _ (m : Measure) (c : Columns) (a : Answers) (v : ℕ) (room : List ℕ) w
   unfolding billed
   bill-keeps r e = go (billAcceptance m c a v (length room)) e
     where
-      go : (x : Answer) → outcome x (billOf c a v) room .result ≡ Refused r → outcome x (billOf c a v) room .left ≡ room
+      go : (x : Acceptance) → outcome x (billOf c a v) room .result ≡ Refused r → outcome x (billOf c a v) room .left ≡ room
       go (answer.Refused s) q = refl
       go answer.Accepted q = let z : _≡_ {A = ℕ} 0 1 = cc in absurd (omega arith)

@@ -12,16 +12,17 @@ use Rattle.weights.proofs.Choice.{both-true}
 use Rattle.weights.specs.Measures.{algebra}
 use Rattle.refusal.specs.declared.Refusal.{Refusal}
 use Rattle.refusal.specs.declared.Refusal.the-variants.{BillRoom}
-use Rattle.refusal.specs.declared.Answer.the-variants as answer
+use Rattle.refusal.specs.declared.Acceptance.the-variants as answer
 use Rattle.refusal.specs.declared.Extent.the-variants.{Length, Refused}
-use Rattle.provenance.specs.Labelling.{Made, AllMade, greatest, deepest, Fixpoint}
-use Rattle.provenance.specs.BestFirst.{Answers, labels}
+use Rattle.provenance.specs.Labelling.{Made, AllMade, greatestDepth, deepestIn, Fixpoint}
+use Rattle.columns.specs.Columns.{Answers, Columns, ownAt, tailAt}
+use Rattle.provenance.specs.BestFirst.{labels}
 use Rattle.provenance.specs.Support.{bills, bill}
-use Rattle.columns.specs.Columns.{Columns, ownAt, tailAt, hypergraph}
+use Rattle.tables.specs.Table.{hypergraph}
 use Rattle.columns.specs.Acceptance.{allBelow}
 use Rattle.columns.proofs.Accepted.{AcceptedColumns, table-accepted}
 use Rattle.bill.specs.declared.Budget.the-variants.{Left, Spent}
-use Rattle.bill.specs.Walk.{vertexBill, Each, Grounded, VertexFits, Written, spend}
+use Rattle.bill.specs.Walk.{vertexBill, Each, Grounded, VertexFits, WrittenFrom, spend}
 use Rattle.bill.specs.Billing.{billOf, partAcceptance, billAcceptance, printed, billed}
 use Rattle.bill.proofs.Bills.{AcceptedPart, part-accepted}
 use Rattle.bill.proofs.Walks.{is-spent, is-left}
@@ -39,8 +40,8 @@ module _ (c : Columns) (a : Answers) where
 
 -- at a fixpoint of an accepted table every made part is grounded
 module _ (m : Measure) (c : Columns) (a : Answers) (l : AcceptedColumns c a) (fix : Fixpoint (algebra m) (hypergraph c) (ownAt c) (labels a)) where
-  all-grounded : {k : ℕ} → ((v : ℕ) → v < c .vertices → Made (labels a v) → labels a v .depth ≤ k → Grounded (c .spans) (c .tails) (a .edges) k v) → {vs : List ℕ} → AllMade (labels a) vs → allBelow (c .vertices) vs ≡ true → deepest (labels a) vs ≤ k → Each (Grounded (c .spans) (c .tails) (a .edges) k) vs
-  unfolding Each allBelow greatest
+  all-grounded : {k : ℕ} → ((v : ℕ) → v < c .vertices → Made (labels a v) → labels a v .depth ≤ k → Grounded (c .spans) (c .tails) (a .edges) k v) → {vs : List ℕ} → AllMade (labels a) vs → allBelow (c .vertices) vs ≡ true → deepestIn (labels a) vs ≤ k → Each (Grounded (c .spans) (c .tails) (a .edges) k) vs
+  unfolding Each allBelow greatestDepth
   all-grounded f AllMade.none b h = tt
   all-grounded f (AllMade.more {v = v} {vs = vs} x xs) b h =
       let t = both-true b in
@@ -53,7 +54,7 @@ module _ (m : Measure) (c : Columns) (a : Answers) (l : AcceptedColumns c a) (fi
       let g = fix .chosen v x in
       let t = table-accepted c (l .table) in
       let e = t .each (getD (a .edges) v 0) (g .ready .stands .numbered) .1 in
-      let d : labels a v .depth ≡ deepest (labels a) (tailAt c (getD (a .edges) v 0)) + 1 = ap (λ (x : Label). x .depth) (g .given) in
+      let d : labels a v .depth ≡ deepestIn (labels a) (tailAt c (getD (a .edges) v 0)) + 1 = ap (λ (x : Label). x .depth) (g .given) in
       (omega (arith, l .sized .edges), record { span = omega (arith, t .spans, g .ready .stands .numbered); short = e .short; within = e .within }, all-grounded (grounded-within k) (g .ready .tails) (e .listed) (omega arith))
 
 -- printing what the walks read
@@ -69,7 +70,7 @@ module _ (spans tails edges : List ℕ) (depth v : ℕ) (room : List ℕ) where
     pub print-fits : Grounded spans tails edges depth v → VertexFits spans tails edges depth v room
     print-fits g = record { grounded = g; fits = is-left (length room) (length lines) q .0 }
 
-    pub print-written : {to : ℕ} {left : List ℕ} → Written 0 lines room to left → record { result = Length to; left = left } ≡ printed lines room
+    pub print-written : {to : ℕ} {left : List ℕ} → WrittenFrom 0 lines room to left → record { result = Length to; left = left } ≡ printed lines room
     print-written {to} {left} w =
         let e : to ≡ length lines = omega (arith, w .filled) in
         rw (le-leb (length lines) (length room) (is-left (length room) (length lines) q .0), e, w .content)
@@ -89,6 +90,6 @@ module _ (m : Measure) (c : Columns) (a : Answers) (v : ℕ) where
     pub bill-grounded : Grounded (c .spans) (c .tails) (a .edges) (labels a v .depth) v
     bill-grounded = grounded-within m c a (accepted .columns) (accepted .fixed) (labels a v .depth) v (accepted .vertex) (accepted .made) (omega arith)
 
-    pub bill-printed : (room : List ℕ) → printed (vertexBill (c .spans) (c .tails) (a .edges) (labels a v .depth) v) room ≡ billed m c a v room
+    pub vertex-printed : (room : List ℕ) → printed (vertexBill (c .spans) (c .tails) (a .edges) (labels a v .depth) v) room ≡ billed m c a v room
     unfolding billed billAcceptance
-    bill-printed room = rw (p, lines-are c a v)
+    vertex-printed room = rw (p, lines-are c a v)

@@ -8,7 +8,7 @@ use lib.ListN.{length, getD, take, drop, set, length-set, length-append, length-
 use lib.Seq.{take-all, take-at, drop-at, drop-drop}
 use borrow.Rule.Slice.PartMut.{putMid}
 use Rattle.columns.specs.Columns.{tailOf}
-use Rattle.bill.specs.Walk.{vertexBill, tailBill, VertexFits, TailFits, written, Written}
+use Rattle.bill.specs.Walk.{vertexBill, tailBill, VertexFits, TailFits, written, WrittenFrom}
 use Rattle.bill.proofs.Walks.{Below, grounded, each-first, each-rest, rest, bills-none, bills-more, bills-length}
 
 -- a room from a place on, as it is lent; and the room once that part has come back as ys
@@ -30,22 +30,22 @@ lent-length : (room : List ℕ) (from : ℕ) → from ≤ length room → from +
 lent-length room from h = simp (length-take, length-drop) (omega arith)
 
 -- writing keeps a room's length
-written-length : {from : ℕ} {new room : List ℕ} {to : ℕ} {left : List ℕ} → Written from new room to left → from + length new ≤ length room → length left ≡ length room
+written-length : {from : ℕ} {new room : List ℕ} {to : ℕ} {left : List ℕ} → WrittenFrom from new room to left → from + length new ≤ length room → length left ≡ length room
 written-length {from} {new} {room} w h = rw (w .content) (simp (length-append, length-take, length-drop) (omega arith))
 
-write-none : (from : ℕ) (new room : List ℕ) → new ≡ [] → Written from new room from room
+write-none : (from : ℕ) (new room : List ℕ) → new ≡ [] → WrittenFrom from new room from room
 write-none from new room e = record { filled = rw e (omega arith); content = rw e (sym (take-append-drop from room)) }
 
 -- the root
-write-root : {e : ℕ} {es new room : List ℕ} {to : ℕ} {left : List ℕ} → new ≡ e ∷ es → 0 < length room → Written 1 es (set room 0 e) to left → Written 0 new room to left
+write-root : {e : ℕ} {es new room : List ℕ} {to : ℕ} {left : List ℕ} → new ≡ e ∷ es → 0 < length room → WrittenFrom 1 es (set room 0 e) to left → WrittenFrom 0 new room to left
 write-root {e} {es} {new} {room} {to} {left} q h w = go room h w
   where
-    go : (r : List ℕ) → 0 < length r → Written 1 es (set r 0 e) to left → Written 0 new r to left
+    go : (r : List ℕ) → 0 < length r → WrittenFrom 1 es (set r 0 e) to left → WrittenFrom 0 new r to left
     go [] k w = absurd (omega arith)
     go (x ∷ xs) k w = record { filled = rw q (omega (arith, w .filled)); content = rw q (w .content) }
 
 -- the first bill of a tail, in the part that is lent for it, and the others behind it
-module _ (room : List ℕ) (from : ℕ) {n : ℕ} {first ys : List ℕ} (h : from + length first ≤ length room) (w : Written 0 first (lent room from) n ys) where
+module _ (room : List ℕ) (from : ℕ) {n : ℕ} {first ys : List ℕ} (h : from + length first ≤ length room) (w : WrittenFrom 0 first (lent room from) n ys) where
   first-written : returned room from ys ≡ (take from room ++ first) ++ drop (length first) (drop from room)
   first-written =
       returned-is room from ys
@@ -58,7 +58,7 @@ module _ (room : List ℕ) (from : ℕ) {n : ℕ} {first ys : List ℕ} (h : fro
   returned-length : length (returned room from ys) ≡ length room
   returned-length = rw first-written (simp (length-append, length-take, length-drop) (omega arith))
 
-  write-more : {rest new : List ℕ} {to : ℕ} {left : List ℕ} → new ≡ first ++ rest → Written (from + n) rest (returned room from ys) to left → Written from new room to left
+  write-more : {rest new : List ℕ} {to : ℕ} {left : List ℕ} → new ≡ first ++ rest → WrittenFrom (from + n) rest (returned room from ys) to left → WrittenFrom from new room to left
   write-more {rest} {new} {to} {left} q v = record {
     filled = rw q (simp length-append (omega (arith, v .filled, w .filled)));
     content = rw q (v .content ∙ ap₂ _++_ kept (ap (written rest) behind) ∙ regroup);
@@ -87,8 +87,8 @@ module _ {spans tails edges : List ℕ} {depth v : ℕ} {room : List ℕ} (f : V
   pub below-fits : TailFits spans tails edges (depth - 1) vs 1 (set room 0 (getD edges v 0))
   below-fits = record { grounded = rw q (below .below); fits = rw (length-set room 0 (getD edges v 0)) (omega (arith, f .fits, ap length lines)) }
 
-  module _ {to : ℕ} {left : List ℕ} (w : Written 1 (tailBill spans tails edges (depth - 1) vs) (set room 0 (getD edges v 0)) to left) where
-    pub vertex-written : Written 0 (vertexBill spans tails edges depth v) room to left
+  module _ {to : ℕ} {left : List ℕ} (w : WrittenFrom 1 (tailBill spans tails edges (depth - 1) vs) (set room 0 (getD edges v 0)) to left) where
+    pub vertex-written : WrittenFrom 0 (vertexBill spans tails edges depth v) room to left
     vertex-written = write-root lines root-fits w
 
     pub vertex-kept : length left ≡ length room
@@ -96,7 +96,7 @@ module _ {spans tails edges : List ℕ} {depth v : ℕ} {room : List ℕ} (f : V
 
 -- what `tail_bill` goes by: nothing is left, or the first bill is written and the others behind it
 module _ {spans tails edges : List ℕ} {depth : ℕ} {tail : List ℕ} {filled : ℕ} {room : List ℕ} (f : TailFits spans tails edges depth tail filled room) where
-  pub tail-done : length tail ≡ 0 → Written filled (tailBill spans tails edges depth tail) room filled room
+  pub tail-done : length tail ≡ 0 → WrittenFrom filled (tailBill spans tails edges depth tail) room filled room
   tail-done h = write-none filled _ room (bills-none _ tail h)
 
   module _ (n : ¬ (length tail ≡ 0)) where
@@ -112,15 +112,15 @@ module _ {spans tails edges : List ℕ} {depth : ℕ} {tail : List ℕ} {filled 
     first-within : filled + length (vertexBill spans tails edges depth (getD tail 0 0)) ≤ length room
     first-within = omega (arith, f .fits, lines-more)
 
-    module _ {count : ℕ} {ys : List ℕ} (w : Written 0 (vertexBill spans tails edges depth (getD tail 0 0)) (lent room filled) count ys) where
+    module _ {count : ℕ} {ys : List ℕ} (w : WrittenFrom 0 (vertexBill spans tails edges depth (getD tail 0 0)) (lent room filled) count ys) where
       pub rest-fits : TailFits spans tails edges depth (rest tail) (filled + count) (returned room filled ys)
       rest-fits = record {
         grounded = each-rest _ tail n (f .grounded);
         fits = omega (arith, f .fits, lines-more, w .filled, returned-length room filled first-within w);
       }
 
-      module _ {to : ℕ} {left : List ℕ} (v : Written (filled + count) (tailBill spans tails edges depth (rest tail)) (returned room filled ys) to left) where
-        pub tail-written : Written filled (tailBill spans tails edges depth tail) room to left
+      module _ {to : ℕ} {left : List ℕ} (v : WrittenFrom (filled + count) (tailBill spans tails edges depth (rest tail)) (returned room filled ys) to left) where
+        pub tail-written : WrittenFrom filled (tailBill spans tails edges depth tail) room to left
         tail-written = write-more room filled first-within w (bills-more _ tail n) v
 
         pub tail-kept : length left ≡ length room

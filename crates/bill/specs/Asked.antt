@@ -8,12 +8,12 @@ use Rattle.refusal.specs.declared.Refusal.{Refusal}
 use Rattle.refusal.specs.declared.Refusal.the-variants.{NoSuchVertex, WrongAnswers, Underivable, BillRoom}
 use Rattle.refusal.specs.declared.Extent.the-variants.{Length, Refused}
 use Rattle.provenance.specs.Hypergraph.{Derivation}
-use Rattle.provenance.specs.BestFirst.{Answers}
-use Rattle.columns.specs.Columns.{Columns, hypergraph}
+use Rattle.columns.specs.Columns.{Answers, Columns}
+use Rattle.tables.specs.Table.{hypergraph}
 use Rattle.columns.specs.Owed.{Owed}
 use Rattle.columns.specs.Right.{RightLent, WrongLent}
 use Rattle.settle.specs.Defined.{AllMean}
-use Rattle.bill.specs.Billing.{billOf, Outcome}
+use Rattle.bill.specs.Billing.{billOf, BillOutcome}
 
 -- v is a part, it has a make-up, the answers are the table's, and the room holds the bill
 pub record RightBill (m : Measure) (c : Columns) (a : Answers) (v places : ℕ) : Type 0 where
@@ -31,7 +31,7 @@ pub data WrongBill (m : Measure) (c : Columns) (a : Answers) (v places : ℕ) : 
   room : RightLent c a → v < c .vertices → AllMean m c a → Derivation (hypergraph c) v → ¬ (length (billOf c a v) ≤ places) → WrongBill m c a v places BillRoom
 
 -- demand 1 of a bill of v that had this outcome: "A bill returns its length; the room behind it keeps its bytes"
-abbrev pub BillOwes : Measure → Columns → Answers → (v : ℕ) (entry : List ℕ) → Outcome → Type 0
+abbrev pub BillOwes : Measure → Columns → Answers → (v : ℕ) (entry : List ℕ) → BillOutcome → Type 0
 BillOwes m c a v entry o =
     let es = billOf c a v in
     let n = length entry in

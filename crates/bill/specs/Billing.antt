@@ -6,15 +6,16 @@ use lib.ListN.{length, drop}
 use lib.Dec.{ltb, leb}
 use Rattle.weights.specs.declared.Measure.{Measure}
 use Rattle.refusal.specs.declared.Refusal.the-variants.{NoSuchVertex, WrongAnswers, Underivable, BillRoom}
-use Rattle.refusal.specs.declared.Answer.{Answer}
-use Rattle.refusal.specs.declared.Answer.the-variants as answer
+use Rattle.refusal.specs.declared.Acceptance.{Acceptance}
+use Rattle.refusal.specs.declared.Acceptance.the-variants as answer
 use Rattle.refusal.specs.declared.Extent.{Extent}
 use Rattle.refusal.specs.declared.Extent.the-variants.{Length, Refused}
-use Rattle.provenance.specs.BestFirst.{Answers, labels}
+use Rattle.columns.specs.Columns.{Answers, Columns}
+use Rattle.provenance.specs.BestFirst.{labels}
 use Rattle.provenance.specs.Support.{bill}
-use Rattle.columns.specs.Columns.{Columns, hypergraph}
+use Rattle.tables.specs.Table.{hypergraph}
 use Rattle.columns.specs.Acceptance.{test, andThen, lentAcceptance}
-use Rattle.columns.specs.Same.{same}
+use Rattle.columns.specs.Same.{sameAnswers}
 use Rattle.settle.specs.Settling.{answersOf}
 
 -- the bill of part v: the lines of its chosen make-up, as the answers tell it
@@ -22,36 +23,36 @@ unfoldable pub billOf : Columns → Answers → (v : ℕ) → List ℕ
 billOf c a v = bill (hypergraph c) (labels a) (labels a v .depth) v
 
 -- the table, the answers and the part: 1 to 7, then 11, 8 and 12
-unfoldable pub partAcceptance : Measure → Columns → Answers → (v : ℕ) → Answer
+unfoldable pub partAcceptance : Measure → Columns → Answers → (v : ℕ) → Acceptance
 partAcceptance m c a v =
     andThen (lentAcceptance c a)
     (test (ltb v (c .vertices)) NoSuchVertex
-    (test (same a (answersOf m c)) WrongAnswers
+    (test (sameAnswers a (answersOf m c)) WrongAnswers
     (test (ltb 0 (labels a v .depth)) Underivable
     answer.Accepted)))
 
 -- 13: a bill longer than the room
-abbrev pub roomAcceptance : (bill : List ℕ) → (places : ℕ) → Answer
+abbrev pub roomAcceptance : (bill : List ℕ) → (places : ℕ) → Acceptance
 roomAcceptance bill places = test (leb (length bill) places) BillRoom answer.Accepted
 
 -- 1 to 7, 11, 8 and 12, then 13
-unfoldable pub billAcceptance : Measure → Columns → Answers → (v places : ℕ) → Answer
+unfoldable pub billAcceptance : Measure → Columns → Answers → (v places : ℕ) → Acceptance
 billAcceptance m c a v places = andThen (partAcceptance m c a v) (roomAcceptance (billOf c a v) places)
 
 -- what the call returns, and the room as it leaves it
-pub record Outcome : Type 0 where
+pub record BillOutcome : Type 0 where
   pub result : Extent
   pub left : List ℕ
 
 -- on acceptance the bill's length, and the bill with the room's old content behind it; on a refusal the room as it came
-abbrev pub outcome : Answer → (bill room : List ℕ) → Outcome
+abbrev pub outcome : Acceptance → (bill room : List ℕ) → BillOutcome
 outcome answer.Accepted bill room = record { result = Length (length bill); left = bill ++ drop (length bill) room }
 outcome (answer.Refused r) bill room = record { result = Refused r; left = room }
 
 -- printing a bill into the room at entry
-abbrev pub printed : (bill room : List ℕ) → Outcome
+abbrev pub printed : (bill room : List ℕ) → BillOutcome
 printed bill room = outcome (roomAcceptance bill (length room)) bill room
 
 -- printing the bill of v, from the columns, the answers and the room at entry
-unfoldable pub billed : Measure → Columns → Answers → (v : ℕ) → List ℕ → Outcome
+unfoldable pub billed : Measure → Columns → Answers → (v : ℕ) → List ℕ → BillOutcome
 billed m c a v room = outcome (billAcceptance m c a v (length room)) (billOf c a v) room

@@ -9,11 +9,12 @@ use Rattle.weights.specs.declared.Measure.{Measure}
 use Rattle.weights.specs.declared.Label.{Label}
 use Rattle.provenance.specs.Hypergraph.{Derivation, listing}
 use Rattle.provenance.specs.Means.{Follows}
-use Rattle.provenance.specs.BestFirst.{Answers, labels}
+use Rattle.columns.specs.Columns.{Answers, Columns, ownAt}
+use Rattle.provenance.specs.BestFirst.{labels}
 use Rattle.provenance.specs.Support.{ChosenDerivation}
 use Rattle.provenance.proofs.Support.{chosen}
 use Rattle.provenance.specs.Counting.{count}
-use Rattle.columns.specs.Columns.{Columns, ownAt, hypergraph}
+use Rattle.tables.specs.Table.{hypergraph}
 use Rattle.bill.specs.Billing.{billOf}
 use Rattle.bill.specs.Listing.{nodes, uses, amount}
 

@@ -10,7 +10,8 @@ use Rattle.weights.specs.Choice.{pick}
 use Rattle.provenance.specs.Hypergraph.{Hypergraph}
 use Rattle.provenance.specs.BestFirst.{labels}
 use Rattle.provenance.specs.Support.{bills, bill}
-use Rattle.columns.specs.Columns.{columns, answers, hypergraph, tailOf}
+use Rattle.columns.specs.Columns.{columns, answers, tailOf}
+use Rattle.tables.specs.Table.{hypergraph}
 use Rattle.columns.specs.Acceptance.{longestTail}
 use Rattle.bill.specs.declared.Budget.{Budget}
 use Rattle.bill.specs.declared.Budget.the-variants.{Left, Spent}
@@ -62,7 +63,7 @@ pub record TailFits (spans tails edges : List ℕ) (depth : ℕ) (tail : List �
   pub fits : filled + length (tailBill spans tails edges depth tail) ≤ length room
 
 -- after `new` was written from a place on, the room is filled to `to`, and `left` is its content
-pub record Written (from : ℕ) (new room : List ℕ) (to : ℕ) (left : List ℕ) : Type 0 where
+pub record WrittenFrom (from : ℕ) (new room : List ℕ) (to : ℕ) (left : List ℕ) : Type 0 where
   pub filled : to ≡ from + length new
   pub content : left ≡ take from room ++ written new (drop from room)
 

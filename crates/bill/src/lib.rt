@@ -1,6 +1,6 @@
 // Printing the bill of a vertex: the hyperedges of its chosen derivation, root first, then the bill
 // of each vertex of the root's tail, in order.
-use refusal::Answer;
+use refusal::Acceptance;
 use refusal::Extent;
 use refusal::Refusal;
 use weights::Hyperedge;
@@ -10,7 +10,7 @@ ghost use mathlib.Core.Path.{_≡_};
 ghost use lib.ListN.{length};
 ghost use Rattle.columns.specs.Columns.{columns, answers, tailOf};
 ghost use Rattle.bill.specs.Billing.{partAcceptance, printed, billed};
-ghost use Rattle.bill.specs.Walk.{vertexBill, tailBill, Placed, Grounded, AllGrounded, VertexFits, TailFits, Written, spend};
+ghost use Rattle.bill.specs.Walk.{vertexBill, tailBill, Placed, Grounded, AllGrounded, VertexFits, TailFits, WrittenFrom, spend};
 
 // What is left of the room that a bill may take.
 enum Budget {
@@ -85,7 +85,7 @@ fn vertex_bill(
     room: &mut [u64],
 ) -> usize
     requires { ⌜ VertexFits (now spans) (now tails) (now edges) depth (v .0) (now room) ⌝ }
-    ensures { λ r. ⌜ Written 0 (vertexBill (now (spans .entry)) (now (tails .entry)) (now (edges .entry)) depth (v .0)) (now (room .entry)) r (now (room .exit)) ⌝ }
+    ensures { λ r. ⌜ WrittenFrom 0 (vertexBill (now (spans .entry)) (now (tails .entry)) (now (edges .entry)) depth (v .0)) (now (room .entry)) r (now (room .exit)) ⌝ }
 {
     let i = v.0 as usize;
     let root = edges[i];
@@ -106,7 +106,7 @@ fn tail_bill(
     filled: usize,
 ) -> usize
     requires { ⌜ TailFits (now spans) (now tails) (now edges) depth (now tail) filled (now room) ⌝ }
-    ensures { λ r. ⌜ Written filled (tailBill (now (spans .entry)) (now (tails .entry)) (now (edges .entry)) depth (now (tail .entry))) (now (room .entry)) r (now (room .exit)) ⌝ }
+    ensures { λ r. ⌜ WrittenFrom filled (tailBill (now (spans .entry)) (now (tails .entry)) (now (edges .entry)) depth (now (tail .entry))) (now (room .entry)) r (now (room .exit)) ⌝ }
 {
     if tail.len() == 0 {
         return filled;
@@ -136,25 +136,25 @@ fn check_part(
     depths: &[u64],
     edges: &[u64],
     part: Vertex,
-) -> Answer
+) -> Acceptance
     ensures { λ r. ⌜ r ≡ partAcceptance measure (columns n (now (heads .entry)) (now (own .entry)) (now (spans .entry)) (now (tails .entry))) (answers (now (weights .entry)) (now (depths .entry)) (now (edges .entry))) (part .0) ⌝ }
 {
     let a = columns::check_lent(n, heads, own, spans, tails, weights, depths, edges);
     match a {
-        Answer::Refused(r) => return Answer::Refused(r),
-        Answer::Accepted => {}
+        Acceptance::Refused(r) => return Acceptance::Refused(r),
+        Acceptance::Accepted => {}
     }
     if part.0 >= n {
-        return Answer::Refused(Refusal::NoSuchVertex);
+        return Acceptance::Refused(Refusal::NoSuchVertex);
     }
     if !settle::answers_right(measure, n, heads, own, spans, tails, weights, depths, edges) {
-        return Answer::Refused(Refusal::WrongAnswers);
+        return Acceptance::Refused(Refusal::WrongAnswers);
     }
     let i = part.0 as usize;
     if depths[i] == 0 {
-        return Answer::Refused(Refusal::Underivable);
+        return Acceptance::Refused(Refusal::Underivable);
     }
-    Answer::Accepted
+    Acceptance::Accepted
 }
 
 // Prints the bill of v, which is at most `depth` deep. Nothing is written before the whole bill is
@@ -208,8 +208,8 @@ pub fn bill(
         part,
     );
     match a {
-        Answer::Refused(r) => return Extent::Refused(r),
-        Answer::Accepted => {}
+        Acceptance::Refused(r) => return Extent::Refused(r),
+        Acceptance::Accepted => {}
     }
     let i = part.0 as usize;
     let depth = depths[i];

@@ -1,5 +1,4 @@
--- What holds of an accepted table: its lengths and limits, of each line its head, own figure, span and listed parts; so its hypergraph is well formed.
--- Assumes nothing.
+-- What holds of an accepted table: its lengths and limits, of each line its head, own figure, span and listed parts. Assumes nothing.
 use mathlib.Core.Path.{_≡_, refl, subst}
 use mathlib.Core.List.{List, [], _∷_}
 use mathlib.Core.Bool.{Bool, true, false}
@@ -14,22 +13,19 @@ use Rattle.weights.specs.declared.Hyperedge.{Hyperedge}
 use Rattle.weights.specs.Figures.{struck}
 use Rattle.weights.proofs.Choice.{both-true}
 use Rattle.refusal.specs.declared.Refusal.{Refusal}
-use Rattle.refusal.specs.declared.Answer.{Answer}
-use Rattle.refusal.specs.declared.Answer.the-variants.{Accepted, Refused}
-use Rattle.provenance.specs.Hypergraph.{WellFormed}
-use Rattle.provenance.specs.BestFirst.{Answers}
-use Rattle.provenance.specs.Existence.{Sized}
-use Rattle.columns.specs.Columns.{Columns, headAt, ownAt, offsetAt, lengthAt, part, hypergraph}
+use Rattle.refusal.specs.declared.Acceptance.{Acceptance}
+use Rattle.refusal.specs.declared.Acceptance.the-variants.{Accepted, Refused}
+use Rattle.columns.specs.Columns.{Answers, Sized, Columns, headAt, ownAt, offsetAt, lengthAt, part}
 use Rattle.columns.specs.Acceptance.{mostVertices, mostEdges, mostListed, longestTail, test, andThen, allBelow, edgeAcceptance, edgeAt, edgesAcceptance, acceptance, lentAcceptance}
 
 pub refused : {r : Refusal} → Refused r ≡ Accepted → ⊥
 refused e = let z : _≡_ {A = ℕ} 0 1 = cc in omega arith
 
-pub test-passed : (b : Bool) (r : Refusal) (a : Answer) → test b r a ≡ Accepted → (b ≡ true) × (a ≡ Accepted)
+pub test-passed : (b : Bool) (r : Refusal) (a : Acceptance) → test b r a ≡ Accepted → (b ≡ true) × (a ≡ Accepted)
 test-passed true r a e = (refl, e)
 test-passed false r a e = absurd (refused e)
 
-pub both-accepted : (a b : Answer) → andThen a b ≡ Accepted → (a ≡ Accepted) × (b ≡ Accepted)
+pub both-accepted : (a b : Acceptance) → andThen a b ≡ Accepted → (a ≡ Accepted) × (b ≡ Accepted)
 both-accepted Accepted b e = (refl, e)
 both-accepted (Refused r) b e = absurd (refused e)
 
@@ -116,9 +112,6 @@ table-accepted c p =
       rest = t5 .1;
       each = λ e h. edges-accepted c (length (c .heads)) 0 0 (t5 .1) e (omega arith) (omega arith);
     }
-
-pub well-formed : (c : Columns) → acceptance c ≡ Accepted → WellFormed (hypergraph c)
-well-formed c p = record { heads = λ e h. table-accepted c p .each e h .1 .head }
 
 -- an accepted table with answer columns of its length
 pub record AcceptedColumns (c : Columns) (a : Answers) : Type 0 where

@@ -13,10 +13,9 @@ use lib.Dec.{ltb, leb, eqb}
 use borrow.Author.Tests.{ltb-true, ltb-false, leb-true, leb-false, eqb-true, eqb-false, lt-ltb, le-ltb, le-leb, lt-leb, eq-eqb}
 use Rattle.weights.specs.Figures.{struck}
 use Rattle.refusal.specs.declared.Refusal.{Refusal}
-use Rattle.refusal.specs.declared.Answer.{Answer}
-use Rattle.refusal.specs.declared.Answer.the-variants.{Accepted, Refused}
-use Rattle.provenance.specs.BestFirst.{Answers}
-use Rattle.columns.specs.Columns.{Columns, headAt, ownAt, offsetAt, lengthAt, part, tailAt}
+use Rattle.refusal.specs.declared.Acceptance.{Acceptance}
+use Rattle.refusal.specs.declared.Acceptance.the-variants.{Accepted, Refused}
+use Rattle.columns.specs.Columns.{Answers, Columns, headAt, ownAt, offsetAt, lengthAt, part, tailAt}
 use Rattle.columns.specs.Acceptance.{mostVertices, mostEdges, mostListed, longestTail, test, allBelow, edgeAcceptance, edgeAt, edgesAcceptance, acceptance, lentAcceptance}
 use Rattle.columns.proofs.Accepted.{both-accepted, below-at, below-all, edge-accepted, edge-accepts, table-accepted, columns-accepted, columns-accept}
 use Rattle.columns.specs.Right.{Few, Level, endBefore, RightHead, RightOwn, RightSpan, RightTail, RightEdge, RightTable, WrongEdge, FirstWrong, WrongTable, RightLent, WrongLent}
@@ -30,7 +29,7 @@ part-length : (offset size : ℕ) (xs : List ℕ) → offset + size ≤ length x
 part-length offset size xs h = omega (arith, length-take size (drop offset xs), length-drop offset xs)
 
 -- of tests that refuse alike one fails
-one-fails : (b : Bool) (r : Refusal) (a : Answer) → (b ≡ true → a ≡ Refused r) → test b r a ≡ Refused r
+one-fails : (b : Bool) (r : Refusal) (a : Acceptance) → (b ≡ true → a ≡ Refused r) → test b r a ≡ Refused r
 one-fails true r a f = f refl
 one-fails false r a f = refl
 
@@ -103,7 +102,7 @@ module _ (c : Columns) where
   next-end e = ap (endBefore c) (sym (add-one e))
 
   -- what holds of the answer of the lines behind e, taken on
-  onward : (P : Answer → Type 0) (left e : ℕ) → P (edgesAcceptance c left (e + 1) (endBefore c (e + 1))) → P (edgesAcceptance c left (e + 1) (offsetAt c e + lengthAt c e))
+  onward : (P : Acceptance → Type 0) (left e : ℕ) → P (edgesAcceptance c left (e + 1) (endBefore c (e + 1))) → P (edgesAcceptance c left (e + 1) (offsetAt c e + lengthAt c e))
   onward P left e p = subst (λ (k : ℕ). P (edgesAcceptance c left (e + 1) k)) (sym (next-end e)) p
 
   edges-right : (left e : ℕ) → edgesAcceptance c left e (endBefore c e) ≡ Accepted → (x : ℕ) → e ≤ x → x < e + left → RightEdge c x
@@ -118,7 +117,7 @@ module _ (c : Columns) where
   unfolding edgesAcceptance
   right-edges zero e f = refl
   right-edges (suc left) e f =
-      let r = onward (λ (a : Answer). a ≡ Accepted) left e (right-edges left (e + 1) (λ x h l. f x (omega arith) (omega arith))) in
+      let r = onward (λ (a : Acceptance). a ≡ Accepted) left e (right-edges left (e + 1) (λ x h l. f x (omega arith) (omega arith))) in
       rw (right-edge c e (f e (omega arith) (omega arith)), r)
 
   -- up to line e all lines are right
@@ -138,7 +137,7 @@ module _ (c : Columns) where
       ⊎-elim
       (λ i. let q = wrong-edge c e (subst (λ (y : ℕ). WrongEdge c y r) (sym i) (w .wrong)) in rw q)
       (λ i.
-      let q = onward (λ (a : Answer). a ≡ Refused r) left e (wrong-edges left (e + 1) x (omega arith) (omega arith) w) in
+      let q = onward (λ (a : Acceptance). a ≡ Refused r) left e (wrong-edges left (e + 1) x (omega arith) (omega arith) w) in
       rw (right-edge c e (w .before e i), q))
       (eq-or-lt-of-le h)
 

@@ -1,7 +1,6 @@
 -- "Gaps may stand between spans and their contents are never looked at": a table with other contents in its gaps is accepted or refused alike, and if it is
 -- accepted holds the same hypergraph. Assumes nothing.
-use mathlib.Core.Path.{_≡_, refl, sym, _∙_, ap, ap₂, fun-ext}
-use mathlib.Core.Bool.{not}
+use mathlib.Core.Path.{_≡_, refl, sym, _∙_, ap, ap₂}
 use mathlib.Core.List.{List, []}
 use Prim.Native.Nat.{ℕ, zero, suc, _+_, _-_, _*_, _≤_, _<_}
 use native.Mathlib.Omega.{arith}
@@ -9,11 +8,10 @@ use native.Mathlib.Decide.{decLe}
 use lib.ListN.{length, getD, drop, length-take, length-drop, List·getD-eq-default}
 use lib.Seq.{getD-take, getD-drop, ext-getD}
 use lib.Dec.{leb, ltb}
-use Rattle.weights.specs.Figures.{struck, isStruck}
+use Rattle.weights.specs.Figures.{struck}
 use Rattle.refusal.specs.declared.Refusal.the-variants.{Head, Own, Span, Tail}
-use Rattle.refusal.specs.declared.Answer.the-variants.{Accepted}
-use Rattle.provenance.specs.BestFirst.{Answers}
-use Rattle.columns.specs.Columns.{Columns, headAt, ownAt, offsetAt, lengthAt, part, tailOf, tailAt, hypergraph}
+use Rattle.refusal.specs.declared.Acceptance.the-variants.{Accepted}
+use Rattle.columns.specs.Columns.{Answers, Columns, headAt, ownAt, offsetAt, lengthAt, part, tailOf, tailAt}
 use Rattle.columns.specs.Acceptance.{longestTail, test, andThen, allBelow, edgeAcceptance, edgeAt, edgesAcceptance, acceptance, lentAcceptance}
 use Rattle.columns.proofs.Accepted.{table-accepted}
 use Rattle.columns.specs.Gaps.{Gapped, withTails}
@@ -70,14 +68,9 @@ module _ (c : Columns) (tails : List ℕ) (g : Gapped c tails) where
       let l = List·getD-eq-default (c .spans) 0 {n = 2 * e + 1} (omega arith) in
       ap (λ (k : ℕ). part (offsetAt c e) k xs) l
 
-  all-tails-alike : acceptance c ≡ Accepted → (e : ℕ) → tailAt c e ≡ tailAt c′ e
+  pub all-tails-alike : acceptance c ≡ Accepted → (e : ℕ) → tailAt c e ≡ tailAt c′ e
   all-tails-alike p e = go (decLe (length (c .heads)) e)
     where
       go : Dec (length (c .heads) ≤ e) → tailAt c e ≡ tailAt c′ e
       go (yes h) = beyond (c .tails) p e h ∙ sym (beyond tails p e h)
       go (no h) = tail-alike e (omega arith)
-
-  pub gaps-hypergraph : acceptance c ≡ Accepted → hypergraph c ≡ hypergraph c′
-  gaps-hypergraph p =
-      ap (λ (t : ℕ → List ℕ). record { vertices = c .vertices; edges = length (c .heads); head = headAt c; tail = t; live = λ e. not (isStruck (ownAt c e)) })
-      (fun-ext (all-tails-alike p))

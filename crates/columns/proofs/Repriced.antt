@@ -7,9 +7,8 @@ use lib.ListN.{length, length-set}
 use lib.Seq.{getD-set-same, getD-set-other}
 use borrow.Author.Tests.{le-leb, eq-eqb}
 use Rattle.weights.specs.Figures.{struck}
-use Rattle.refusal.specs.declared.Answer.the-variants.{Accepted}
-use Rattle.provenance.specs.BestFirst.{Answers}
-use Rattle.columns.specs.Columns.{Columns, ownAt, offsetAt, lengthAt, withOwn}
+use Rattle.refusal.specs.declared.Acceptance.the-variants.{Accepted}
+use Rattle.columns.specs.Columns.{Answers, Columns, ownAt, offsetAt, lengthAt, withOwn}
 use Rattle.columns.specs.Acceptance.{edgeAt, edgesAcceptance, acceptance, lentAcceptance}
 use Rattle.columns.proofs.Accepted.{both-accepted, edge-accepted, edge-accepts, table-accepted, columns-accepted, columns-accept}
 

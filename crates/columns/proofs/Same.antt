@@ -1,4 +1,4 @@
--- Columns that are the same, place for place, as a test and its laws. Assumes nothing.
+-- Columns that are the sameAnswers, place for place, as a test and its laws. Assumes nothing.
 use mathlib.Core.Path.{_≡_, refl}
 use mathlib.Core.Bool.{Bool, true, false}
 use mathlib.Core.List.{List, [], _∷_}
@@ -6,8 +6,8 @@ use Prim.Native.Nat.{ℕ}
 use lib.Dec.{eqb}
 use borrow.Author.Tests.{eqb-true, eq-eqb}
 use Rattle.weights.proofs.Choice.{apart, both-true}
-use Rattle.provenance.specs.BestFirst.{Answers}
-use Rattle.columns.specs.Same.{equal, same}
+use Rattle.columns.specs.Columns.{Answers}
+use Rattle.columns.specs.Same.{equal, sameAnswers}
 
 equal-refl : (xs : List ℕ) → equal xs xs ≡ true
 unfolding equal
@@ -25,12 +25,12 @@ equal-true (x ∷ xs) (y ∷ ys) e =
     let q = equal-true xs ys (t .1) in
     λ i. p i ∷ q i
 
-pub same-refl : (a : Answers) → same a a ≡ true
-unfolding same
+pub same-refl : (a : Answers) → sameAnswers a a ≡ true
+unfolding sameAnswers
 same-refl a = rw (equal-refl (a .weights), equal-refl (a .depths), equal-refl (a .edges))
 
-pub same-true : (a b : Answers) → same a b ≡ true → a ≡ b
-unfolding same
+pub same-true : (a b : Answers) → sameAnswers a b ≡ true → a ≡ b
+unfolding sameAnswers
 same-true a b e =
     let t = both-true {a = equal (a .weights) (b .weights)} e in
     let u = both-true {a = equal (a .depths) (b .depths)} {b = equal (a .edges) (b .edges)} (t .1) in
@@ -39,9 +39,9 @@ same-true a b e =
     let r = equal-true (a .edges) (b .edges) (u .1) in
     λ i. record { weights = p i; depths = q i; edges = r i }
 
-pub same-not : (a b : Answers) → ¬ (a ≡ b) → same a b ≡ false
-same-not a b n = go (same a b) refl
+pub same-not : (a b : Answers) → ¬ (a ≡ b) → sameAnswers a b ≡ false
+same-not a b n = go (sameAnswers a b) refl
   where
-    go : (x : Bool) → same a b ≡ x → x ≡ false
+    go : (x : Bool) → sameAnswers a b ≡ x → x ≡ false
     go true e = absurd (n (same-true a b e))
     go false e = refl

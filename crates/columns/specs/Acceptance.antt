@@ -10,10 +10,9 @@ use Rattle.weights.specs.Figures.{struck}
 use Rattle.weights.specs.Choice.{pick}
 use Rattle.refusal.specs.declared.Refusal.{Refusal}
 use Rattle.refusal.specs.declared.Refusal.the-variants.{TooManyVertices, Lengths, Head, Own, Span, Tail, AnswerLength}
-use Rattle.refusal.specs.declared.Answer.{Answer}
-use Rattle.refusal.specs.declared.Answer.the-variants.{Accepted, Refused}
-use Rattle.provenance.specs.BestFirst.{Answers}
-use Rattle.columns.specs.Columns.{Columns, headAt, ownAt, offsetAt, lengthAt, part}
+use Rattle.refusal.specs.declared.Acceptance.{Acceptance}
+use Rattle.refusal.specs.declared.Acceptance.the-variants.{Accepted, Refused}
+use Rattle.columns.specs.Columns.{Answers, Columns, headAt, ownAt, offsetAt, lengthAt, part}
 
 -- the greatest numbers of parts, of lines, of needed parts in all and of one line
 abbrev pub mostVertices : ℕ
@@ -29,12 +28,12 @@ abbrev pub longestTail : ℕ
 longestTail = 16
 
 -- a test that refuses by r where it fails
-abbrev pub test : Bool → Refusal → Answer → Answer
+abbrev pub test : Bool → Refusal → Acceptance → Acceptance
 test true r a = a
 test false r a = Refused r
 
 -- the first refusal of two answers
-abbrev pub andThen : Answer → Answer → Answer
+abbrev pub andThen : Acceptance → Acceptance → Acceptance
 andThen Accepted b = b
 andThen (Refused r) b = Refused r
 
@@ -44,7 +43,7 @@ allBelow n [] = true
 allBelow n (v ∷ vs) = pick (ltb v n) (allBelow n vs) false
 
 -- refusals 3 to 6 of one line, where the span before it ends at `end`
-unfoldable pub edgeAcceptance : (n : ℕ) → Hyperedge → (head own offset size end : ℕ) → List ℕ → Answer
+unfoldable pub edgeAcceptance : (n : ℕ) → Hyperedge → (head own offset size end : ℕ) → List ℕ → Acceptance
 edgeAcceptance n e head own offset size end tails =
     test (ltb head n) (Head e)
     (test (leb own struck) (Own e)
@@ -54,16 +53,16 @@ edgeAcceptance n e head own offset size end tails =
     (test (allBelow n (part offset size tails)) (Tail e)
     Accepted)))))
 
-abbrev pub edgeAt : Columns → (e end : ℕ) → Answer
+abbrev pub edgeAt : Columns → (e end : ℕ) → Acceptance
 edgeAt c e end = edgeAcceptance (c .vertices) (record { 0 = e }) (headAt c e) (ownAt c e) (offsetAt c e) (lengthAt c e) end (c .tails)
 
 -- the first refusal of the `left` lines from e on
-unfoldable pub edgesAcceptance : Columns → (left e end : ℕ) → Answer
+unfoldable pub edgesAcceptance : Columns → (left e end : ℕ) → Acceptance
 edgesAcceptance c zero e end = Accepted
 edgesAcceptance c (suc left) e end = andThen (edgeAt c e end) (edgesAcceptance c left (e + 1) (offsetAt c e + lengthAt c e))
 
 -- a table is accepted, or refused by the first of 1 to 6 that applies
-unfoldable pub acceptance : Columns → Answer
+unfoldable pub acceptance : Columns → Acceptance
 acceptance c =
     test (leb (c .vertices) mostVertices) TooManyVertices
     (test (eqb (length (c .own)) (length (c .heads))) Lengths
@@ -73,7 +72,7 @@ acceptance c =
     (edgesAcceptance c (length (c .heads)) 0 0)))))
 
 -- the same with three answer columns, each exactly n long: 1 to 6, then 7
-unfoldable pub lentAcceptance : Columns → Answers → Answer
+unfoldable pub lentAcceptance : Columns → Answers → Acceptance
 lentAcceptance c a =
     andThen (acceptance c)
     (test (eqb (length (a .weights)) (c .vertices)) AnswerLength

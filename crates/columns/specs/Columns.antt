@@ -1,11 +1,8 @@
--- The lent columns of a table, and the hypergraph with own weights that they mean. The paper's "The table". Assumes nothing: these are definitions.
+-- The lent columns of a table and of its answers, as data. The paper's "The table". Assumes nothing: these are definitions.
 use Prim.Native.Nat.{ℕ, _+_, _*_}
-use mathlib.Core.Bool.{not}
+use mathlib.Core.Path.{_≡_}
 use mathlib.Core.List.{List}
 use lib.ListN.{length, getD, set, take, drop}
-use Rattle.weights.specs.Figures.{isStruck}
-use Rattle.provenance.specs.Hypergraph.{Hypergraph}
-use Rattle.provenance.specs.BestFirst.{Answers}
 
 -- n, and the four columns: heads; own figures; spans, two places for each line; and the needed parts
 pub record Columns : Type 0 where
@@ -18,9 +15,24 @@ pub record Columns : Type 0 where
 abbrev pub columns : ℕ → (heads own spans tails : List ℕ) → Columns
 columns n heads own spans tails = record { vertices = n; heads = heads; own = own; spans = spans; tails = tails }
 
--- the three answer columns
+-- the three answer columns: figure, depth and line of each part
+pub record Answers : Type 0 where
+  pub weights : List ℕ
+  pub depths : List ℕ
+  pub edges : List ℕ
+
 abbrev pub answers : (weights depths edges : List ℕ) → Answers
 answers weights depths edges = record { weights = weights; depths = depths; edges = edges }
+
+-- the three columns are n long
+pub record Sized (n : ℕ) (a : Answers) : Type 0 where
+  pub weights : length (a .weights) ≡ n
+  pub depths : length (a .depths) ≡ n
+  pub edges : length (a .edges) ≡ n
+
+-- what a column holds for a vertex
+abbrev pub cell : List ℕ → ℕ → ℕ
+cell xs v = getD xs v 0
 
 -- a line's head and own figure; its span: offset, then length; and the parts that it lists
 abbrev pub headAt : Columns → ℕ → ℕ
@@ -45,10 +57,6 @@ tailOf spans tails e = part (getD spans (2 * e) 0) (getD spans (2 * e + 1) 0) ta
 
 abbrev pub tailAt : Columns → ℕ → List ℕ
 tailAt c = tailOf (c .spans) (c .tails)
-
--- the table: gaps between spans are in no tail, and a line of the struck mark yields nothing
-abbrev pub hypergraph : Columns → Hypergraph
-hypergraph c = record { vertices = c .vertices; edges = length (c .heads); head = headAt c; tail = tailAt c; live = λ e. not (isStruck (ownAt c e)) }
 
 -- the same columns with the own figure w at line e
 abbrev pub withOwn : Columns → (e w : ℕ) → Columns

@@ -5,3 +5,4 @@ pub mod Filled
 pub mod Right
 pub mod Gaps
 pub mod Owed
+pub mod Lent

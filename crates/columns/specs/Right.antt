@@ -6,9 +6,7 @@ use lib.ListN.{length, getD}
 use Rattle.weights.specs.Figures.{struck}
 use Rattle.refusal.specs.declared.Refusal.{Refusal}
 use Rattle.refusal.specs.declared.Refusal.the-variants.{TooManyVertices, Lengths, Head, Own, Span, Tail, AnswerLength}
-use Rattle.provenance.specs.BestFirst.{Answers}
-use Rattle.provenance.specs.Existence.{Sized}
-use Rattle.columns.specs.Columns.{Columns, headAt, ownAt, offsetAt, lengthAt}
+use Rattle.columns.specs.Columns.{Answers, Sized, Columns, headAt, ownAt, offsetAt, lengthAt}
 use Rattle.columns.specs.Acceptance.{mostVertices, mostEdges, mostListed, longestTail}
 
 -- "There are n parts, … n from 0 to 1,024"

@@ -1,12 +1,12 @@
--- Columns that are the same, place for place, as a test and its laws. Assumes nothing.
+-- Columns that are the sameAnswers, place for place, as a test and its laws. Assumes nothing.
 use mathlib.Core.Bool.{Bool, true, false}
 use mathlib.Core.List.{List, [], _∷_}
 use Prim.Native.Nat.{ℕ}
 use lib.Dec.{eqb}
 use Rattle.weights.specs.Choice.{pick}
-use Rattle.provenance.specs.BestFirst.{Answers}
+use Rattle.columns.specs.Columns.{Answers}
 
--- two columns are the same
+-- two columns are the sameAnswers
 unfoldable pub equal : List ℕ → List ℕ → Bool
 equal [] [] = true
 equal [] (y ∷ ys) = false
@@ -14,5 +14,5 @@ equal (x ∷ xs) [] = false
 equal (x ∷ xs) (y ∷ ys) = pick (eqb x y) (equal xs ys) false
 
 -- so are three answer columns
-unfoldable pub same : Answers → Answers → Bool
-same a b = pick (equal (a .weights) (b .weights)) (pick (equal (a .depths) (b .depths)) (equal (a .edges) (b .edges)) false) false
+unfoldable pub sameAnswers : Answers → Answers → Bool
+sameAnswers a b = pick (equal (a .weights) (b .weights)) (pick (equal (a .depths) (b .depths)) (equal (a .edges) (b .edges)) false) false

@@ -1,7 +1,7 @@
 // The check of a table that is lent as columns of numbers, which may have any lengths and hold any
 // numbers. Hyperedge e has the head heads[e], the own weight own[e], and the tail of
 // spans[2 * e + 1] vertices that starts at spans[2 * e] in tails.
-use refusal::Answer;
+use refusal::Acceptance;
 use refusal::Refusal;
 use weights::Hyperedge;
 use weights::Vertex;
@@ -47,39 +47,39 @@ fn check_edge(
     size: u64,
     end: u64,
     tails: &[u64],
-) -> Answer
+) -> Acceptance
     ensures { λ r. ⌜ r ≡ edgeAcceptance n e (head .0) (own .0) offset size end (now (tails .entry)) ⌝ }
 {
     if head.0 >= n {
-        return Answer::Refused(Refusal::Head(e));
+        return Acceptance::Refused(Refusal::Head(e));
     }
     if own.0 > Weight::STRUCK.0 {
-        return Answer::Refused(Refusal::Own(e));
+        return Acceptance::Refused(Refusal::Own(e));
     }
     if offset < end {
-        return Answer::Refused(Refusal::Span(e));
+        return Acceptance::Refused(Refusal::Span(e));
     }
     if size > LONGEST_TAIL {
-        return Answer::Refused(Refusal::Span(e));
+        return Acceptance::Refused(Refusal::Span(e));
     }
     let all = tails.len() as u64;
     if offset > all {
-        return Answer::Refused(Refusal::Span(e));
+        return Acceptance::Refused(Refusal::Span(e));
     }
     if size > all - offset {
-        return Answer::Refused(Refusal::Span(e));
+        return Acceptance::Refused(Refusal::Span(e));
     }
     let from = offset as usize;
     let to = from + size as usize;
     if all_below(n, &tails[from..to]) {
-        Answer::Accepted
+        Acceptance::Accepted
     } else {
-        Answer::Refused(Refusal::Tail(e))
+        Acceptance::Refused(Refusal::Tail(e))
     }
 }
 
 // Whether every hyperedge is accepted, or the first refusal.
-fn check_edges(n: u64, heads: &[u64], own: &[u64], spans: &[u64], tails: &[u64]) -> Answer
+fn check_edges(n: u64, heads: &[u64], own: &[u64], spans: &[u64], tails: &[u64]) -> Acceptance
     requires { ⌜ (length (now own) ≡ length (now heads)) × (length (now spans) ≡ 2 * length (now heads)) ⌝ }
     ensures { λ r. ⌜ r ≡ edgesAcceptance (columns n (now (heads .entry)) (now (own .entry)) (now (spans .entry)) (now (tails .entry))) (length (now (heads .entry))) 0 0 ⌝ }
 {
@@ -101,33 +101,33 @@ fn check_edges(n: u64, heads: &[u64], own: &[u64], spans: &[u64], tails: &[u64])
             tails,
         );
         match a {
-            Answer::Refused(r) => return Answer::Refused(r),
-            Answer::Accepted => {}
+            Acceptance::Refused(r) => return Acceptance::Refused(r),
+            Acceptance::Accepted => {}
         }
         end = offset + size;
         i += 1;
     }
-    Answer::Accepted
+    Acceptance::Accepted
 }
 
 // Whether the table of n vertices is accepted, or the first refusal.
-pub fn check_table(n: u64, heads: &[u64], own: &[u64], spans: &[u64], tails: &[u64]) -> Answer
+pub fn check_table(n: u64, heads: &[u64], own: &[u64], spans: &[u64], tails: &[u64]) -> Acceptance
     ensures { λ r. ⌜ r ≡ acceptance (columns n (now (heads .entry)) (now (own .entry)) (now (spans .entry)) (now (tails .entry))) ⌝ }
 {
     if n > MOST_VERTICES {
-        return Answer::Refused(Refusal::TooManyVertices);
+        return Acceptance::Refused(Refusal::TooManyVertices);
     }
     if own.len() != heads.len() {
-        return Answer::Refused(Refusal::Lengths);
+        return Acceptance::Refused(Refusal::Lengths);
     }
     if heads.len() > MOST_EDGES {
-        return Answer::Refused(Refusal::Lengths);
+        return Acceptance::Refused(Refusal::Lengths);
     }
     if spans.len() != 2 * heads.len() {
-        return Answer::Refused(Refusal::Lengths);
+        return Acceptance::Refused(Refusal::Lengths);
     }
     if tails.len() > MOST_LISTED {
-        return Answer::Refused(Refusal::Lengths);
+        return Acceptance::Refused(Refusal::Lengths);
     }
     check_edges(n, heads, own, spans, tails)
 }
@@ -142,24 +142,24 @@ pub fn check_lent(
     weights: &[u64],
     depths: &[u64],
     edges: &[u64],
-) -> Answer
+) -> Acceptance
     ensures { λ r. ⌜ r ≡ lentAcceptance (columns n (now (heads .entry)) (now (own .entry)) (now (spans .entry)) (now (tails .entry))) (answers (now (weights .entry)) (now (depths .entry)) (now (edges .entry))) ⌝ }
 {
     let a = check_table(n, heads, own, spans, tails);
     match a {
-        Answer::Refused(r) => return Answer::Refused(r),
-        Answer::Accepted => {}
+        Acceptance::Refused(r) => return Acceptance::Refused(r),
+        Acceptance::Accepted => {}
     }
     if weights.len() as u64 != n {
-        return Answer::Refused(Refusal::AnswerLength);
+        return Acceptance::Refused(Refusal::AnswerLength);
     }
     if depths.len() as u64 != n {
-        return Answer::Refused(Refusal::AnswerLength);
+        return Acceptance::Refused(Refusal::AnswerLength);
     }
     if edges.len() as u64 != n {
-        return Answer::Refused(Refusal::AnswerLength);
+        return Acceptance::Refused(Refusal::AnswerLength);
     }
-    Answer::Accepted
+    Acceptance::Accepted
 }
 
 // Every place of a lent column becomes x.

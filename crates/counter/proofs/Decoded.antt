@@ -8,16 +8,15 @@ use lib.ListN.{length, take, length-take}
 use borrow.Author.Tests.{leb-true}
 use Rattle.weights.specs.declared.Measure.{Measure}
 use Rattle.refusal.specs.declared.Refusal.{Refusal}
-use Rattle.refusal.specs.declared.Answer.{Answer}
-use Rattle.refusal.specs.declared.Answer.the-variants as answer
+use Rattle.refusal.specs.declared.Acceptance.{Acceptance}
+use Rattle.refusal.specs.declared.Acceptance.the-variants as answer
 use Rattle.refusal.specs.declared.Extent.{Extent}
 use Rattle.refusal.specs.declared.Extent.the-variants.{Length, Refused}
 use Rattle.refusal.specs.declared.MeasureChoice.{MeasureChoice}
 use Rattle.refusal.specs.declared.MeasureChoice.the-variants as choice
-use Rattle.refusal.specs.Refusals.{placeOf, lastPlace, answerResult, extentResult, measureOf}
+use Rattle.refusal.specs.Refusals.{placeOf, lastPlace, acceptanceResult, extentResult, measureOf}
 use Rattle.refusal.proofs.Refusals.{numbered}
-use Rattle.provenance.specs.BestFirst.{Answers}
-use Rattle.columns.specs.Columns.{Columns}
+use Rattle.columns.specs.Columns.{Answers, Columns}
 use Rattle.columns.proofs.Accepted.{both-accepted, test-passed}
 use Rattle.settle.specs.Settling.{settled}
 use Rattle.settle.proofs.Demands.{settled-result}
@@ -49,7 +48,7 @@ decoded (Refused r) h =
     }
 
 -- an acceptance alone is told
-answer-decoded : (x : Answer) → ((s : Refusal) → x ≡ answer.Refused s → placeOf s ≤ lastPlace) → Decoded (extentOf x) (answerResult x)
+answer-decoded : (x : Acceptance) → ((s : Refusal) → x ≡ answer.Refused s → placeOf s ≤ lastPlace) → Decoded (extentOf x) (acceptanceResult x)
 answer-decoded answer.Accepted h = decoded (Length 0) (omega arith)
 answer-decoded (answer.Refused r) h = decoded (Refused r) (h r refl)
 
@@ -72,7 +71,7 @@ billed-reach : (m : Measure) (c : Columns) (a : Answers) (v : ℕ) (room : List 
 unfolding billed billAcceptance
 billed-reach m c a v room h = go (billAcceptance m c a v (length room)) refl
   where
-    go : (x : Answer) → billAcceptance m c a v (length room) ≡ x → reach (outcome x (billOf c a v) room .result) ≤ lastPlace
+    go : (x : Acceptance) → billAcceptance m c a v (length room) ≡ x → reach (outcome x (billOf c a v) room .result) ≤ lastPlace
     go answer.Accepted p = let t = both-accepted (partAcceptance m c a v) _ p in omega (arith, leb-true (length (billOf c a v)) (length room) (test-passed _ _ _ (t .1) .0))
     go (answer.Refused r) p = bill-place m c a v (length room) p
 

@@ -6,13 +6,12 @@ use native.Mathlib.Nat.{zero-min, min-zero, suc-min-suc}
 use lib.ListN.{length, take, drop}
 use Rattle.weights.specs.declared.Measure.{Measure}
 use Rattle.refusal.specs.declared.Refusal.{Refusal}
-use Rattle.refusal.specs.declared.Answer.{Answer}
+use Rattle.refusal.specs.declared.Acceptance.{Acceptance}
 use Rattle.refusal.specs.declared.Extent.{Extent}
 use Rattle.refusal.specs.declared.MeasureChoice.{MeasureChoice}
 use Rattle.refusal.specs.declared.MeasureChoice.the-variants as choice
-use Rattle.refusal.specs.Refusals.{codeOf, resultOf, answerResult, extentResult}
-use Rattle.provenance.specs.BestFirst.{Answers}
-use Rattle.columns.specs.Columns.{Columns}
+use Rattle.refusal.specs.Refusals.{codeOf, resultOf, acceptanceResult, extentResult}
+use Rattle.columns.specs.Columns.{Answers, Columns}
 use Rattle.settle.specs.Settling.{settled}
 use Rattle.reprice.specs.Repricing.{repriced}
 use Rattle.bill.specs.Billing.{billed}
@@ -33,7 +32,7 @@ module _ {o : MeasureChoice} (c : Columns) (a : Answers) {n : ℕ} where
   pub settled-refused : {r : Refusal} → o ≡ choice.Refused r → n ≡ resultOf (codeOf r) → record { result = n; left = a } ≡ settledResult o c a
   settled-refused p q = rw (p, q)
 
-  pub settled-measure : {m : Measure} {x : Answer} {b : Answers} → o ≡ choice.Measure m → n ≡ answerResult x → record { result = x; left = b } ≡ settled m c a → record { result = n; left = b } ≡ settledResult o c a
+  pub settled-measure : {m : Measure} {x : Acceptance} {b : Answers} → o ≡ choice.Measure m → n ≡ acceptanceResult x → record { result = x; left = b } ≡ settled m c a → record { result = n; left = b } ≡ settledResult o c a
   settled-measure {m} {x} {b} p q e = rw (p, q) (ap outcomeResult e)
 
   -- of line e and figure w
@@ -41,7 +40,7 @@ module _ {o : MeasureChoice} (c : Columns) (a : Answers) {n : ℕ} where
     pub repriced-refused : {r : Refusal} → o ≡ choice.Refused r → n ≡ resultOf (codeOf r) → record { result = n; own = c .own; left = a } ≡ repricedResult o c a e w
     repriced-refused p q = rw (p, q)
 
-    pub repriced-measure : {m : Measure} {x : Answer} {os : List ℕ} {b : Answers} → o ≡ choice.Measure m → n ≡ answerResult x → record { result = x; own = os; left = b } ≡ repriced m c a e w → record { result = n; own = os; left = b } ≡ repricedResult o c a e w
+    pub repriced-measure : {m : Measure} {x : Acceptance} {os : List ℕ} {b : Answers} → o ≡ choice.Measure m → n ≡ acceptanceResult x → record { result = x; own = os; left = b } ≡ repriced m c a e w → record { result = n; own = os; left = b } ≡ repricedResult o c a e w
     repriced-measure p q k = rw (p, q) (ap changeResult k)
 
   -- of part v

@@ -17,20 +17,20 @@ use Rattle.weights.specs.Labels.{aheadOf}
 use Rattle.weights.specs.Measures.{fold, weigh}
 use Rattle.refusal.specs.declared.Refusal.{Refusal}
 use Rattle.refusal.specs.declared.Refusal.the-variants.{WrongAnswers, NoSuchEdge, NewWeight, NoSuchVertex, Underivable, BillRoom, MeasureNumber}
-use Rattle.refusal.specs.declared.Answer.{Answer}
-use Rattle.refusal.specs.declared.Answer.the-variants as answer
+use Rattle.refusal.specs.declared.Acceptance.{Acceptance}
+use Rattle.refusal.specs.declared.Acceptance.the-variants as answer
 use Rattle.refusal.specs.declared.Extent.{Extent}
 use Rattle.refusal.specs.declared.Extent.the-variants.{Refused}
 use Rattle.refusal.specs.declared.MeasureChoice.{MeasureChoice}
 use Rattle.refusal.specs.declared.MeasureChoice.the-variants as choice
 use Rattle.refusal.specs.Refusals.{numberOf, measureOf}
-use Rattle.provenance.specs.BestFirst.{Answers, opening, next, turn, turns, best-first}
-use Rattle.provenance.specs.Labelling.{each, greatest as deepest, noneZero, offerOf}
+use Rattle.columns.specs.Columns.{Answers, Columns, columns, answers}
+use Rattle.provenance.specs.BestFirst.{opening, next, turn, turns, best-first}
+use Rattle.provenance.specs.Labelling.{each, greatestDepth as deepest, noneZero, offerOf}
 use Rattle.provenance.specs.Support.{bill, bills}
-use Rattle.columns.specs.Columns.{Columns, columns, answers}
 use Rattle.columns.specs.Acceptance.{allBelow, edgeAcceptance, edgesAcceptance, acceptance, lentAcceptance}
 use Rattle.columns.specs.Right.{WrongEdge, WrongTable, WrongLent}
-use Rattle.columns.specs.Same.{equal, same}
+use Rattle.columns.specs.Same.{equal, sameAnswers}
 use Rattle.columns.proofs.Exactly.{lent-refused-exactly}
 use Rattle.settle.specs.Settling.{answersOf, settled}
 use Rattle.settle.proofs.Demands.{settled-result}
@@ -74,7 +74,7 @@ listed n (k ∷ ns) e = go (eqb k n) refl e (listed n ns)
     go true p q rest = subst (λ (x : ℕ). Among n (x ∷ ns)) (sym (eqb-true k n p)) Among.here
     go false p q rest = Among.behind (rest q)
 
-answered : (x : Answer) {r : Refusal} → extentOf x ≡ Refused r → x ≡ answer.Refused r
+answered : (x : Acceptance) {r : Refusal} → extentOf x ≡ Refused r → x ≡ answer.Refused r
 answered answer.Accepted e = let z : _≡_ {A = ℕ} 0 1 = cc in absurd (omega arith)
 answered (answer.Refused s) {r} e = let q : s ≡ r = cc in ap answer.Refused q
 
@@ -220,7 +220,7 @@ reprice-shown n s =
 
 -- a line that is not there, the struck mark as a figure, a figure off by 1
 reprice-late : All RepriceReturns (9 ∷ 10 ∷ 8 ∷ [])
-unfolding repriced repriceAcceptance lineAcceptance lentAcceptance acceptance edgesAcceptance edgeAcceptance allBelow same equal answersOf best-first turns turn next opening offerOf noneZero aheadOf weigh fold each deepest
+unfolding repriced repriceAcceptance lineAcceptance lentAcceptance acceptance edgesAcceptance edgeAcceptance allBelow sameAnswers equal answersOf best-first turns turn next opening offerOf noneZero aheadOf weigh fold each deepest
 reprice-late =
     All.more (record { measure = 0; columns = single; answers = answer-of 5; edge = 1; weight = 0; refused = record { refusal = NoSuchEdge; returned = refl; number = refl } })
     (All.more (record { measure = 0; columns = single; answers = answer-of 5; edge = 0; weight = struck; refused = record { refusal = NewWeight; returned = refl; number = refl } })
@@ -256,7 +256,7 @@ bill-shown n s =
 
 -- a part that is not there, a figure off by 1, a part that no line yields, no room
 bill-late : All BillReturns (11 ∷ 8 ∷ 12 ∷ 13 ∷ [])
-unfolding billed billAcceptance partAcceptance billOf bill bills lentAcceptance acceptance edgesAcceptance edgeAcceptance allBelow same equal answersOf best-first turns turn next opening offerOf noneZero aheadOf weigh fold each deepest
+unfolding billed billAcceptance partAcceptance billOf bill bills lentAcceptance acceptance edgesAcceptance edgeAcceptance allBelow sameAnswers equal answersOf best-first turns turn next opening offerOf noneZero aheadOf weigh fold each deepest
 bill-late =
     All.more (record { measure = 0; columns = single; answers = answer-of 5; vertex = 1; room = []; refused = record { refusal = NoSuchVertex; returned = refl; number = refl } })
     (All.more (record { measure = 0; columns = single; answers = answer-of 6; vertex = 0; room = []; refused = record { refusal = WrongAnswers; returned = refl; number = refl } })

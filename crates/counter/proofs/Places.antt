@@ -11,11 +11,10 @@ use Rattle.weights.specs.Choice.{pick}
 use Rattle.weights.specs.Figures.{greatest}
 use Rattle.refusal.specs.declared.Refusal.{Refusal}
 use Rattle.refusal.specs.declared.Refusal.the-variants.{MeasureNumber}
-use Rattle.refusal.specs.declared.Answer.the-variants as answer
+use Rattle.refusal.specs.declared.Acceptance.the-variants as answer
 use Rattle.refusal.specs.declared.MeasureChoice.the-variants as choice
 use Rattle.refusal.specs.Refusals.{placeOf, lastPlace, measureOf}
-use Rattle.provenance.specs.BestFirst.{Answers}
-use Rattle.columns.specs.Columns.{Columns}
+use Rattle.columns.specs.Columns.{Answers, Columns}
 use Rattle.columns.specs.Acceptance.{mostEdges, lentAcceptance}
 use Rattle.columns.specs.Right.{WrongEdge, WrongTable, WrongLent}
 use Rattle.columns.proofs.Exactly.{lent-refused-exactly}

@@ -6,15 +6,14 @@ use Prim.Native.Nat.{ℕ, _/_, _%_, _≤_, _<_}
 use lib.ListN.{take}
 use Rattle.weights.specs.declared.Measure.{Measure}
 use Rattle.refusal.specs.declared.Refusal.{Refusal}
-use Rattle.refusal.specs.declared.Answer.{Answer}
-use Rattle.refusal.specs.declared.Answer.the-variants as answer
+use Rattle.refusal.specs.declared.Acceptance.{Acceptance}
+use Rattle.refusal.specs.declared.Acceptance.the-variants as answer
 use Rattle.refusal.specs.declared.Extent.{Extent}
 use Rattle.refusal.specs.declared.Extent.the-variants.{Length, Refused}
 use Rattle.refusal.specs.declared.MeasureChoice.{MeasureChoice}
 use Rattle.refusal.specs.declared.MeasureChoice.the-variants as choice
 use Rattle.refusal.specs.Refusals.{numberOf, placeOf}
-use Rattle.provenance.specs.BestFirst.{Answers}
-use Rattle.columns.specs.Columns.{Columns}
+use Rattle.columns.specs.Columns.{Answers, Columns}
 use Rattle.settle.specs.Settling.{settled}
 use Rattle.reprice.specs.Repricing.{repriced}
 use Rattle.bill.specs.Billing.{billed}
@@ -34,7 +33,7 @@ pub record Decoded (x : Extent) (n : ℕ) : Type 0 where
   pub refused : (r : Refusal) → x ≡ Refused r → Names r n
 
 -- acceptance alone, as a length
-abbrev pub extentOf : Answer → Extent
+abbrev pub extentOf : Acceptance → Extent
 extentOf answer.Accepted = Length 0
 extentOf (answer.Refused r) = Refused r
 

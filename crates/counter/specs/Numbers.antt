@@ -7,8 +7,7 @@ use Rattle.refusal.specs.declared.Refusal.{Refusal}
 use Rattle.refusal.specs.declared.Extent.{Extent}
 use Rattle.refusal.specs.declared.Extent.the-variants.{Refused}
 use Rattle.refusal.specs.Refusals.{numberOf, measureOf}
-use Rattle.provenance.specs.BestFirst.{Answers}
-use Rattle.columns.specs.Columns.{Columns}
+use Rattle.columns.specs.Columns.{Answers, Columns}
 use Rattle.counter.specs.Decoded.{settledExtent, repricedExtent, billedExtent}
 
 -- n stands in a list

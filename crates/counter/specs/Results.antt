@@ -4,20 +4,19 @@ use mathlib.Core.List.{List, _++_}
 use lib.ListN.{take, drop}
 use Rattle.refusal.specs.declared.MeasureChoice.{MeasureChoice}
 use Rattle.refusal.specs.declared.MeasureChoice.the-variants.{Measure, Refused}
-use Rattle.refusal.specs.Refusals.{codeOf, resultOf, answerResult, extentResult}
-use Rattle.provenance.specs.BestFirst.{Answers}
-use Rattle.columns.specs.Columns.{Columns}
-use Rattle.settle.specs.Settling.{Outcome, settled}
-use Rattle.reprice.specs.Repricing.{Change, repriced}
-use Rattle.bill.specs.Billing.{Outcome as BillOutcome, billed}
+use Rattle.refusal.specs.Refusals.{codeOf, resultOf, acceptanceResult, extentResult}
+use Rattle.columns.specs.Columns.{Answers, Columns}
+use Rattle.settle.specs.Settling.{SettleOutcome, settled}
+use Rattle.reprice.specs.Repricing.{ChangeOutcome, repriced}
+use Rattle.bill.specs.Billing.{BillOutcome as BillOutcome, billed}
 
 -- a number, and the answer columns
 pub record Left : Type 0 where
   pub result : ℕ
   pub left : Answers
 
-abbrev pub outcomeResult : Outcome → Left
-outcomeResult o = record { result = answerResult (o .result); left = o .left }
+abbrev pub outcomeResult : SettleOutcome → Left
+outcomeResult o = record { result = acceptanceResult (o .result); left = o .left }
 
 -- a measure's number is tested before everything
 abbrev pub settledResult : MeasureChoice → Columns → Answers → Left
@@ -30,8 +29,8 @@ pub record LeftOwn : Type 0 where
   pub own : List ℕ
   pub left : Answers
 
-abbrev pub changeResult : Change → LeftOwn
-changeResult x = record { result = answerResult (x .result); own = x .own; left = x .left }
+abbrev pub changeResult : ChangeOutcome → LeftOwn
+changeResult x = record { result = acceptanceResult (x .result); own = x .own; left = x .left }
 
 abbrev pub repricedResult : MeasureChoice → Columns → Answers → (e w : ℕ) → LeftOwn
 repricedResult (Refused r) c a e w = record { result = resultOf (codeOf r); own = c .own; left = a }

@@ -4,12 +4,12 @@ use mathlib.Core.Path.{refl}
 use Rattle.weights.specs.declared.Measure.the-variants.{Cost}
 use Rattle.weights.specs.Measures.{fold, weigh}
 use Rattle.weights.specs.Labels.{aheadOf}
-use Rattle.provenance.specs.Labelling.{each, greatest, noneZero, offerOf}
+use Rattle.provenance.specs.Labelling.{each, greatestDepth, noneZero, offerOf}
 use Rattle.provenance.specs.BestFirst.{opening, next, turn, turns, best-first}
 use Rattle.provenance.specs.Support.{bills, bill}
 use Rattle.provenance.specs.Counting.{count}
 use Rattle.columns.specs.Columns.{withOwn}
-use Rattle.columns.specs.Same.{equal, same}
+use Rattle.columns.specs.Same.{equal, sameAnswers}
 use Rattle.columns.specs.Acceptance.{allBelow, edgeAcceptance, edgesAcceptance, acceptance, lentAcceptance}
 use Rattle.settle.specs.Settling.{answersOf, settled}
 use Rattle.reprice.specs.Repricing.{lineAcceptance, repriceAcceptance, strikeAcceptance, repriced, stricken}
@@ -30,7 +30,7 @@ worked-bounds : Demand3Billed Cost whole (withOwn whole 1 500) 1 200
 worked-bounds = demand-3-billed Cost whole (withOwn whole 1 500) 1 200 worked-pair
 
 pub every-case-holds : AllHold cases
-unfolding cases AllHold states settled billed repriced stricken answersOf billOf partAcceptance billAcceptance repriceAcceptance strikeAcceptance lineAcceptance same equal lentAcceptance acceptance edgesAcceptance edgeAcceptance allBelow best-first turns turn next opening offerOf noneZero aheadOf weigh fold each greatest bill bills count
+unfolding cases AllHold states settled billed repriced stricken answersOf billOf partAcceptance billAcceptance repriceAcceptance strikeAcceptance lineAcceptance sameAnswers equal lentAcceptance acceptance edgesAcceptance edgeAcceptance allBelow best-first turns turn next opening offerOf noneZero aheadOf weigh fold each greatestDepth bill bills count
 every-case-holds = (
   record { outcome = refl; told = refl },
   (

@@ -7,10 +7,9 @@ use lib.ListN.{length, drop}
 use Rattle.weights.specs.declared.Measure.{Measure}
 use Rattle.weights.specs.declared.State.{State}
 use Rattle.weights.specs.Labels.{stateOf}
-use Rattle.refusal.specs.declared.Answer.the-variants.{Accepted}
+use Rattle.refusal.specs.declared.Acceptance.the-variants.{Accepted}
 use Rattle.refusal.specs.declared.Extent.the-variants.{Length}
-use Rattle.provenance.specs.BestFirst.{Answers}
-use Rattle.columns.specs.Columns.{Columns, ownAt, withOwn}
+use Rattle.columns.specs.Columns.{Answers, Columns, ownAt, withOwn}
 use Rattle.settle.specs.Settling.{settled}
 use Rattle.reprice.specs.Repricing.{repriced, stricken}
 use Rattle.reprice.specs.Demand3.{labelsOf, Pair, Rise}

@@ -4,8 +4,7 @@ use mathlib.Core.List.{List, [], _∷_}
 use Rattle.weights.specs.declared.Measure.the-variants.{Cost, Days}
 use Rattle.weights.specs.declared.State.the-variants.{Made, Over, Unmade}
 use Rattle.weights.specs.Figures.{struck}
-use Rattle.provenance.specs.BestFirst.{Answers}
-use Rattle.columns.specs.Columns.{Columns, columns, answers}
+use Rattle.columns.specs.Columns.{Answers, Columns, columns, answers}
 use Rattle.examples.specs.Case.{Case, settles, prints, reprices, strikes, raises}
 
 -- the table priced whole

@@ -11,14 +11,13 @@ use Rattle.refusal.specs.declared.Refusal.{Refusal}
 use Rattle.refusal.specs.declared.Header.{Header}
 use Rattle.refusal.specs.declared.Reading.{Reading}
 use Rattle.refusal.specs.declared.Reading.the-variants as reading
-use Rattle.refusal.specs.declared.Answer.{Answer}
+use Rattle.refusal.specs.declared.Acceptance.{Acceptance}
 use Rattle.refusal.specs.declared.Verdict.{Verdict}
 use Rattle.refusal.specs.declared.Extent.{Extent}
 use Rattle.refusal.specs.declared.MeasureChoice.{MeasureChoice}
 use Rattle.refusal.specs.declared.MeasureChoice.the-variants as choice
-use Rattle.refusal.specs.Refusals.{codeOf, resultOf, answerResult, verdictResult, extentResult}
-use Rattle.provenance.specs.BestFirst.{Answers}
-use Rattle.columns.specs.Columns.{Columns}
+use Rattle.refusal.specs.Refusals.{codeOf, resultOf, acceptanceResult, verdictResult, extentResult}
+use Rattle.columns.specs.Columns.{Answers, Columns}
 use Rattle.settle.specs.Checking.{checked}
 use Rattle.reprice.specs.Repricing.{stricken}
 use Rattle.readtable.specs.Read.{ReadOutcome}
@@ -38,7 +37,7 @@ module _ {o : MeasureChoice} (c : Columns) (a : Answers) {n : ℕ} where
     pub stricken-refused : {r : Refusal} → o ≡ choice.Refused r → n ≡ resultOf (codeOf r) → record { result = n; own = c .own; left = a } ≡ strickenResult o c a e
     stricken-refused p q = rw (p, q)
 
-    pub stricken-measure : {m : Measure} {x : Answer} {os : List ℕ} {b : Answers} → o ≡ choice.Measure m → n ≡ answerResult x → record { result = x; own = os; left = b } ≡ stricken m c a e → record { result = n; own = os; left = b } ≡ strickenResult o c a e
+    pub stricken-measure : {m : Measure} {x : Acceptance} {os : List ℕ} {b : Answers} → o ≡ choice.Measure m → n ≡ acceptanceResult x → record { result = x; own = os; left = b } ≡ stricken m c a e → record { result = n; own = os; left = b } ≡ strickenResult o c a e
     stricken-measure p q k = rw (p, q) (ap changeResult k)
 
 three : (xs : List ℕ) (w d e : ℕ) → length xs ≡ 3 → set (set (set xs 0 w) 1 d) 2 e ≡ w ∷ d ∷ e ∷ []

@@ -15,8 +15,7 @@ use Rattle.refusal.specs.declared.Reading.the-variants as reading
 use Rattle.refusal.specs.declared.MeasureChoice.{MeasureChoice}
 use Rattle.refusal.specs.declared.MeasureChoice.the-variants.{Measure, Refused}
 use Rattle.refusal.specs.Refusals.{codeOf, resultOf, verdictResult, extentResult, readingResult}
-use Rattle.provenance.specs.BestFirst.{Answers}
-use Rattle.columns.specs.Columns.{Columns}
+use Rattle.columns.specs.Columns.{Answers, Columns}
 use Rattle.settle.specs.Checking.{checked}
 use Rattle.reprice.specs.Repricing.{stricken}
 use Rattle.counter.specs.Results.{LeftOwn, changeResult, LeftRoom}

@@ -9,7 +9,7 @@ use weights::State;
 use weights::Vertex;
 ghost use mathlib.Core.Path.{_≡_};
 ghost use Rattle.weights.specs.Labels.{entryOf};
-ghost use Rattle.refusal.specs.Refusals.{answerResult, measureOf};
+ghost use Rattle.refusal.specs.Refusals.{acceptanceResult, measureOf};
 ghost use Rattle.provenance.specs.BestFirst.{labels};
 ghost use Rattle.columns.specs.Columns.{columns, answers};
 ghost use Rattle.columns.specs.Acceptance.{acceptance};
@@ -24,7 +24,7 @@ pub extern "C" fn harness_check_table(
     spans: &[u64],
     tails: &[u64],
 ) -> u64
-    ensures { λ r. ⌜ r ≡ answerResult (acceptance (columns n (now (heads .entry)) (now (own .entry)) (now (spans .entry)) (now (tails .entry)))) ⌝ }
+    ensures { λ r. ⌜ r ≡ acceptanceResult (acceptance (columns n (now (heads .entry)) (now (own .entry)) (now (spans .entry)) (now (tails .entry)))) ⌝ }
 {
     let a = columns::check_table(n, heads, own, spans, tails);
     a.result()

@@ -14,7 +14,7 @@ use Rattle.weights.specs.Figures.{isStruck}
 use Rattle.weights.specs.Measures.{Algebra, fold, weigh}
 use Rattle.weights.specs.Choice.{pick}
 use Rattle.weights.specs.Labels.{label}
-use Rattle.provenance.specs.Labelling.{each, greatest, noneZero, offerOf}
+use Rattle.provenance.specs.Labelling.{each, greatestDepth, noneZero, offerOf}
 
 max-assoc : (a b c : ℕ) → max a (max b c) ≡ max (max a b) c
 max-assoc a b c = omega arith
@@ -27,11 +27,11 @@ max-zero a = omega arith
 
 -- what is left of a tail gives, where what went before joins to j and is d deep
 unfoldable pub rest : Algebra → (e own : ℕ) → (weight depth : ℕ → ℕ) → (j d : ℕ) → List ℕ → Offer
-rest A e own w t j d vs = pick (noneZero t vs) (Found (label (A .finish own (fold (A .join) j (each w vs))) (max d (greatest t vs) + 1) e)) Nothing
+rest A e own w t j d vs = pick (noneZero t vs) (Found (label (A .finish own (fold (A .join) j (each w vs))) (max d (greatestDepth t vs) + 1) e)) Nothing
 
 module _ (A : Algebra) (e own : ℕ) (w t : ℕ → ℕ) (j d : ℕ) (tail : List ℕ) (i : ℕ) where
   pub rest-more : i < length tail → ¬ (t (getD tail i 0) ≡ 0) → rest A e own w t (A .join j (w (getD tail i 0))) (max d (t (getD tail i 0))) (drop (i + 1) tail) ≡ rest A e own w t j d (drop i tail)
-  unfolding rest noneZero each greatest fold
+  unfolding rest noneZero each greatestDepth fold
   rest-more h n = rw (add-one, drop-cons tail i 0 h, ne-eqb _ _ n, max-assoc)
 
   pub rest-stop : i < length tail → t (getD tail i 0) ≡ 0 → Nothing ≡ rest A e own w t j d (drop i tail)
@@ -39,7 +39,7 @@ module _ (A : Algebra) (e own : ℕ) (w t : ℕ → ℕ) (j d : ℕ) (tail : Lis
   rest-stop h n = rw (drop-cons tail i 0 h, eq-eqb _ _ n)
 
   pub rest-end : length tail ≤ i → Found (label (A .finish own j) (d + 1) e) ≡ rest A e own w t j d (drop i tail)
-  unfolding rest noneZero each greatest fold
+  unfolding rest noneZero each greatestDepth fold
   rest-end h = rw (drop-of-length-le tail h, max-zero)
 
 module _ (A : Algebra) (e own : ℕ) (w t : ℕ → ℕ) (tail : List ℕ) where

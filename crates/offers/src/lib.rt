@@ -10,8 +10,8 @@ ghost use Prim.Native.Nat.{max};
 ghost use Rattle.weights.specs.Figures.{isStruck};
 ghost use Rattle.weights.specs.Measures.{algebra};
 ghost use Rattle.provenance.specs.Labelling.{offerOf};
-ghost use Rattle.columns.specs.Columns.{tailOf};
-ghost use Rattle.offers.specs.Lent.{cell, Legible, EdgeIn};
+ghost use Rattle.columns.specs.Columns.{tailOf, cell};
+ghost use Rattle.columns.specs.Lent.{Legible, EdgeIn};
 
 // The greater of two depths.
 pub fn deeper(a: u64, b: u64) -> u64

@@ -12,16 +12,16 @@ use Rattle.weights.specs.declared.Label.{Label}
 use Rattle.weights.specs.declared.Offer.{Offer}
 use Rattle.weights.specs.Measures.{Algebra, weigh}
 use Rattle.weights.specs.Labels.{unmade}
-use Rattle.weights.specs.Laws.{Within, Lawful}
+use Rattle.weights.specs.Laws.{InRange, Lawful}
 use Rattle.weights.proofs.Weighing.{superior, weigh-within}
 use Rattle.weights.specs.Order.{Ahead}
 use Rattle.weights.proofs.Order.{ahead-refl, ahead-trans}
 use Rattle.provenance.specs.Hypergraph.{Hypergraph, WellFormed}
-use Rattle.provenance.specs.Labelling.{Made, AllMade, depthIn, each, greatest, tail-weights, deepest, Ready, candidate, Chosen, Fixpoint}
+use Rattle.provenance.specs.Labelling.{Made, AllMade, depthIn, each, greatestDepth, tail-weights, deepestIn, Ready, candidate, Chosen, Fixpoint}
 use Rattle.provenance.proofs.Meaning.{unique}
 use Rattle.provenance.proofs.BestFirst.{Open, Next, stuck, found, next-is}
-use Rattle.provenance.specs.BestFirst.{Answers, labels, put, blank, place, turn, turns, best-first}
-use Rattle.provenance.specs.Existence.{Sized}
+use Rattle.columns.specs.Columns.{Answers, Sized}
+use Rattle.provenance.specs.BestFirst.{labels, put, blank, place, turn, turns, best-first}
 
 -- a made label under f is the same under g
 abbrev Keeps : (ℕ → Label) → (ℕ → Label) → Type 0
@@ -30,10 +30,10 @@ Keeps f g = (v : ℕ) → Made (f v) → g v ≡ f v
 record Kept (f g : ℕ → Label) (vs : List ℕ) : Type 0 where
   made : AllMade g vs
   weight : tail-weights g vs ≡ tail-weights f vs
-  depth : deepest g vs ≡ deepest f vs
+  depth : deepestIn g vs ≡ deepestIn f vs
 
 kept : {f g : ℕ → Label} → Keeps f g → {vs : List ℕ} → AllMade f vs → Kept f g vs
-unfolding each greatest
+unfolding each greatestDepth
 kept k AllMade.none = record { made = AllMade.none; weight = refl; depth = refl }
 kept {f} {g} k (AllMade.more {v = v} a b) =
     let r = kept k b in
@@ -45,8 +45,8 @@ unfolding each
 mem-tail-weights g (List·Memᴰ·head e) = List·Memᴰ·head (ap (λ x. g x .weight .0) e)
 mem-tail-weights g (List·Memᴰ·tail i) = List·Memᴰ·tail (mem-tail-weights g i)
 
-mem-depth : (g : ℕ → Label) {v : ℕ} {vs : List ℕ} → List·Memᴰ v vs → g v .depth ≤ deepest g vs
-unfolding greatest
+mem-depth : (g : ℕ → Label) {v : ℕ} {vs : List ℕ} → List·Memᴰ v vs → g v .depth ≤ deepestIn g vs
+unfolding greatestDepth
 mem-depth g (List·Memᴰ·head e) = omega (arith, ap (λ x. g x .depth) e)
 mem-depth g (List·Memᴰ·tail i) = omega (arith, mem-depth g i)
 
@@ -188,8 +188,8 @@ at-blank : (n v : ℕ) → labels (blank n) v ≡ unmade
 at-blank n v = λ i. record { weight = record { 0 = zeros n v i }; depth = zeros n v i; edge = record { 0 = zeros n v i } }
 
 -- no depth of a tail passes what none passes
-pub greatest-at-most : (d : ℕ → ℕ) (k : ℕ) → ((v : ℕ) → d v ≤ k) → (vs : List ℕ) → greatest d vs ≤ k
-unfolding greatest
+pub greatest-at-most : (d : ℕ → ℕ) (k : ℕ) → ((v : ℕ) → d v ≤ k) → (vs : List ℕ) → greatestDepth d vs ≤ k
+unfolding greatestDepth
 greatest-at-most d k h [] = omega arith
 greatest-at-most d k h (v ∷ vs) = omega (arith, h v, greatest-at-most d k h vs)
 
@@ -300,7 +300,7 @@ module _ {A : Algebra} (L : Lawful A) {H : Hypergraph} (own : ℕ → ℕ) (wf :
       λ i. record { weights = p i; depths = q i; edges = r i }
 
 -- a made label's weight is in range
-pub label-within : {A : Algebra} (L : Lawful A) {H : Hypergraph} {own : ℕ → ℕ} {ls : ℕ → Label} → Fixpoint A H own ls → (v : ℕ) → Made (ls v) → Within A (ls v .weight .0)
+pub label-within : {A : Algebra} (L : Lawful A) {H : Hypergraph} {own : ℕ → ℕ} {ls : ℕ → Label} → Fixpoint A H own ls → (v : ℕ) → Made (ls v) → InRange A (ls v .weight .0)
 label-within {A} L {H} {own} {ls} fix v k =
     let e = ls v .edge .0 in
-    subst (λ (w : ℕ). Within A w) (sym (ap (λ (l : Label). l .weight .0) (fix .chosen v k .given))) (weigh-within L (own e) (tail-weights ls (H .tail e)))
+    subst (λ (w : ℕ). InRange A w) (sym (ap (λ (l : Label). l .weight .0) (fix .chosen v k .given))) (weigh-within L (own e) (tail-weights ls (H .tail e)))

@@ -21,9 +21,9 @@ use Rattle.weights.specs.Order.{Ahead, Ranked}
 use Rattle.weights.proofs.Order.{ranked}
 use Rattle.provenance.specs.Hypergraph.{Hypergraph, WellFormed}
 use Rattle.provenance.specs.Labelling.{Made, weightIn, depthIn, Ready, candidate, Chosen, Fixpoint}
-use Rattle.provenance.specs.BestFirst.{Answers, labels, offer, best-first}
+use Rattle.columns.specs.Columns.{Answers, Sized}
+use Rattle.provenance.specs.BestFirst.{labels, offer, best-first}
 use Rattle.provenance.proofs.BestFirst.{Offered, offered}
-use Rattle.provenance.specs.Existence.{Sized}
 use Rattle.provenance.proofs.Existence.{exists, columns-unique}
 use Rattle.provenance.specs.Local.{every, gives, keepsUp, vertexRight, edgeRight}
 

@@ -12,7 +12,7 @@ use Rattle.weights.proofs.Weighing.{no-worse-eq}
 use Rattle.weights.specs.Order.{Ahead}
 use Rattle.provenance.specs.Hypergraph.{Hypergraph, Stands, Derivation, Derivations, node, none, more, weight, weights, Best, Thrifty, AllThrifty, depth, root}
 use Rattle.provenance.specs.Hypergraph
-use Rattle.provenance.specs.Labelling.{each, greatest, tail-weights, deepest, candidate, Fixpoint}
+use Rattle.provenance.specs.Labelling.{each, greatestDepth, tail-weights, deepestIn, candidate, Fixpoint}
 use Rattle.provenance.specs.Means.{Derivable, Means, underivable, derivable}
 use Rattle.provenance.proofs.LowerBound.{bound, bounds}
 use Rattle.provenance.proofs.Support.{follows-root, chosen, supports}
@@ -26,7 +26,7 @@ module _ (A : Algebra) {H : Hypergraph} (own : ℕ → ℕ) (ls : ℕ → Label)
 
   record AllNear {vs : List ℕ} (ds : Derivations H vs) : Type 0 where
     weigh : weights A own ds ≡ tail-weights ls vs
-    shallow : deepest ls vs ≤ Hypergraph.deepest ds
+    shallow : deepestIn ls vs ≤ Hypergraph.deepest ds
 
 module _ {A : Algebra} {H : Hypergraph} {own : ℕ → ℕ} {ls : ℕ → Label} (L : Lawful A) (fix : Fixpoint A H own ls) where
   best-weighs : {v : ℕ} (d : Derivation H v) → Best A own d → weight A own d ≡ ls v .weight .0
@@ -45,7 +45,7 @@ module _ {A : Algebra} {H : Hypergraph} {own : ℕ → ℕ} {ls : ℕ → Label}
       record { weighs = w; shallow = omega (arith, a .depth q, n .shallow); first = λ k. a .edge q (omega (arith, n .shallow)) }
 
   mutual
-    unfolding weight each Hypergraph.deepest greatest Thrifty
+    unfolding weight each Hypergraph.deepest greatestDepth Thrifty
 
     near : {v : ℕ} (d : Derivation H v) → Thrifty A own d → Near A own ls d
     near (node e s h ds) t = node-near e s h ds (t .0) (all-near ds (t .1))

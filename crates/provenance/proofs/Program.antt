@@ -35,11 +35,11 @@ module _ {A : Algebra} (C : Computes A) (H : Hypergraph) (own : ℕ → ℕ) whe
 
   -- a derivation as a tree of the program, with the listing's own weights at its leaves
   pub record Drawn {v : ℕ} (d : Derivation H v) : Type 0 where
-    pub tree : Proof program (part v)
+    pub tree : Proof (program C H own) (part v)
     pub same : Annotations C H own (leaves tree) ≡ Owns C H own (listing d)
 
   record AllDrawn {vs : List ℕ} (ds : Derivations H vs) : Type 0 where
-    trees : Proofs program (map part vs)
+    trees : Proofs (program C H own) (map part vs)
     same : Annotations C H own (all-leaves trees) ≡ Owns C H own (listings ds)
 
   draw-node : {v : ℕ} (e : ℕ) (s : Stands H e) (h : H .head e ≡ v) (ds : Derivations H (H .tail e)) → AllDrawn ds → Drawn (node {v = v} e s h ds)
@@ -91,22 +91,22 @@ module _ {A : Algebra} (C : Computes A) (H : Hypergraph) (own : ℕ → ℕ) whe
   mutual
     unfolding leaves listing
 
-    pub read : {t : Atom} (τ : Proof program t) (v : ℕ) → t ≡ part v → Read v (leaves τ)
+    pub read : {t : Atom} (τ : Proof (program C H own) t) (v : ℕ) → t ≡ part v → Read v (leaves τ)
     read (rule r h τs) v p = read-rule (r .edge) (all-leaves τs) (part-injective (h ∙ p)) (read-body τs (r .edge) refl)
     read (fact f h) v p = absurd (figure-not-part (h ∙ p))
 
-    read-figure : {t : Atom} (τ : Proof program t) (e : ℕ) → t ≡ figure e → Figure e (leaves τ)
+    read-figure : {t : Atom} (τ : Proof (program C H own) t) (e : ℕ) → t ≡ figure e → Figure e (leaves τ)
     read-figure (rule r h τs) e p = absurd (figure-not-part (sym (h ∙ p)))
     read-figure (fact f h) e p = read-fact f e (figure-injective (h ∙ p))
 
-    read-body : {ts : List Atom} (τs : Proofs program ts) (e : ℕ) → ts ≡ figure e ∷ map part (H .tail e) → Body e (all-leaves τs)
+    read-body : {ts : List Atom} (τs : Proofs (program C H own) ts) (e : ℕ) → ts ≡ figure e ∷ map part (H .tail e) → Body e (all-leaves τs)
     read-body Proofs.none e p = absurd (not-empty p)
     read-body (Proofs.more τ τs) e p =
         let a = read-figure τ e (head-same p) in
         let b = read-tail τs (H .tail e) (tail-same p) in
         record { stands = a .stands; derivations = b .derivations; same = both (leaves τ) (all-leaves τs) (e ∷ []) (listings (b .derivations)) (a .same) (b .same) }
 
-    read-tail : {ts : List Atom} (τs : Proofs program ts) (vs : List ℕ) → ts ≡ map part vs → AllRead vs (all-leaves τs)
+    read-tail : {ts : List Atom} (τs : Proofs (program C H own) ts) (vs : List ℕ) → ts ≡ map part vs → AllRead vs (all-leaves τs)
     read-tail Proofs.none [] p = record { derivations = none; same = refl }
     read-tail Proofs.none (v ∷ vs) p = absurd (not-empty p)
     read-tail (Proofs.more τ τs) [] p = absurd (not-empty (sym p))

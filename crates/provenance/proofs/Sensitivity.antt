@@ -12,7 +12,7 @@ use Rattle.weights.specs.Laws.{NoWorse, Lawful}
 use Rattle.weights.proofs.Laws.{least, at-most, cost-lawful, days-lawful}
 use Rattle.weights.proofs.Weighing.{no-worse-eq, Pointwise, weigh-mono}
 use Rattle.provenance.specs.Hypergraph.{Hypergraph, Derivation, Derivations, node, none, more, weight, weights, listing, listings}
-use Rattle.provenance.specs.Labelling.{Made, greatest, Fixpoint}
+use Rattle.provenance.specs.Labelling.{Made, greatestDepth, Fixpoint}
 use Rattle.provenance.specs.Means.{Follows}
 use Rattle.provenance.proofs.LowerBound.{bound}
 use Rattle.provenance.proofs.Support.{chosen, supports}
@@ -20,7 +20,7 @@ use Rattle.provenance.proofs.Semirings.{joined, cost-computes}
 use Rattle.provenance.proofs.Provenance.{weight-capped}
 use Rattle.provenance.specs.Counting.{count, charge, total, Raised}
 use Rattle.provenance.proofs.Counting.{total-charge, total-append, AllBelow, below-append, raised-more, raised-most, raised-total}
-use Rattle.provenance.specs.Sensitivity.{Within, Exchange, CostRise, DaysRise}
+use Rattle.provenance.specs.Sensitivity.{MadeWithin, Exchange, CostRise, DaysRise}
 
 -- whether a part is made does not look at figures
 pub same-made : {A : Algebra} {H : Hypergraph} {own own′ : ℕ → ℕ} {ls ls′ : ℕ → Label} → Lawful A → Fixpoint A H own ls → Fixpoint A H own′ ls′ → (v : ℕ) → Made (ls v) → Made (ls′ v)
@@ -60,7 +60,7 @@ module _ {H : Hypergraph} (own : ℕ → ℕ) where
 
 module _ {H : Hypergraph} {own : ℕ → ℕ} {ls : ℕ → Label} (fix : Fixpoint cost H own ls) {v : ℕ} where
   -- a figure within the ceiling is what the bill costs
-  bill-cost : Within (ls v) → (t : Derivation H v) → Follows ls t → ls v .weight .0 ≡ total own (listing t)
+  bill-cost : MadeWithin (ls v) → (t : Derivation H v) → Follows ls t → ls v .weight .0 ≡ total own (listing t)
   bill-cost a t f = omega (arith, a .low, supports cost-lawful fix t f .weighs, cost-total own t)
 
   -- and no make-up costs less
@@ -68,7 +68,7 @@ module _ {H : Hypergraph} {own : ℕ → ℕ} {ls : ℕ → Label} (fix : Fixpoi
   bill-least t = omega (arith, at-most (bound cost-lawful fix t .low), cost-total own t)
 
 module _ {H : Hypergraph} {own own′ : ℕ → ℕ} {ls ls′ : ℕ → Label} (fix : Fixpoint cost H own ls) (fix′ : Fixpoint cost H own′ ls′) {v : ℕ}
-    (a : Within (ls v)) (a′ : Within (ls′ v)) (t t′ : Derivation H v) (f : Follows ls t) (f′ : Follows ls′ t′) where
+    (a : MadeWithin (ls v)) (a′ : MadeWithin (ls′ v)) (t t′ : Derivation H v) (f : Follows ls t) (f′ : Follows ls′ t′) where
   -- each new figure against the old, whichever lines changed
   pub exchange : Exchange own own′ (H .edges) (ls v .weight .0) (ls′ v .weight .0) (listing t) (listing t′)
   exchange = record {
@@ -106,19 +106,19 @@ module _ {A : Algebra} (L : Lawful A) {H : Hypergraph} (own own′ : ℕ → ℕ
       L .ordered .transitive (bound L fix (t .tree) .low) (L .ordered .transitive (weight-mono (t .tree)) (no-worse-eq L (supports L fix′ (t .tree) (t .follows) .weighs)))
 
 -- in days no weight rises by more than d
-fold-greatest : (a : ℕ) (xs : List ℕ) → fold max a xs ≡ max a (greatest (λ x. x) xs)
-unfolding fold greatest
+fold-greatest : (a : ℕ) (xs : List ℕ) → fold max a xs ≡ max a (greatestDepth (λ x. x) xs)
+unfolding fold greatestDepth
 fold-greatest a [] = omega arith
 fold-greatest a (x ∷ xs) = omega (arith, fold-greatest (max a x) xs)
 
 module _ {H : Hypergraph} {own own′ : ℕ → ℕ} {e d : ℕ} (r : Raised own own′ e d) where
   mutual
-    unfolding weight weigh greatest
+    unfolding weight weigh greatestDepth
 
     days-most : {v : ℕ} (t : Derivation H v) → weight days own′ t ≤ weight days own t + d
     days-most (node e s h ds) = omega (arith, raised-most r e, fold-greatest 0 (weights days own ds), fold-greatest 0 (weights days own′ ds), all-days-most ds)
 
-    all-days-most : {vs : List ℕ} (ds : Derivations H vs) → greatest (λ x. x) (weights days own′ ds) ≤ greatest (λ x. x) (weights days own ds) + d
+    all-days-most : {vs : List ℕ} (ds : Derivations H vs) → greatestDepth (λ x. x) (weights days own′ ds) ≤ greatestDepth (λ x. x) (weights days own ds) + d
     all-days-most none = omega arith
     all-days-most (more t ds) = omega (arith, days-most t, all-days-most ds)
 

@@ -11,7 +11,7 @@ use Rattle.weights.specs.Laws.{Lawful}
 use Rattle.weights.proofs.Weighing.{no-worse-eq}
 use Rattle.provenance.specs.Hypergraph.{Hypergraph, Stands, Derivation, Derivations, node, none, more, weight, weights, Best, Thrifty, AllThrifty, depth, root, listing, listings}
 use Rattle.provenance.specs.Hypergraph
-use Rattle.provenance.specs.Labelling.{Made, AllMade, each, greatest, tail-weights, deepest, candidate, Fixpoint}
+use Rattle.provenance.specs.Labelling.{Made, AllMade, each, greatestDepth, tail-weights, deepestIn, candidate, Fixpoint}
 use Rattle.provenance.specs.Means.{Follows, AllFollow}
 use Rattle.provenance.proofs.LowerBound.{bound}
 use Rattle.provenance.specs.Support.{bills, bill, Supports, ChosenDerivation}
@@ -40,7 +40,7 @@ module _ {H : Hypergraph} (ls : ℕ → Label) where
 module _ (A : Algebra) {H : Hypergraph} (own : ℕ → ℕ) (ls : ℕ → Label) where
   record AllSupport {vs : List ℕ} (ds : Derivations H vs) : Type 0 where
     weigh : weights A own ds ≡ tail-weights ls vs
-    deep : Hypergraph.deepest ds ≡ deepest ls vs
+    deep : Hypergraph.deepest ds ≡ deepestIn ls vs
     thrifty : AllThrifty A own ds
 
 module _ (H : Hypergraph) (ls : ℕ → Label) where
@@ -48,8 +48,8 @@ module _ (H : Hypergraph) (ls : ℕ → Label) where
     trees : Derivations H vs
     follow : AllFollow ls trees
 
-  grow : {k : ℕ} → ((v : ℕ) → Made (ls v) → ls v .depth ≤ k → ChosenDerivation H ls v) → {vs : List ℕ} → AllMade ls vs → deepest ls vs ≤ k → Grown vs
-  unfolding greatest AllFollow
+  grow : {k : ℕ} → ((v : ℕ) → Made (ls v) → ls v .depth ≤ k → ChosenDerivation H ls v) → {vs : List ℕ} → AllMade ls vs → deepestIn ls vs ≤ k → Grown vs
+  unfolding greatestDepth AllFollow
   grow f AllMade.none h = record { trees = none; follow = tt }
   grow f (AllMade.more {v = v} a bs) h =
       let t = f v a (omega arith) in
@@ -62,7 +62,7 @@ module _ {A : Algebra} {H : Hypergraph} {own : ℕ → ℕ} {ls : ℕ → Label}
   growth zero v a h = absurd (omega (arith, a .deep))
   growth (suc k) v a h =
       let c = fix .chosen v a in
-      let e : ls v .depth ≡ deepest ls (H .tail (ls v .edge .0)) + 1 = ap (λ (l : Label). l .depth) (c .given) in
+      let e : ls v .depth ≡ deepestIn ls (H .tail (ls v .edge .0)) + 1 = ap (λ (l : Label). l .depth) (c .given) in
       let ts = grow H ls (growth k) (c .ready .tails) (omega arith) in
       record { tree = node (ls v .edge .0) (c .ready .stands) (c .yields) (ts .trees); follows = (refl, ts .follow) }
 
@@ -79,7 +79,7 @@ module _ {A : Algebra} {H : Hypergraph} {own : ℕ → ℕ} {ls : ℕ → Label}
       record { weighs = w; deep = cc; thrifty = ((λ d′. L .ordered .transitive (no-worse-eq L w) (bound L fix d′ .low)), fs .thrifty) }
 
   mutual
-    unfolding weight each Hypergraph.deepest greatest Follows Thrifty
+    unfolding weight each Hypergraph.deepest greatestDepth Follows Thrifty
 
     pub supports : {v : ℕ} (d : Derivation H v) → Follows ls d → Supports A own ls d
     supports (node e s h ds) f = node-supports e s h ds (f .0) (all-support ds (f .1))

@@ -1,7 +1,6 @@
 -- Best-first (document 000, Algorithm 1), as an executable definition over the three answer columns: `vertices` turns from all unmade; a turn takes the first of
 -- the candidates of ready hyperedges whose head is unmade, and labels that head with it. This is what contracts equate the answer columns with.
 -- And what each of its tests and choices tells. Assumes nothing.
-use mathlib.Core.List.{List}
 use Prim.Native.Nat.{ℕ, zero, suc}
 use lib.ListN.{getD, set, replicate}
 use lib.Dec.{eqb}
@@ -11,14 +10,9 @@ use Rattle.weights.specs.declared.Offer.the-variants.{Nothing, Found}
 use Rattle.weights.specs.Measures.{Algebra}
 use Rattle.weights.specs.Choice.{pick}
 use Rattle.weights.specs.Labels.{label, aheadOf}
+use Rattle.columns.specs.Columns.{Answers}
 use Rattle.provenance.specs.Hypergraph.{Hypergraph}
 use Rattle.provenance.specs.Labelling.{weightIn, depthIn, offerOf}
-
--- the three answer columns: figure, depth and line of each part
-pub record Answers : Type 0 where
-  pub weights : List ℕ
-  pub depths : List ℕ
-  pub edges : List ℕ
 
 -- the label of v
 abbrev pub labels : Answers → ℕ → Label

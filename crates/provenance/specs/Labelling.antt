@@ -29,14 +29,14 @@ weightIn ls v = ls v .weight .0
 abbrev pub depthIn : (ℕ → Label) → ℕ → ℕ
 depthIn ls v = ls v .depth
 
--- of a tail: the weights, a vertex listed twice counted twice; the greatest depth; and whether every vertex is made
+-- of a tail: the weights, a vertex listed twice counted twice; the greatestDepth depth; and whether every vertex is made
 unfoldable pub each : (weight : ℕ → ℕ) → List ℕ → List ℕ
 each w [] = []
 each w (v ∷ vs) = w v ∷ each w vs
 
-unfoldable pub greatest : (depth : ℕ → ℕ) → List ℕ → ℕ
-greatest d [] = 0
-greatest d (v ∷ vs) = max (d v) (greatest d vs)
+unfoldable pub greatestDepth : (depth : ℕ → ℕ) → List ℕ → ℕ
+greatestDepth d [] = 0
+greatestDepth d (v ∷ vs) = max (d v) (greatestDepth d vs)
 
 unfoldable pub noneZero : (depth : ℕ → ℕ) → List ℕ → Bool
 noneZero d [] = true
@@ -45,12 +45,12 @@ noneZero d (v ∷ vs) = pick (eqb (d v) 0) false (noneZero d vs)
 abbrev pub tail-weights : (ℕ → Label) → List ℕ → List ℕ
 tail-weights ls = each (weightIn ls)
 
-abbrev pub deepest : (ℕ → Label) → List ℕ → ℕ
-deepest ls = greatest (depthIn ls)
+abbrev pub deepestIn : (ℕ → Label) → List ℕ → ℕ
+deepestIn ls = greatestDepth (depthIn ls)
 
 -- what hyperedge e of this own weight and tail gives: its depth is above those of its tail, so hyperedges in a circle can't support one another
 abbrev pub yield : Algebra → (own : ℕ) → List ℕ → (weight depth : ℕ → ℕ) → ℕ → Label
-yield A own tail w d e = label (weigh A own (each w tail)) (greatest d tail + 1) e
+yield A own tail w d e = label (weigh A own (each w tail)) (greatestDepth d tail + 1) e
 
 -- the same, unless it is struck or a vertex of its tail is unmade
 unfoldable pub offerOf : Algebra → (live : Bool) (own : ℕ) → List ℕ → (weight depth : ℕ → ℕ) → ℕ → Offer

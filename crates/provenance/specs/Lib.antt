@@ -3,7 +3,6 @@ pub mod Labelling
 pub mod Means
 pub mod Support
 pub mod BestFirst
-pub mod Existence
 pub mod Semirings
 pub mod Program
 pub mod Provenance

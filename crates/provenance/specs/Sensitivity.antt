@@ -12,7 +12,7 @@ use Rattle.provenance.specs.Labelling.{Made}
 use Rattle.provenance.specs.Counting.{charge}
 
 -- the state made: within the ceiling
-pub record Within (l : Label) : Type 0 where
+pub record MadeWithin (l : Label) : Type 0 where
   pub made : Made l
   pub low : l .weight .0 ≤ ceiling
 

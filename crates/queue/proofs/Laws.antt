@@ -17,7 +17,7 @@ use Rattle.weights.specs.declared.Offer.the-variants.{Nothing, Found}
 use Rattle.weights.specs.Choice.{pick}
 use Rattle.weights.specs.Measures.{Algebra, algebra, fold, weigh}
 use Rattle.provenance.specs.Hypergraph.{Hypergraph}
-use Rattle.provenance.specs.Labelling.{each, greatest, noneZero, yield, offerOf}
+use Rattle.provenance.specs.Labelling.{each, greatestDepth, noneZero, yield, offerOf}
 use Rattle.provenance.specs.BestFirst.{opening, next}
 use Rattle.provenance.proofs.Existence.{greatest-at-most}
 use Rattle.minima.specs.Minima.{none, keys, leastFrom, Grouped, lowered}
@@ -146,8 +146,8 @@ module _ (v : ℕ) (f g : ℕ → ℕ) (same : (u : ℕ) → u ≢ v → g u ≡
   each-same [] e = refl
   each-same (w ∷ ws) e = let n = not-head w ws e in ap₂ _∷_ (same w (n .0)) (each-same ws (n .1))
 
-  greatest-same : (vs : List ℕ) → member v vs ≡ false → greatest g vs ≡ greatest f vs
-  unfolding greatest
+  greatest-same : (vs : List ℕ) → member v vs ≡ false → greatestDepth g vs ≡ greatestDepth f vs
+  unfolding greatestDepth
   greatest-same [] e = refl
   greatest-same (w ∷ ws) e = let n = not-head w ws e in ap₂ max (same w (n .0)) (greatest-same ws (n .1))
 

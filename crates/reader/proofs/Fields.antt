@@ -14,7 +14,7 @@ use Rattle.weights.specs.declared.Measure.the-variants.{Cost, Days}
 use Rattle.weights.specs.Figures.{struck, isStruck}
 use Rattle.weights.specs.Choice.{pick}
 use Rattle.columns.specs.Acceptance.{mostVertices}
-use Rattle.text.specs.Render.{digits, default, spoken, word, opening, measureText, header, ownText}
+use Rattle.text.specs.Render.{digits, default, spoken, word, firstWord, measureText, header, ownText}
 use Rattle.text.specs.Machine.{digitOf}
 use Rattle.text.proofs.Digits.{pick-by, digits-one, digits-more, by-digits, digit-byte, byte-digit}
 use Rattle.cursor.specs.declared.Found.{Found}
@@ -225,24 +225,24 @@ module _ (s : List ℕ) where
   FirstText first.Wrong = Unit {0}
 
   -- the pieces of the first line, joined
-  joined : (n next start : ℕ) (m : Measure) → s ≡ opening ++ drop (length opening) s → drop (length opening) s ≡ digits n ++ drop next s
+  joined : (n next start : ℕ) (m : Measure) → s ≡ firstWord ++ drop (length firstWord) s → drop (length firstWord) s ≡ digits n ++ drop next s
       → drop next s ≡ measureText m ++ drop start s → s ≡ header n m ++ drop start s
   unfolding header
   joined n next start m a b c =
       a
-      ∙ ap (λ (l : List ℕ). opening ++ l) b
-      ∙ ap (λ (l : List ℕ). opening ++ (digits n ++ l)) c
-      ∙ sym (append-assoc (opening ++ digits n) (measureText m) (drop start s) ∙ append-assoc opening (digits n) (measureText m ++ drop start s))
+      ∙ ap (λ (l : List ℕ). firstWord ++ l) b
+      ∙ ap (λ (l : List ℕ). firstWord ++ (digits n ++ l)) c
+      ∙ sym (append-assoc (firstWord ++ digits n) (measureText m) (drop start s) ∙ append-assoc firstWord (digits n) (measureText m ++ drop start s))
 
   -- behind the number of parts: LF, or the word and LF
   named-text : (next : ℕ) → startsWith (word ++ 10 ∷ []) (drop next s) ≡ true → drop next s ≡ measureText spoken ++ drop (next + length (word ++ 10 ∷ [])) s
   unfolding measureText
   named-text next e = starts-text (word ++ 10 ∷ []) (drop next s) e ∙ ap (λ (l : List ℕ). (word ++ 10 ∷ []) ++ l) (drop-drop (length (word ++ 10 ∷ [])) next s)
 
-  count-text : (F : Found) → numberAt s (length opening) (mostVertices + 1) ≡ F → s ≡ opening ++ drop (length opening) s → FirstText (onCount s F)
+  count-text : (F : Found) → numberAt s (length firstWord) (mostVertices + 1) ≡ F → s ≡ firstWord ++ drop (length firstWord) s → FirstText (onCount s F)
   count-text (Number n next) e a =
-      let l = number-counts s (length opening) (mostVertices + 1) n next e .0 in
-      let b = number-text s (length opening) (mostVertices + 1) n next e in
+      let l = number-counts s (length firstWord) (mostVertices + 1) n next e .0 in
+      let b = number-text s (length firstWord) (mostVertices + 1) n next e in
       let W = startsWith (word ++ 10 ∷ []) (drop next s) in
       pick-by FirstText (eqb (getD s next 0) 10)
       (λ q. (omega arith, joined n next (next + 1) default a b (unfold measureText in here s next 10 (eqb-true _ _ q) (omega arith))))
@@ -252,8 +252,8 @@ module _ (s : List ℕ) where
   first-text-of : FirstText (firstLine s)
   unfolding firstLine
   first-text-of =
-      pick-by FirstText (startsWith opening s)
-      (λ e. count-text (numberAt s (length opening) (mostVertices + 1)) refl (starts-text opening s e)) (λ e. tt)
+      pick-by FirstText (startsWith firstWord s)
+      (λ e. count-text (numberAt s (length firstWord) (mostVertices + 1)) refl (starts-text firstWord s e)) (λ e. tt)
 
   pub first-text : (n start : ℕ) (m : Measure) → firstLine s ≡ first.Read n m start → (n ≤ mostVertices) × (s ≡ header n m ++ drop start s)
   first-text n start m e = subst FirstText e first-text-of
@@ -277,12 +277,12 @@ unfolding firstLine header
 first-found rest n m h =
     let tail = measureText m ++ rest in
     let s = header n m ++ rest in
-    let q : s ≡ opening ++ (digits n ++ tail) = append-assoc (opening ++ digits n) (measureText m) rest ∙ append-assoc opening (digits n) tail in
-    let opened : startsWith opening s ≡ true = ap (startsWith opening) q ∙ text-starts opening (digits n ++ tail) in
-    let a : drop (length opening) s ≡ digits n ++ tail = ap (drop (length opening)) q ∙ drop-append-seam opening (digits n ++ tail) in
-    let f = number-found s tail (length opening) (mostVertices + 1) n a (omega arith) (measure-stops m rest) in
-    let c = count-found s rest n (length opening + length (digits n)) m (behind s (digits n) tail (length opening) a) in
-    let l = length-append (opening ++ digits n) (measureText m) in
-    let k = length-append opening (digits n) in
-    let place : length opening + length (digits n) + length (measureText m) ≡ length (header n m) = omega arith in
+    let q : s ≡ firstWord ++ (digits n ++ tail) = append-assoc (firstWord ++ digits n) (measureText m) rest ∙ append-assoc firstWord (digits n) tail in
+    let opened : startsWith firstWord s ≡ true = ap (startsWith firstWord) q ∙ text-starts firstWord (digits n ++ tail) in
+    let a : drop (length firstWord) s ≡ digits n ++ tail = ap (drop (length firstWord)) q ∙ drop-append-seam firstWord (digits n ++ tail) in
+    let f = number-found s tail (length firstWord) (mostVertices + 1) n a (omega arith) (measure-stops m rest) in
+    let c = count-found s rest n (length firstWord + length (digits n)) m (behind s (digits n) tail (length firstWord) a) in
+    let l = length-append (firstWord ++ digits n) (measureText m) in
+    let k = length-append firstWord (digits n) in
+    let place : length firstWord + length (digits n) + length (measureText m) ≡ length (header n m) = omega arith in
     rw (opened, f) (c ∙ ap (first.Read n m) place)

@@ -8,7 +8,7 @@ use lib.ListN.{length}
 use lib.Dec.{leb}
 use Rattle.weights.specs.Figures.{struck}
 use Rattle.columns.specs.Acceptance.{mostVertices, mostEdges, mostListed, longestTail, allBelow}
-use Rattle.text.specs.Tables.{Edge, Table, total}
+use Rattle.text.specs.Tables.{Edge, Table, listedInAll}
 use Rattle.text.specs.Rows.{All}
 use Rattle.cursor.specs.declared.Found.the-variants.{Number}
 use Rattle.cursor.specs.declared.FoundWeight.the-variants.{Own}
@@ -56,5 +56,5 @@ pub record Formed (t : Table) : Type 0 where
 -- the counts that are left to whoever walks: at most 4,096 lines, 16 parts to a line, 16,384 in all
 pub record Counted (t : Table) : Type 0 where
   pub edges : length (t .edges) ≤ mostEdges
-  pub listed : total (t .edges) ≤ mostListed
+  pub listed : listedInAll (t .edges) ≤ mostListed
   pub short : All (λ (e : Edge). length (e .tail) ≤ longestTail) (t .edges)

@@ -15,7 +15,7 @@ use Rattle.weights.specs.declared.Weight.{Weight}
 use Rattle.refusal.specs.declared.Reading.the-variants as reading
 use Rattle.columns.specs.Acceptance.{mostVertices, mostEdges, mostListed, longestTail}
 use Rattle.text.specs.Machine.{Parse, Whole, Wrong, parse}
-use Rattle.text.specs.Render.{default, spoken, word, opening}
+use Rattle.text.specs.Render.{default, spoken, word, firstWord}
 use Rattle.columns.specs.Filled.{filled}
 use Rattle.columns.proofs.Filled.{filled-none, filled-set}
 use Rattle.cursor.specs.declared.Found.{Found}
@@ -27,7 +27,7 @@ use Rattle.reading.specs.declared.Line.{Line}
 use Rattle.reading.specs.declared.Line.the-variants as line
 use Rattle.reading.specs.declared.Tail.{Tail}
 use Rattle.reading.specs.declared.Tail.the-variants as tail
-use Rattle.reading.specs.Lines.{startsWith, onCount, firstLine, onOwn, onHead, stemAt, Listing, Ends, Breaks, listEnd, listing, vertices, tailOf, ReadsTail, Row, Fails, onListing, onStem, rowAt, stored, lineOf, ReadsLine, scan, readingOf}
+use Rattle.reading.specs.Lines.{startsWith, onCount, firstLine, onOwn, onHead, stemAt, Listing, Ends, Breaks, listEnd, listedFrom, vertices, tailOf, ReadsTail, Row, Fails, onListing, onStem, rowAt, stored, lineOf, ReadsLine, scan, readingOf}
 use Rattle.reading.proofs.Scanned.{scan-is-parse}
 use Rattle.reading.proofs.Scanning.{row-counts, tells, fails, Scanning, scan-end, scan-fails, scan-next}
 
@@ -59,24 +59,24 @@ module _ (s : List ℕ) (h at : ℕ) (F : Found) (e : F ≡ Number h at) where
 
 -- of a list, behind the parts xs: no room for one more, none that is a number, one more, and its end
 module _ (s : List ℕ) (n at : ℕ) (xs : List ℕ) where
-  listing-full : (left : ℕ) → left ≡ 0 → getD s at 0 ≡ 32 → listing left s n at xs ≡ Breaks xs
-  unfolding listing
+  listing-full : (left : ℕ) → left ≡ 0 → getD s at 0 ≡ 32 → listedFrom left s n at xs ≡ Breaks xs
+  unfolding listedFrom
   listing-full left z e = rw (z, eq-eqb _ _ e)
 
-  listing-none : (left : ℕ) → 0 < left → getD s at 0 ≡ 32 → numberAt s (at + 1) n ≡ NotANumber → listing left s n at xs ≡ Breaks xs
-  unfolding listing
+  listing-none : (left : ℕ) → 0 < left → getD s at 0 ≡ 32 → numberAt s (at + 1) n ≡ NotANumber → listedFrom left s n at xs ≡ Breaks xs
+  unfolding listedFrom
   listing-none zero h e q = absurd (omega arith)
   listing-none (suc left) h e q = rw (eq-eqb _ _ e, q)
 
-  listing-more : (left v next : ℕ) → 0 < left → getD s at 0 ≡ 32 → numberAt s (at + 1) n ≡ Number v next → listing left s n at xs ≡ listing (left - 1) s n next (xs ++ v ∷ [])
-  unfolding listing
+  listing-more : (left v next : ℕ) → 0 < left → getD s at 0 ≡ 32 → numberAt s (at + 1) n ≡ Number v next → listedFrom left s n at xs ≡ listedFrom (left - 1) s n next (xs ++ v ∷ [])
+  unfolding listedFrom
   listing-more zero v next h e q = absurd (omega arith)
   listing-more (suc left) v next h e q =
       let z : suc left - 1 ≡ left = omega arith in
-      rw (eq-eqb _ _ e, q) (ap (λ (k : ℕ). listing k s n next (xs ++ v ∷ [])) (sym z))
+      rw (eq-eqb _ _ e, q) (ap (λ (k : ℕ). listedFrom k s n next (xs ++ v ∷ [])) (sym z))
 
-  listing-end : (left : ℕ) → (getD s at 0 ≡ 32 → ⊥) → listing left s n at xs ≡ listEnd s at xs
-  unfolding listing
+  listing-end : (left : ℕ) → (getD s at 0 ≡ 32 → ⊥) → listedFrom left s n at xs ≡ listEnd s at xs
+  unfolding listedFrom
   listing-end zero e = rw (ne-eqb _ _ e)
   listing-end (suc left) e = rw (ne-eqb _ _ e)
 
@@ -85,7 +85,7 @@ pub record Listed (s : List ℕ) (n most at : ℕ) (room₀ room : List ℕ) (k 
   pub so-far : List ℕ
   pub count : length so-far ≡ k
   pub few : k ≤ min most (length room₀)
-  pub same : listing (min most (length room₀) - k) s n next so-far ≡ listing (min most (length room₀)) s n at []
+  pub same : listedFrom (min most (length room₀) - k) s n next so-far ≡ listedFrom (min most (length room₀)) s n at []
   pub room-is : room ≡ filled so-far room₀
   pub long : length room ≡ length room₀
 
@@ -97,15 +97,15 @@ module _ (s : List ℕ) (n most at : ℕ) (room₀ room : List ℕ) (k next : �
   all = min most (length room₀)
 
   -- the list is at its end, or at a fault
-  closes : (L : Listing) → listing (all - k) s n next (l .so-far) ≡ L → vertices L ≡ l .so-far → ReadsTail (listing all s n at []) room₀ (tailOf L) room
+  closes : (L : Listing) → listedFrom (all - k) s n next (l .so-far) ≡ L → vertices L ≡ l .so-far → ReadsTail (listedFrom all s n at []) room₀ (tailOf L) room
   closes L e v =
-      let q : L ≡ listing all s n at [] = sym e ∙ l .same in
+      let q : L ≡ listedFrom all s n at [] = sym e ∙ l .same in
       record { answer = ap tailOf q; room = l .room-is ∙ ap (λ (z : List ℕ). filled z room₀) (sym v ∙ ap vertices q) }
 
-  pub list-full : getD s next 0 ≡ 32 → all ≤ k → ReadsTail (listing all s n at []) room₀ tail.Wrong room
+  pub list-full : getD s next 0 ≡ 32 → all ≤ k → ReadsTail (listedFrom all s n at []) room₀ tail.Wrong room
   list-full e h = closes (Breaks (l .so-far)) (listing-full s n next (l .so-far) (all - k) (omega arith) e) refl
 
-  pub list-none : getD s next 0 ≡ 32 → k < all → numberAt s (next + 1) n ≡ NotANumber → ReadsTail (listing all s n at []) room₀ tail.Wrong room
+  pub list-none : getD s next 0 ≡ 32 → k < all → numberAt s (next + 1) n ≡ NotANumber → ReadsTail (listedFrom all s n at []) room₀ tail.Wrong room
   list-none e h q = closes (Breaks (l .so-far)) (listing-none s n next (l .so-far) (all - k) (omega arith) e q) refl
 
   pub list-more : (v behind : ℕ) → getD s next 0 ≡ 32 → k < all → numberAt s (next + 1) n ≡ Number v behind → Listed s n most at room₀ (set room k v) (k + 1) behind
@@ -115,27 +115,27 @@ module _ (s : List ℕ) (n most at : ℕ) (room₀ room : List ℕ) (k next : �
         so-far = l .so-far ++ v ∷ [];
         count = length-append (l .so-far) (v ∷ []) ∙ ap (λ (j : ℕ). j + 1) (l .count);
         few = omega arith;
-        same = ap (λ (j : ℕ). listing j s n behind (l .so-far ++ v ∷ [])) (sym z) ∙ sym (listing-more s n next (l .so-far) (all - k) v behind (omega arith) e q) ∙ l .same;
+        same = ap (λ (j : ℕ). listedFrom j s n behind (l .so-far ++ v ∷ [])) (sym z) ∙ sym (listing-more s n next (l .so-far) (all - k) v behind (omega arith) e q) ∙ l .same;
         room-is = ap (λ (r : List ℕ). set r k v) (l .room-is) ∙ filled-set (l .so-far) room₀ k v (l .count) (omega arith);
         long = length-set room k v ∙ l .long;
       }
 
-  pub list-broken : (getD s next 0 ≡ 32 → ⊥) → (getD s next 0 ≡ 10 → ⊥) → ReadsTail (listing all s n at []) room₀ tail.Wrong room
+  pub list-broken : (getD s next 0 ≡ 32 → ⊥) → (getD s next 0 ≡ 10 → ⊥) → ReadsTail (listedFrom all s n at []) room₀ tail.Wrong room
   list-broken e f = closes (Breaks (l .so-far)) (listing-end s n next (l .so-far) (all - k) e ∙ rw (ne-eqb _ _ f)) refl
 
-  pub list-ends : (getD s next 0 ≡ 32 → ⊥) → getD s next 0 ≡ 10 → ReadsTail (listing all s n at []) room₀ (tail.Ends k (next + 1)) room
+  pub list-ends : (getD s next 0 ≡ 32 → ⊥) → getD s next 0 ≡ 10 → ReadsTail (listedFrom all s n at []) room₀ (tail.Ends k (next + 1)) room
   list-ends e f =
       let r = closes (Ends (l .so-far) (next + 1)) (listing-end s n next (l .so-far) (all - k) e ∙ rw (eq-eqb _ _ f)) refl in
       record { answer = ap (λ (z : ℕ). tail.Ends z (next + 1)) (sym (l .count)) ∙ r .answer; room = r .room }
 
--- The first line: its opening, the number of parts, and what stands behind it
+-- The first line: its firstWord, the number of parts, and what stands behind it
 module _ (s : List ℕ) where
-  pub first-unopened : startsWith opening s ≡ false → first.Wrong ≡ firstLine s
+  pub first-unopened : startsWith firstWord s ≡ false → first.Wrong ≡ firstLine s
   unfolding firstLine
   first-unopened e = rw e
 
-  pub first-opened : startsWith opening s ≡ true → onCount s (numberAt s 6 (mostVertices + 1)) ≡ firstLine s
-  unfolding firstLine opening
+  pub first-opened : startsWith firstWord s ≡ true → onCount s (numberAt s 6 (mostVertices + 1)) ≡ firstLine s
+  unfolding firstLine firstWord
   first-opened e = rw e
 
   module _ (n next : ℕ) (F : Found) (e : F ≡ Number n next) where
@@ -160,12 +160,12 @@ abbrev pub lineWith : Vertex → Weight → Tail → Line
 lineWith h o (tail.Ends k next) = line.Edge h o k next
 lineWith h o tail.Wrong = line.Wrong
 
-pub line-listed : (s : List ℕ) (n most at : ℕ) (h : Vertex) (o : Weight) (from : ℕ) (old new : List ℕ) (r : Tail) → stemAt s n at ≡ stem.Read h o from → ReadsTail (listing most s n from []) old r new
+pub line-listed : (s : List ℕ) (n most at : ℕ) (h : Vertex) (o : Weight) (from : ℕ) (old new : List ℕ) (r : Tail) → stemAt s n at ≡ stem.Read h o from → ReadsTail (listedFrom most s n from []) old r new
     → ReadsLine (rowAt s n most at) old (lineWith h o r) new
 unfolding rowAt
 line-listed s n most at h o from old new r e g =
-    let q : rowAt s n most at ≡ onListing h o (listing most s n from []) = ap (onStem s n most) e in
-    let L = listing most s n from [] in
+    let q : rowAt s n most at ≡ onListing h o (listedFrom most s n from []) = ap (onStem s n most) e in
+    let L = listedFrom most s n from [] in
     record {
       answer = ap (lineWith h o) (g .answer) ∙ lined L ∙ ap lineOf (sym q);
       room = g .room ∙ ap (λ (z : List ℕ). filled z old) (listed L) ∙ ap (λ (R : Row). filled (stored R) old) (sym q);

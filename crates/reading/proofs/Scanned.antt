@@ -13,7 +13,7 @@ use Rattle.weights.specs.Figures.{struck}
 use Rattle.weights.specs.Choice.{pick}
 use Rattle.columns.specs.Acceptance.{mostVertices, mostEdges}
 use Rattle.text.specs.Tables.{edge, Table}
-use Rattle.text.specs.Render.{default, spoken, word, opening}
+use Rattle.text.specs.Render.{default, spoken, word, firstWord}
 use Rattle.text.specs.Machine.{Place, Vertices, Head, Own, Listed, State, Spelling, First, Within, Failed, begun, withEdge, nextLine, mayList, limit, lineAt, digitOf, grown, instead, after, spell, ended, step, run, Parse, Whole, Wrong, finish, begin, parse}
 use Rattle.text.proofs.Digits.{pick-by, digit-byte}
 use Rattle.text.proofs.Places.{run-failed}
@@ -26,7 +26,7 @@ use Rattle.cursor.proofs.Counts.{byte-within}
 use Rattle.reading.specs.declared.FirstLine.{FirstLine}
 use Rattle.reading.specs.declared.FirstLine.the-variants as first
 use Rattle.reading.specs.declared.Stem.{Stem}
-use Rattle.reading.specs.Lines.{startsWith, onCount, firstLine, onOwn, onHead, stemAt, Listing, Ends, Breaks, listEnd, onVertex, listing, Row, Holds, Fails, onListing, onStem, rowAt, onRow, scanFrom, onFirst, scan}
+use Rattle.reading.specs.Lines.{startsWith, onCount, firstLine, onOwn, onHead, stemAt, Listing, Ends, Breaks, listEnd, onVertex, listedFrom, Row, Holds, Fails, onListing, onStem, rowAt, onRow, scanFrom, onFirst, scan}
 
 -- A byte of the text -----------------------------------------------------------------------------------------------------------------------
 
@@ -246,12 +246,12 @@ module _ (s : List ℕ) (t : Table) where
     vertex-run at xs (Number v next) more r k = runs-on h o (First (Listed t h o xs)) (Within (Listed t h o xs) v) at next (more (xs ++ v ∷ []) next) (r .0) (k v next (follows-listed xs v next (r .1)))
     vertex-run at xs NotANumber more r k = r
 
-    listing-run : (left at : ℕ) (xs : List ℕ) (σ : State) → Follows t h o xs σ s at → left + length xs ≡ mayList t → ListRuns h o σ at (listing left s (t .vertices) at xs)
-    unfolding listing
+    listing-run : (left at : ℕ) (xs : List ℕ) (σ : State) → Follows t h o xs σ s at → left + length xs ≡ mayList t → ListRuns h o σ at (listedFrom left s (t .vertices) at xs)
+    unfolding listedFrom
     listing-run zero at xs σ f l =
         pick-by (ListRuns h o σ at) (eqb (getD s at 0) 32) (λ e. no-more at xs σ f (eqb-true _ _ e) (omega arith)) (list-end at xs σ f)
     listing-run (suc left) at xs σ f l =
-        let more : List ℕ → ℕ → Listing = λ ys next. listing left s (t .vertices) next ys in
+        let more : List ℕ → ℕ → Listing = λ ys next. listedFrom left s (t .vertices) next ys in
         pick-by (ListRuns h o σ at) (eqb (getD s at 0) 32)
         (λ e. runs-on h o σ (First (Listed t h o xs)) at (at + 1) (onVertex xs (numberAt s (at + 1) (t .vertices)) more) (one-more at xs σ f (eqb-true _ _ e) (omega arith))
         (vertex-run (at + 1) xs (numberAt s (at + 1) (t .vertices)) more (listed-number (at + 1) xs)
@@ -274,7 +274,7 @@ module _ (s : List ℕ) (t : Table) where
 
   row-own : (h at : ℕ) (F : FoundWeight) → OwnRuns h at F → RowRuns (First (Own t h)) at (onStem s (t .vertices) (mayList t) (onOwn h F))
   row-own h at (weight.Own w next) r =
-      let L = listing (mayList t) s (t .vertices) next [] in
+      let L = listedFrom (mayList t) s (t .vertices) next [] in
       row-on (First (Own t h)) (Within (Own t h) (w .0)) at next (onListing (record { 0 = h }) w L) (r .0) (row-listed h (w .0) next (Within (Own t h) (w .0)) L (listing-run h (w .0) (mayList t) next [] (Within (Own t h) (w .0)) (r .1) (omega arith)))
   row-own h at weight.NotAWeight r = r
 
@@ -414,17 +414,17 @@ module _ (s : List ℕ) where
   counted-run at NotANumber r = unfold lineAt in r
 
   first-run : FirstRuns begin s (firstLine s)
-  first-run = unfold firstLine in go (startsWith opening s) refl
+  first-run = unfold firstLine in go (startsWith firstWord s) refl
     where
-      opened : SpellRuns 112 (97 ∷ 114 ∷ 116 ∷ 115 ∷ 32 ∷ []) Vertices s (startsWith opening s)
-      opened = unfold opening in spell-run 112 (97 ∷ 114 ∷ 116 ∷ 115 ∷ 32 ∷ []) Vertices s
+      opened : SpellRuns 112 (97 ∷ 114 ∷ 116 ∷ 115 ∷ 32 ∷ []) Vertices s (startsWith firstWord s)
+      opened = unfold firstWord in spell-run 112 (97 ∷ 114 ∷ 116 ∷ 115 ∷ 32 ∷ []) Vertices s
 
-      counted : NumberRuns s Vertices (First Vertices) (drop (length opening) s) (numberAt s (length opening) (mostVertices + 1))
-      counted = unfold limit finish instead lineAt in number-run s Vertices (length opening) (λ l. refl) refl
+      counted : NumberRuns s Vertices (First Vertices) (drop (length firstWord) s) (numberAt s (length firstWord) (mostVertices + 1))
+      counted = unfold limit finish instead lineAt in number-run s Vertices (length firstWord) (λ l. refl) refl
 
-      go : (c : Bool) → startsWith opening s ≡ c → FirstRuns begin s (pick c (onCount s (numberAt s (length opening) (mostVertices + 1))) first.Wrong)
-      go true e = unfold opening in first-on begin (First Vertices) s (drop 6 s) (onCount s (numberAt s (length opening) (mostVertices + 1))) (subst (SpellRuns 112 (97 ∷ 114 ∷ 116 ∷ 115 ∷ 32 ∷ []) Vertices s) e opened) (counted-run 6 (numberAt s (length opening) (mostVertices + 1)) counted)
-      go false e = unfold opening in subst (SpellRuns 112 (97 ∷ 114 ∷ 116 ∷ 115 ∷ 32 ∷ []) Vertices s) e opened
+      go : (c : Bool) → startsWith firstWord s ≡ c → FirstRuns begin s (pick c (onCount s (numberAt s (length firstWord) (mostVertices + 1))) first.Wrong)
+      go true e = unfold firstWord in first-on begin (First Vertices) s (drop 6 s) (onCount s (numberAt s (length firstWord) (mostVertices + 1))) (subst (SpellRuns 112 (97 ∷ 114 ∷ 116 ∷ 115 ∷ 32 ∷ []) Vertices s) e opened) (counted-run 6 (numberAt s (length firstWord) (mostVertices + 1)) counted)
+      go false e = unfold firstWord in subst (SpellRuns 112 (97 ∷ 114 ∷ 116 ∷ 115 ∷ 32 ∷ []) Vertices s) e opened
 
   scan-first : (F : FirstLine) → FirstRuns begin s F → onFirst s F ≡ finish (run begin s)
   scan-first (first.Read n m start) r = scan-run s mostEdges start (begun n m) (omega arith) ∙ sym (ap finish r)

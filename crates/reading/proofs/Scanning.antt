@@ -13,8 +13,8 @@ use Rattle.weights.specs.declared.Vertex.{Vertex}
 use Rattle.weights.specs.declared.Weight.{Weight}
 use Rattle.weights.specs.Choice.{pick}
 use Rattle.columns.specs.Acceptance.{mostVertices, mostEdges, mostListed, longestTail}
-use Rattle.text.specs.Tables.{Edge, Table, total}
-use Rattle.text.specs.Render.{spoken, word, opening}
+use Rattle.text.specs.Tables.{Edge, Table, listedInAll}
+use Rattle.text.specs.Render.{spoken, word, firstWord}
 use Rattle.text.specs.Machine.{begun, withEdge, nextLine, mayList, Whole, Wrong}
 use Rattle.text.proofs.Digits.{pick-by}
 use Rattle.text.proofs.Rows.{total-snoc}
@@ -29,7 +29,7 @@ use Rattle.reading.specs.declared.FirstLine.the-variants as first
 use Rattle.reading.specs.declared.Stem.{Stem}
 use Rattle.reading.specs.declared.Stem.the-variants as stem
 use Rattle.reading.specs.declared.Line.the-variants as line
-use Rattle.reading.specs.Lines.{startsWith, onCount, firstLine, onOwn, onHead, stemAt, Listing, Ends, Breaks, listEnd, onVertex, listing, Row, Holds, Fails, onListing, onStem, rowAt, lineOf, onRow, scanFrom, onFirst, scan}
+use Rattle.reading.specs.Lines.{startsWith, onCount, firstLine, onOwn, onHead, stemAt, Listing, Ends, Breaks, listEnd, onVertex, listedFrom, Row, Holds, Fails, onListing, onStem, rowAt, lineOf, onRow, scanFrom, onFirst, scan}
 
 -- Places: the next line begins later, and within the text ------------------------------------------------------------------------------------
 
@@ -65,11 +65,11 @@ module _ (s : List ℕ) where
   vertex-counts at n most xs (Number v next) more e k = let l = number-counts s (at + 1) n v next e .1 in later at next most (more (xs ++ v ∷ []) next) (omega arith) (k v next)
   vertex-counts at n most xs NotANumber more e k = tt
 
-  list-counts : (left n at most : ℕ) (xs : List ℕ) → length xs + left ≡ most → ListCounts at most (listing left s n at xs)
-  unfolding listing
+  list-counts : (left n at most : ℕ) (xs : List ℕ) → length xs + left ≡ most → ListCounts at most (listedFrom left s n at xs)
+  unfolding listedFrom
   list-counts zero n at most xs h = pick-by (ListCounts at most) (eqb (getD s at 0) 32) (λ e. tt) (λ e. end-counts at most xs (omega arith))
   list-counts (suc left) n at most xs h =
-      let more : List ℕ → ℕ → Listing = λ ys next. listing left s n next ys in
+      let more : List ℕ → ℕ → Listing = λ ys next. listedFrom left s n next ys in
       pick-by (ListCounts at most) (eqb (getD s at 0) 32)
       (λ e. vertex-counts at n most xs (numberAt s (at + 1) n) more refl (λ v next. list-counts left n next most (xs ++ v ∷ []) (let l = length-append xs (v ∷ []) in omega arith)))
       (λ e. end-counts at most xs (omega arith))
@@ -83,7 +83,7 @@ module _ (s : List ℕ) where
   listing-counts at from most h o (Breaks xs) l c = tt
 
   stem-row : (n at most : ℕ) (S : Stem) → StemCounts at S → RowCounts at most (onStem s n most S)
-  stem-row n at most (stem.Read h o from) c = listing-counts at from most h o (listing most s n from []) (c .0) (list-counts most n from most [] (omega arith))
+  stem-row n at most (stem.Read h o from) c = listing-counts at from most h o (listedFrom most s n from []) (c .0) (list-counts most n from most [] (omega arith))
   stem-row n at most stem.Wrong c = tt
 
   row-count : (n most at : ℕ) → RowCounts at most (rowAt s n most at)
@@ -121,7 +121,7 @@ module _ (s : List ℕ) where
 
   first-count : FirstCounts s (firstLine s)
   unfolding firstLine
-  first-count = pick-by (FirstCounts s) (startsWith opening s) (λ e. count-counts (numberAt s (length opening) (mostVertices + 1))) (λ e. tt)
+  first-count = pick-by (FirstCounts s) (startsWith firstWord s) (λ e. count-counts (numberAt s (length firstWord) (mostVertices + 1))) (λ e. tt)
 
   pub first-counts : (n : ℕ) (m : Measure) (start : ℕ) → firstLine s ≡ first.Read n m start → start ≤ length s
   first-counts n m start e = subst (FirstCounts s) e first-count
@@ -152,7 +152,7 @@ pub record Scanning (s : List ℕ) (n : ℕ) (m : Measure) (at edges listed : �
   pub vertices : so-far .vertices ≡ n
   pub measure : so-far .measure ≡ m
   pub counted : length (so-far .edges) ≡ edges
-  pub summed : total (so-far .edges) ≡ listed
+  pub summed : listedInAll (so-far .edges) ≡ listed
   pub few : edges ≤ mostEdges
   pub few-listed : listed ≤ mostListed
   pub within : at ≤ length s
@@ -163,7 +163,7 @@ unfolding scan
 scan-unopened s e = ap (onFirst s) e
 
 pub scan-begun : (s : List ℕ) (n : ℕ) (m : Measure) (start : ℕ) → firstLine s ≡ first.Read n m start → Scanning s n m start 0 0
-unfolding scan total
+unfolding scan listedInAll
 scan-begun s n m start e = record {
   so-far = begun n m;
   vertices = refl;

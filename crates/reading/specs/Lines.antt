@@ -14,8 +14,8 @@ use Rattle.refusal.specs.declared.Header.{Header}
 use Rattle.refusal.specs.declared.Reading.{Reading}
 use Rattle.refusal.specs.declared.Reading.the-variants as reading
 use Rattle.columns.specs.Acceptance.{mostVertices, mostEdges}
-use Rattle.text.specs.Tables.{Edge, edge, Table, total}
-use Rattle.text.specs.Render.{default, spoken, word, opening}
+use Rattle.text.specs.Tables.{Edge, edge, Table, listedInAll}
+use Rattle.text.specs.Render.{default, spoken, word, firstWord}
 use Rattle.text.specs.Machine.{begun, withEdge, nextLine, mayList, Parse, Whole, Wrong}
 use Rattle.columns.specs.Filled.{filled}
 use Rattle.cursor.specs.declared.Found.{Found}
@@ -47,7 +47,7 @@ onCount s (Number n next) =
 onCount s NotANumber = first.Wrong
 
 unfoldable pub firstLine : List ℕ → FirstLine
-firstLine s = pick (startsWith opening s) (onCount s (numberAt s (length opening) (mostVertices + 1))) first.Wrong
+firstLine s = pick (startsWith firstWord s) (onCount s (numberAt s (length firstWord) (mostVertices + 1))) first.Wrong
 
 -- A line for a hyperedge ---------------------------------------------------------------------------------------------------------------------
 
@@ -76,10 +76,10 @@ onVertex xs (Number v next) more = more (xs ++ v ∷ []) next
 onVertex xs NotANumber more = Breaks xs
 
 -- behind the parts xs, `left` more may be listed
-unfoldable pub listing : (left : ℕ) → List ℕ → (n at : ℕ) → List ℕ → Listing
-listing zero s n at xs = pick (eqb (getD s at 0) 32) (Breaks xs) (listEnd s at xs)
-listing (suc left) s n at xs =
-    let more : List ℕ → ℕ → Listing = λ ys next. listing left s n next ys in
+unfoldable pub listedFrom : (left : ℕ) → List ℕ → (n at : ℕ) → List ℕ → Listing
+listedFrom zero s n at xs = pick (eqb (getD s at 0) 32) (Breaks xs) (listEnd s at xs)
+listedFrom (suc left) s n at xs =
+    let more : List ℕ → ℕ → Listing = λ ys next. listedFrom left s n next ys in
     pick (eqb (getD s at 0) 32) (onVertex xs (numberAt s (at + 1) n) more) (listEnd s at xs)
 
 abbrev pub vertices : Listing → List ℕ
@@ -100,7 +100,7 @@ onListing h o (Ends xs next) = Holds (edge (h .0) (o .0) xs) next
 onListing h o (Breaks xs) = Fails xs
 
 abbrev pub onStem : List ℕ → (n most : ℕ) → Stem → Row
-onStem s n most (stem.Read h o at) = onListing h o (listing most s n at [])
+onStem s n most (stem.Read h o at) = onListing h o (listedFrom most s n at [])
 onStem s n most stem.Wrong = Fails []
 
 -- the line at a place, of at most so many listed parts
@@ -146,7 +146,7 @@ scan s = onFirst s (firstLine s)
 
 -- what is told of a text: n, the measure and the counts, or refusal 14 with the text line
 abbrev pub headerOf : Table → Header
-headerOf t = record { vertices = t .vertices; measure = t .measure; edges = length (t .edges); listed = total (t .edges) }
+headerOf t = record { vertices = t .vertices; measure = t .measure; edges = length (t .edges); listed = listedInAll (t .edges) }
 
 abbrev pub readingOf : Parse → Reading
 readingOf (Whole t) = reading.Table (headerOf t)

@@ -22,7 +22,7 @@ ghost use mathlib.Core.List.{[]};
 ghost use Prim.Native.Nat.{min};
 ghost use lib.ListN.{length};
 ghost use Rattle.text.specs.Machine.{parse};
-ghost use Rattle.reading.specs.Lines.{startsWith, firstLine, stemAt, listing, ReadsTail, rowAt, ReadsLine, readingOf};
+ghost use Rattle.reading.specs.Lines.{startsWith, firstLine, stemAt, listedFrom, ReadsTail, rowAt, ReadsLine, readingOf};
 
 // The first line: how many vertices there are, the measure, and the place of the next line.
 pub enum FirstLine {
@@ -108,7 +108,7 @@ pub fn stem_at(text: &[u8], at: usize, n: u64) -> Stem
 // The vertices listed from a place on, each behind a space, are stored from the room's start. There
 // may be `most`, and no more than the room has places.
 fn tail_at(text: &[u8], at: usize, n: u64, most: usize, room: &mut [u64]) -> Tail
-    ensures { λ r. ⌜ ReadsTail (listing (min most (length (now (room .entry)))) (now (text .entry)) n at []) (now (room .entry)) r (now (room .exit)) ⌝ }
+    ensures { λ r. ⌜ ReadsTail (listedFrom (min most (length (now (room .entry)))) (now (text .entry)) n at []) (now (room .entry)) r (now (room .exit)) ⌝ }
 {
     let mut k: usize = 0;
     let mut next = at;

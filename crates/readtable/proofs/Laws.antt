@@ -19,7 +19,7 @@ use Rattle.refusal.specs.declared.Header.{Header}
 use Rattle.refusal.specs.declared.Reading.{Reading}
 use Rattle.refusal.specs.declared.Reading.the-variants as reading
 use Rattle.columns.specs.Acceptance.{mostEdges, mostListed, longestTail}
-use Rattle.text.specs.Tables.{Edge, edge, Table, total, headsOf, ownsOf, spansFrom, tailsOf}
+use Rattle.text.specs.Tables.{Edge, edge, Table, listedInAll, headsOf, ownsOf, spansFrom, tailsOf}
 use Rattle.text.specs.Machine.{withEdge, mayList, Parse, Whole, Wrong, parse}
 use Rattle.text.proofs.Rows.{total-snoc, heads-append, owns-append, spans-append, tails-append, length-heads, length-owns, length-spans, length-tails}
 use Rattle.text.proofs.Sound.{never}
@@ -32,10 +32,10 @@ use Rattle.reading.specs.declared.Stem.{Stem}
 use Rattle.reading.specs.declared.Stem.the-variants as stem
 use Rattle.reading.specs.declared.Line.{Line}
 use Rattle.reading.specs.declared.Line.the-variants as line
-use Rattle.reading.specs.Lines.{stemAt, Listing, Ends, Breaks, listEnd, onVertex, listing, Row, Holds, Fails, onListing, onStem, rowAt, stored, lineOf, ReadsLine, onRow, scanFrom, scan, headerOf, readingOf}
+use Rattle.reading.specs.Lines.{stemAt, Listing, Ends, Breaks, listEnd, onVertex, listedFrom, Row, Holds, Fails, onListing, onStem, rowAt, stored, lineOf, ReadsLine, onRow, scanFrom, scan, headerOf, readingOf}
 use Rattle.reading.proofs.Scanned.{scan-is-parse}
 use Rattle.reading.proofs.Scanning.{row-counts, tells, Scanning, scan-full, scan-end, scan-fails, scan-next, scan-next-edges}
-use Rattle.readtable.specs.Read.{readOutcome, roomFor, readInto, readTable, edgesIn, Ready, Fills}
+use Rattle.readtable.specs.Read.{readOutcome, roomFor, readInto, readTable, edgesIn, Roomy, Fills}
 
 -- a test of a definition, from the fact that a branch gives: `search tests` at a return
 pub ruleset tests = (lt-ltb, le-ltb, le-leb, lt-leb, eq-eqb, ne-eqb)
@@ -54,8 +54,8 @@ module _ (s : List ℕ) (n : ℕ) where
       go false q = absurd (no-ends q)
 
   -- a list that is read to its end begins with what was read before
-  grows : (left at : ℕ) (xs ys : List ℕ) (next : ℕ) → listing left s n at xs ≡ Ends ys next → length xs ≤ length ys
-  unfolding listing
+  grows : (left at : ℕ) (xs ys : List ℕ) (next : ℕ) → listedFrom left s n at xs ≡ Ends ys next → length xs ≤ length ys
+  unfolding listedFrom
   grows zero at xs ys next e = go (eqb (getD s at 0) 32) e
     where
       go : (c : Bool) → pick c (Breaks xs) (listEnd s at xs) ≡ Ends ys next → length xs ≤ length ys
@@ -64,52 +64,52 @@ module _ (s : List ℕ) (n : ℕ) where
   grows (suc left) at xs ys next e = go (eqb (getD s at 0) 32) e (λ v j q. grows left j (xs ++ v ∷ []) ys next q)
     where
       more : List ℕ → ℕ → Listing
-      more us j = listing left s n j us
+      more us j = listedFrom left s n j us
 
-      found : (F : Found) → onVertex xs F more ≡ Ends ys next → ((v j : ℕ) → listing left s n j (xs ++ v ∷ []) ≡ Ends ys next → length (xs ++ v ∷ []) ≤ length ys) → length xs ≤ length ys
+      found : (F : Found) → onVertex xs F more ≡ Ends ys next → ((v j : ℕ) → listedFrom left s n j (xs ++ v ∷ []) ≡ Ends ys next → length (xs ++ v ∷ []) ≤ length ys) → length xs ≤ length ys
       found (Number v j) q k = let l = k v j q in let m = length-append xs (v ∷ []) in omega arith
       found NotANumber q k = absurd (no-ends q)
 
-      go : (c : Bool) → pick c (onVertex xs (numberAt s (at + 1) n) more) (listEnd s at xs) ≡ Ends ys next → ((v j : ℕ) → listing left s n j (xs ++ v ∷ []) ≡ Ends ys next → length (xs ++ v ∷ []) ≤ length ys) → length xs ≤ length ys
+      go : (c : Bool) → pick c (onVertex xs (numberAt s (at + 1) n) more) (listEnd s at xs) ≡ Ends ys next → ((v j : ℕ) → listedFrom left s n j (xs ++ v ∷ []) ≡ Ends ys next → length (xs ++ v ∷ []) ≤ length ys) → length xs ≤ length ys
       go true q k = found (numberAt s (at + 1) n) q k
       go false q k = let z = ap length (end-grows at xs ys next q) in omega arith
 
-  to-end : (left at : ℕ) (xs : List ℕ) → eqb (getD s at 0) 32 ≡ false → listing left s n at xs ≡ listEnd s at xs
-  unfolding listing
+  to-end : (left at : ℕ) (xs : List ℕ) → eqb (getD s at 0) 32 ≡ false → listedFrom left s n at xs ≡ listEnd s at xs
+  unfolding listedFrom
   to-end zero at xs e = rw e
   to-end (suc left) at xs e = rw e
 
-  to-vertex : (left at : ℕ) (xs : List ℕ) → eqb (getD s at 0) 32 ≡ true → listing (suc left) s n at xs ≡ onVertex xs (numberAt s (at + 1) n) (λ us j. listing left s n j us)
-  unfolding listing
+  to-vertex : (left at : ℕ) (xs : List ℕ) → eqb (getD s at 0) 32 ≡ true → listedFrom (suc left) s n at xs ≡ onVertex xs (numberAt s (at + 1) n) (λ us j. listedFrom left s n j us)
+  unfolding listedFrom
   to-vertex left at xs e = rw e
 
-  to-none : (at : ℕ) (xs : List ℕ) → eqb (getD s at 0) 32 ≡ true → listing zero s n at xs ≡ Breaks xs
-  unfolding listing
+  to-none : (at : ℕ) (xs : List ℕ) → eqb (getD s at 0) 32 ≡ true → listedFrom zero s n at xs ≡ Breaks xs
+  unfolding listedFrom
   to-none at xs e = rw e
 
-  enough : (left left′ at : ℕ) (xs ys : List ℕ) (next : ℕ) → listing left s n at xs ≡ Ends ys next → length ys ≤ length xs + left′ → listing left′ s n at xs ≡ Ends ys next
+  enough : (left left′ at : ℕ) (xs ys : List ℕ) (next : ℕ) → listedFrom left s n at xs ≡ Ends ys next → length ys ≤ length xs + left′ → listedFrom left′ s n at xs ≡ Ends ys next
   enough zero left′ at xs ys next e l = go (eqb (getD s at 0) 32) refl
     where
-      go : (c : Bool) → eqb (getD s at 0) 32 ≡ c → listing left′ s n at xs ≡ Ends ys next
+      go : (c : Bool) → eqb (getD s at 0) 32 ≡ c → listedFrom left′ s n at xs ≡ Ends ys next
       go true q = absurd (no-ends (sym (to-none at xs q) ∙ e))
       go false q = to-end left′ at xs q ∙ sym (to-end zero at xs q) ∙ e
   enough (suc left) zero at xs ys next e l = go (eqb (getD s at 0) 32) refl
     where
-      found : (F : Found) → onVertex xs F (λ us j. listing left s n j us) ≡ Ends ys next → ⊥
+      found : (F : Found) → onVertex xs F (λ us j. listedFrom left s n j us) ≡ Ends ys next → ⊥
       found (Number v j) q = let g = grows left j (xs ++ v ∷ []) ys next q in let m = length-append xs (v ∷ []) in omega arith
       found NotANumber q = no-ends q
 
-      go : (c : Bool) → eqb (getD s at 0) 32 ≡ c → listing zero s n at xs ≡ Ends ys next
+      go : (c : Bool) → eqb (getD s at 0) 32 ≡ c → listedFrom zero s n at xs ≡ Ends ys next
       go true q = absurd (found (numberAt s (at + 1) n) (sym (to-vertex left at xs q) ∙ e))
       go false q = to-end zero at xs q ∙ sym (to-end (suc left) at xs q) ∙ e
   enough (suc left) (suc left′) at xs ys next e l = go (eqb (getD s at 0) 32) refl (λ v j q. enough left left′ j (xs ++ v ∷ []) ys next q (let m = length-append xs (v ∷ []) in omega arith))
     where
-      found : (F : Found) → onVertex xs F (λ us j. listing left s n j us) ≡ Ends ys next → ((v j : ℕ) → listing left s n j (xs ++ v ∷ []) ≡ Ends ys next → listing left′ s n j (xs ++ v ∷ []) ≡ Ends ys next)
-          → onVertex xs F (λ us j. listing left′ s n j us) ≡ Ends ys next
+      found : (F : Found) → onVertex xs F (λ us j. listedFrom left s n j us) ≡ Ends ys next → ((v j : ℕ) → listedFrom left s n j (xs ++ v ∷ []) ≡ Ends ys next → listedFrom left′ s n j (xs ++ v ∷ []) ≡ Ends ys next)
+          → onVertex xs F (λ us j. listedFrom left′ s n j us) ≡ Ends ys next
       found (Number v j) q k = k v j q
       found NotANumber q k = q
 
-      go : (c : Bool) → eqb (getD s at 0) 32 ≡ c → ((v j : ℕ) → listing left s n j (xs ++ v ∷ []) ≡ Ends ys next → listing left′ s n j (xs ++ v ∷ []) ≡ Ends ys next) → listing (suc left′) s n at xs ≡ Ends ys next
+      go : (c : Bool) → eqb (getD s at 0) 32 ≡ c → ((v j : ℕ) → listedFrom left s n j (xs ++ v ∷ []) ≡ Ends ys next → listedFrom left′ s n j (xs ++ v ∷ []) ≡ Ends ys next) → listedFrom (suc left′) s n at xs ≡ Ends ys next
       go true q k = to-vertex left′ at xs q ∙ found (numberAt s (at + 1) n) (sym (to-vertex left at xs q) ∙ e) k
       go false q k = to-end (suc left′) at xs q ∙ sym (to-end (suc left) at xs q) ∙ e
 
@@ -120,7 +120,7 @@ module _ (s : List ℕ) (n : ℕ) where
   unfolding rowAt
   row-enough most most′ at x next e l = stemmed (stemAt s n at) e
     where
-      listed : (h : Vertex) (o : Weight) (from : ℕ) (L : Listing) → listing most s n from [] ≡ L → onListing h o L ≡ Holds x next → onListing h o (listing most′ s n from []) ≡ Holds x next
+      listed : (h : Vertex) (o : Weight) (from : ℕ) (L : Listing) → listedFrom most s n from [] ≡ L → onListing h o L ≡ Holds x next → onListing h o (listedFrom most′ s n from []) ≡ Holds x next
       listed h o from (Ends xs j) p q =
           let r : edge (h .0) (o .0) xs ≡ x = cc in
           let z : length xs ≡ length (x .tail) = ap (λ (y : Edge). length (y .tail)) r in
@@ -128,14 +128,14 @@ module _ (s : List ℕ) (n : ℕ) where
       listed h o from (Breaks xs) p q = absurd (no-row q)
 
       stemmed : (S : Stem) → onStem s n most S ≡ Holds x next → onStem s n most′ S ≡ Holds x next
-      stemmed (stem.Read h o from) q = listed h o from (listing most s n from []) refl q
+      stemmed (stem.Read h o from) q = listed h o from (listedFrom most s n from []) refl q
       stemmed stem.Wrong q = absurd (no-row q)
 
 -- The lines still to come ------------------------------------------------------------------------------------------------------------------
 
 -- the table at the end has the hyperedges so far, and perhaps more
 abbrev Grown : Table → Table → Type 0
-Grown t u = (length (t .edges) ≤ length (u .edges)) × (total (t .edges) ≤ total (u .edges))
+Grown t u = (length (t .edges) ≤ length (u .edges)) × (listedInAll (t .edges) ≤ listedInAll (u .edges))
 
 one-grown : (t : Table) (e : Edge) (u : Table) → Grown (withEdge t e) u → Grown t u
 one-grown t e u g =
@@ -149,7 +149,7 @@ same-grown : (t u : Table) → Whole t ≡ Whole u → Grown t u
 same-grown t u e =
     let q : t ≡ u = cc in
     let l = ap (λ (w : Table). length (w .edges)) q in
-    let m = ap (λ (w : Table). total (w .edges)) q in
+    let m = ap (λ (w : Table). listedInAll (w .edges)) q in
     (omega arith, omega arith)
 
 scan-grows : (s : List ℕ) (left at : ℕ) (t u : Table) → scanFrom left s at t ≡ Whole u → Grown t u
@@ -179,7 +179,7 @@ pub record LineHere (s : List ℕ) (n : ℕ) (m : Measure) (at i k : ℕ) (u : T
   pub then : Scanning s n m next (i + 1) (k + length (this .tail))
   pub so-far : then .so-far .edges ≡ g .so-far .edges ++ this ∷ []
   pub edges-left : i < length (u .edges)
-  pub listed-left : k + length (this .tail) ≤ total (u .edges)
+  pub listed-left : k + length (this .tail) ≤ listedInAll (u .edges)
 
 module _ (s : List ℕ) (n : ℕ) (m : Measure) (at i k : ℕ) (u : Table) (g : Scanning s n m at i k) (w : scan s ≡ Whole u) (h : at < length s) where
   few : i < mostEdges
@@ -216,18 +216,18 @@ module _ (es : List Edge) (e : Edge) (old : List ℕ) (i : ℕ) (c : length es �
   unfolding ownsOf
   owns-more l = filled-set (ownsOf es) old i (e .own) (length-owns es ∙ c) l ∙ ap (λ (z : List ℕ). filled z old) (sym (owns-append es (e ∷ [])))
 
-  spans-more : (k : ℕ) → total es ≡ k → 2 * i + 1 < length old → set (set (filled (spansFrom 0 es) old) (2 * i) k) (2 * i + 1) (length (e .tail)) ≡ filled (spansFrom 0 (es ++ e ∷ [])) old
+  spans-more : (k : ℕ) → listedInAll es ≡ k → 2 * i + 1 < length old → set (set (filled (spansFrom 0 es) old) (2 * i) k) (2 * i + 1) (length (e .tail)) ≡ filled (spansFrom 0 (es ++ e ∷ [])) old
   unfolding spansFrom
   spans-more k t l =
       let S = spansFrom 0 es in
       let a : length S ≡ 2 * i = length-spans 0 es ∙ ap (λ (z : ℕ). 2 * z) c in
       let b : length (S ++ k ∷ []) ≡ 2 * i + 1 = length-append S (k ∷ []) ∙ ap (λ (z : ℕ). z + 1) a in
-      let z : k ≡ 0 + total es = omega arith in
+      let z : k ≡ 0 + listedInAll es = omega arith in
       ap (λ (r : List ℕ). set r (2 * i + 1) (length (e .tail))) (filled-set S old (2 * i) k a (omega arith))
       ∙ filled-set (S ++ k ∷ []) old (2 * i + 1) (length (e .tail)) b l
       ∙ ap (λ (r : List ℕ). filled r old) (append-snoc S k (length (e .tail) ∷ []) ∙ ap (λ (j : ℕ). S ++ j ∷ length (e .tail) ∷ []) z ∙ sym (spans-append 0 es (e ∷ [])))
 
-tails-more : (es : List Edge) (e : Edge) (old : List ℕ) (k : ℕ) → total es ≡ k → take k (filled (tailsOf es) old) ++ filled (e .tail) (drop k (filled (tailsOf es) old)) ≡ filled (tailsOf (es ++ e ∷ [])) old
+tails-more : (es : List Edge) (e : Edge) (old : List ℕ) (k : ℕ) → listedInAll es ≡ k → take k (filled (tailsOf es) old) ++ filled (e .tail) (drop k (filled (tailsOf es) old)) ≡ filled (tailsOf (es ++ e ∷ [])) old
 unfolding tailsOf
 tails-more es e old k t =
     filled-part (tailsOf es) (e .tail) old k (length-tails es ∙ t)
@@ -261,7 +261,7 @@ filling-none s n m at g h o sp t e = record {
 -- Another line ------------------------------------------------------------------------------------------------------------------------------
 
 module _ (s : List ℕ) (n : ℕ) (h₀ o₀ s₀ t₀ h o sp t : List ℕ) (at i k : ℕ) (f : Filling s n h₀ o₀ s₀ t₀ h o sp t at i k)
-    (y : Ready s (length h₀) (length o₀) (length s₀) (length t₀)) (lt : at < length s) where
+    (y : Roomy s (length h₀) (length o₀) (length s₀) (length t₀)) (lt : at < length s) where
   pub here : LineHere s n (f .measure) at i k (y .table) (f .scanning)
   here = line-here s n (f .measure) at i k (y .table) (f .scanning) (scan-is-parse s ∙ y .whole) lt
 
@@ -410,7 +410,7 @@ module _ (s : List ℕ) (header : Header) (g : Holding s header) (h o sp t : Lis
   unfolding readInto
   read-short e = rw (g .whole, roomed false e)
 
-  pub read-ready : true ≡ roomFor header (length h) (length o) (length sp) (length t) → Ready s (length h) (length o) (length sp) (length t)
+  pub read-ready : true ≡ roomFor header (length h) (length o) (length sp) (length t) → Roomy s (length h) (length o) (length sp) (length t)
   unfolding roomFor
   read-ready e =
       let a = both _ _ (roomed true e) in

@@ -13,7 +13,7 @@ use Rattle.refusal.specs.declared.Header.{Header}
 use Rattle.refusal.specs.declared.Reading.{Reading}
 use Rattle.refusal.specs.declared.Reading.the-variants as reading
 use Rattle.columns.specs.Columns.{Columns, columns}
-use Rattle.text.specs.Tables.{Edge, Table, total, headsOf, ownsOf, spansFrom, tailsOf}
+use Rattle.text.specs.Tables.{Edge, Table, listedInAll, headsOf, ownsOf, spansFrom, tailsOf}
 use Rattle.text.specs.Machine.{Parse, Whole, Wrong, parse}
 use Rattle.columns.specs.Filled.{filled}
 use Rattle.reading.specs.Lines.{headerOf, readingOf}
@@ -60,13 +60,13 @@ edgesIn (Whole u) = u .edges
 edgesIn (Wrong l) = []
 
 -- the text is that of a table for which columns of these lengths have room
-pub record Ready (text : List ℕ) (h o s t : ℕ) : Type 0 where
+pub record Roomy (text : List ℕ) (h o s t : ℕ) : Type 0 where
   pub table : Table
   pub whole : parse text ≡ Whole table
   pub heads : length (table .edges) ≤ h
   pub own : length (table .edges) ≤ o
   pub spans : 2 * length (table .edges) ≤ s
-  pub tails : total (table .edges) ≤ t
+  pub tails : listedInAll (table .edges) ≤ t
 
 -- the columns, from what stood in them, are filled with those of the hyperedges
 pub record Fills (es : List Edge) (h₀ o₀ s₀ t₀ h o s t : List ℕ) : Type 0 where

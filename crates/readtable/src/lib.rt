@@ -11,7 +11,7 @@ use refusal::Refusal;
 ghost use mathlib.Core.Path.{_≡_};
 ghost use lib.ListN.{length};
 ghost use Rattle.text.specs.Machine.{parse};
-ghost use Rattle.readtable.specs.Read.{roomFor, readOutcome, readTable, edgesIn, Ready, Fills};
+ghost use Rattle.readtable.specs.Read.{roomFor, readOutcome, readTable, edgesIn, Roomy, Fills};
 
 // Whether columns of these lengths have room for the table of a header.
 fn room_for(header: Header, heads: usize, own: usize, spans: usize, tails: usize) -> bool
@@ -31,7 +31,7 @@ fn room_for(header: Header, heads: usize, own: usize, spans: usize, tails: usize
 
 // The columns are filled from a text that was found correct, so every line is one.
 fn fill(text: &[u8], heads: &mut [u64], own: &mut [u64], spans: &mut [u64], tails: &mut [u64])
-    requires { ⌜ Ready (now text) (length (now heads)) (length (now own)) (length (now spans)) (length (now tails)) ⌝ }
+    requires { ⌜ Roomy (now text) (length (now heads)) (length (now own)) (length (now spans)) (length (now tails)) ⌝ }
     ensures { λ r. ⌜ Fills (edgesIn (parse (now (text .entry)))) (now (heads .entry)) (now (own .entry)) (now (spans .entry)) (now (tails .entry)) (now (heads .exit)) (now (own .exit)) (now (spans .exit)) (now (tails .exit)) ⌝ }
 {
     let first = first_line(text);

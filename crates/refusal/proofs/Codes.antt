@@ -16,7 +16,7 @@ numberedAt p =
     ∷ AnswerLength ∷ WrongAnswers ∷ NoSuchEdge ∷ NewWeight ∷ NoSuchVertex ∷ Underivable ∷ BillRoom ∷ Text (record { 0 = p }) ∷ TextRoom ∷ MeasureNumber ∷ []
 
 abbrev refusalOf : Code → Refusal
-refusalOf c = getD (numberedAt (c .1)) (c .0) InputLength
+refusalOf c = getD (numberedAt (c .place)) (c .number) InputLength
 
 refusal-code : (r : Refusal) → refusalOf (codeOf r) ≡ r
 refusal-code TooManyVertices = refl

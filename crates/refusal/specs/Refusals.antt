@@ -9,8 +9,8 @@ use Prim.Native.Nat.{ℕ, _+_, _*_, min}
 use Rattle.refusal.specs.declared.Refusal.{Refusal}
 use Rattle.refusal.specs.declared.Refusal.the-variants.{TooManyVertices, Lengths, Head, Own, Span, Tail, AnswerLength, WrongAnswers, NoSuchEdge, NewWeight, NoSuchVertex, Underivable, BillRoom, Text, TextRoom, MeasureNumber, InputLength}
 use Rattle.refusal.specs.declared.Code.{Code}
-use Rattle.refusal.specs.declared.Answer.{Answer}
-use Rattle.refusal.specs.declared.Answer.the-variants as answer
+use Rattle.refusal.specs.declared.Acceptance.{Acceptance}
+use Rattle.refusal.specs.declared.Acceptance.the-variants as answer
 use Rattle.refusal.specs.declared.Verdict.{Verdict}
 use Rattle.refusal.specs.declared.Verdict.the-variants as verdict
 use Rattle.refusal.specs.declared.Extent.{Extent}
@@ -57,9 +57,9 @@ abbrev pub resultOf : Code → ℕ
 resultOf c = c .number * 4_294_967_296 + min (c .place) lastPlace
 
 -- in C: 0 on acceptance; 1 for yes, 0 for no; a length as it is
-abbrev pub answerResult : Answer → ℕ
-answerResult answer.Accepted = 0
-answerResult (answer.Refused r) = resultOf (codeOf r)
+abbrev pub acceptanceResult : Acceptance → ℕ
+acceptanceResult answer.Accepted = 0
+acceptanceResult (answer.Refused r) = resultOf (codeOf r)
 
 abbrev pub verdictResult : Verdict → ℕ
 verdictResult verdict.Yes = 1

@@ -3,7 +3,7 @@
 use weights::Hyperedge;
 use weights::Measure;
 ghost use mathlib.Core.Path.{_≡_};
-ghost use Rattle.refusal.specs.Refusals.{code, codeOf, numberOf, placeOf, resultOf, answerResult, verdictResult, extentResult, measureOf};
+ghost use Rattle.refusal.specs.Refusals.{code, codeOf, numberOf, placeOf, resultOf, acceptanceResult, verdictResult, extentResult, measureOf};
 
 // A line of a text, counted from 1.
 pub struct TextLine(pub u64);
@@ -112,7 +112,7 @@ impl Refusal {
 }
 
 // What checking a table, settling, repricing and striking return.
-pub enum Answer {
+pub enum Acceptance {
     Accepted,
     Refused(Refusal),
 }
@@ -145,13 +145,13 @@ pub enum Reading {
     Refused(Refusal),
 }
 
-impl Answer {
+impl Acceptance {
     pub fn result(self) -> u64
-        ensures { λ r. ⌜ r ≡ answerResult self ⌝ }
+        ensures { λ r. ⌜ r ≡ acceptanceResult self ⌝ }
     {
         match self {
-            Answer::Accepted => 0,
-            Answer::Refused(r) => r.result(),
+            Acceptance::Accepted => 0,
+            Acceptance::Refused(r) => r.result(),
         }
     }
 }

@@ -18,13 +18,14 @@ use Rattle.weights.specs.Figures.{over, isOver}
 use Rattle.weights.specs.Labels.{unmade, stateOf, entryOf}
 use Rattle.weights.specs.Measures.{days, algebra, fold, weigh}
 use Rattle.refusal.specs.declared.Refusal.{Refusal}
-use Rattle.refusal.specs.declared.Answer.the-variants.{Accepted}
+use Rattle.refusal.specs.declared.Acceptance.the-variants.{Accepted}
 use Rattle.refusal.specs.Refusals.{numberOf, placeOf}
 use Rattle.refusal.proofs.Refusals.{numbered}
 use Rattle.provenance.specs.Hypergraph.{Derivation, Derivations, node, none, more, weight, weights, root}
 use Rattle.provenance.specs.Means.{Means, underivable, derivable}
-use Rattle.provenance.specs.BestFirst.{Answers, labels}
-use Rattle.columns.specs.Columns.{Columns, ownAt, hypergraph}
+use Rattle.columns.specs.Columns.{Answers, Columns, ownAt}
+use Rattle.provenance.specs.BestFirst.{labels}
+use Rattle.tables.specs.Table.{hypergraph}
 use Rattle.columns.specs.Acceptance.{mostVertices, mostEdges, acceptance}
 use Rattle.columns.proofs.Accepted.{table-accepted}
 use Rattle.settle.specs.Settling.{answersOf}

@@ -10,11 +10,12 @@ use lib.ListN.{length, getD, List·getD-eq-default}
 use Rattle.weights.specs.declared.Measure.{Measure}
 use Rattle.weights.specs.Figures.{isStruck}
 use Rattle.weights.specs.Measures.{algebra}
-use Rattle.refusal.specs.declared.Answer.the-variants.{Accepted}
+use Rattle.refusal.specs.declared.Acceptance.the-variants.{Accepted}
 use Rattle.provenance.specs.Hypergraph.{Hypergraph}
 use Rattle.provenance.specs.BestFirst.{best-first}
 use Rattle.columns.proofs.Filled.{take-filled}
-use Rattle.columns.specs.Columns.{Columns, columns, headAt, ownAt, part, tailAt, hypergraph}
+use Rattle.columns.specs.Columns.{Columns, columns, headAt, ownAt, part, tailAt}
+use Rattle.tables.specs.Table.{hypergraph}
 use Rattle.columns.specs.Acceptance.{acceptance}
 use Rattle.columns.proofs.Accepted.{AcceptedTable, table-accepted}
 use Rattle.settle.specs.Settling.{answersOf}

@@ -7,14 +7,14 @@ use lib.ListN.{length}
 use Rattle.weights.specs.declared.Measure.the-variants.{Cost, Days}
 use Rattle.weights.specs.Measures.{fold, weigh}
 use Rattle.weights.specs.Labels.{aheadOf}
-use Rattle.refusal.specs.declared.Answer.the-variants.{Accepted}
-use Rattle.provenance.specs.Labelling.{each, greatest, noneZero, offerOf}
+use Rattle.refusal.specs.declared.Acceptance.the-variants.{Accepted}
+use Rattle.provenance.specs.Labelling.{each, greatestDepth, noneZero, offerOf}
 use Rattle.provenance.specs.BestFirst.{opening, next, turn, turns, best-first}
 use Rattle.columns.specs.Columns.{Columns, columns}
 use Rattle.columns.specs.Acceptance.{allBelow, edgeAcceptance, edgesAcceptance, acceptance}
 use Rattle.settle.specs.Settling.{answersOf}
 use Rattle.text.specs.Tables.{edgesFrom}
-use Rattle.text.specs.Render.{digitsOn, digits, word, opening as opened, measureText, header, ownText, tailText, edgeText, edgesText, tableText, render}
+use Rattle.text.specs.Render.{digitsOn, digits, word, firstWord as opened, measureText, header, ownText, tailText, edgeText, edgesText, tableText, render}
 use Rattle.text.specs.Machine.{run, finish, parse}
 use Rattle.readtable.specs.Read.{readInto}
 use Rattle.report.specs.Report.{mostInput, names, stateWord, row, rows, list, refusedWord, refusedLine, listedAs, readInput, report}
@@ -33,7 +33,7 @@ unfolding worked costText edgesFrom digitsOn digits word opened measureText head
 rendered-cost = refl
 
 listed-cost : list (answersOf Cost worked) 5 ≡ costList
-unfolding worked costList fold weigh aheadOf each greatest noneZero offerOf opening next turn turns best-first answersOf digitsOn digits names stateWord row rows list
+unfolding worked costList fold weigh aheadOf each greatestDepth noneZero offerOf opening next turn turns best-first answersOf digitsOn digits names stateWord row rows list
 listed-cost = refl
 
 pub worked-cost : report costText ≡ costList
@@ -47,7 +47,7 @@ unfolding worked daysText edgesFrom digitsOn digits word opened measureText head
 rendered-days = refl
 
 listed-days : list (answersOf Days worked) 5 ≡ daysList
-unfolding worked daysList fold weigh aheadOf each greatest noneZero offerOf opening next turn turns best-first answersOf digitsOn digits names stateWord row rows list
+unfolding worked daysList fold weigh aheadOf each greatestDepth noneZero offerOf opening next turn turns best-first answersOf digitsOn digits names stateWord row rows list
 listed-days = refl
 
 pub worked-days : report daysText ≡ daysList

@@ -10,15 +10,15 @@ use Rattle.weights.specs.declared.Entry.{Entry}
 use Rattle.weights.specs.Labels.{entryOf}
 use Rattle.refusal.specs.declared.Refusal.{Refusal}
 use Rattle.refusal.specs.declared.Header.{Header}
-use Rattle.refusal.specs.declared.Answer.{Answer}
-use Rattle.refusal.specs.declared.Answer.the-variants as answer
+use Rattle.refusal.specs.declared.Acceptance.{Acceptance}
+use Rattle.refusal.specs.declared.Acceptance.the-variants as answer
 use Rattle.refusal.specs.declared.Reading.{Reading}
 use Rattle.refusal.specs.declared.Reading.the-variants as reading
-use Rattle.provenance.specs.BestFirst.{Answers, labels, blank}
-use Rattle.columns.specs.Columns.{Columns, answers}
+use Rattle.columns.specs.Columns.{Answers, Columns, answers}
+use Rattle.provenance.specs.BestFirst.{labels, blank}
 use Rattle.columns.specs.Acceptance.{mostVertices, lentAcceptance}
 use Rattle.columns.proofs.Accepted.{columns-accepted}
-use Rattle.settle.specs.Settling.{Outcome, settled}
+use Rattle.settle.specs.Settling.{SettleOutcome, settled}
 use Rattle.settle.proofs.Demands.{answers-sized, settled-result, settled-left}
 use Rattle.columns.specs.Filled.{filled}
 use Rattle.readtable.specs.Read.{ReadOutcome, readOutcome}
@@ -82,18 +82,18 @@ pub priced-blank : (m : Measure) (c : Columns) (n : ℕ) → n ≤ mostVertices
     → priced n (settled m c (answers (take n (replicate mostVertices 0)) (take n (replicate mostVertices 0)) (take n (replicate mostVertices 0)))) ≡ priced n (settled m c (blank n))
 priced-blank m c n h = ap (λ (z : List ℕ). priced n (settled m c (answers z z z))) (take-zeros n mostVertices h)
 
-module _ (m : Measure) (c : Columns) (a : Answers) (x : Answer) (b : Answers) (q : record { result = x; left = b } ≡ settled m c a) where
+module _ (m : Measure) (c : Columns) (a : Answers) (x : Acceptance) (b : Answers) (q : record { result = x; left = b } ≡ settled m c a) where
   pub priced-refused : (r : Refusal) → x ≡ answer.Refused r → priced (c .vertices) (settled m c a) ≡ refusedLine r
-  priced-refused r e = ap (priced (c .vertices)) (sym q) ∙ ap (λ (z : Answer). pricedAs (c .vertices) z b) e
+  priced-refused r e = ap (priced (c .vertices)) (sym q) ∙ ap (λ (z : Acceptance). pricedAs (c .vertices) z b) e
 
   -- the columns left are as long as there are vertices
   left-sized : x ≡ answer.Accepted → length (b .depths) ≡ c .vertices
   left-sized e =
-      let p : lentAcceptance c a ≡ answer.Accepted = sym (settled-result m c a) ∙ sym (ap (λ (o : Outcome). o .result) q) ∙ e in
-      ap (λ (o : Outcome). length (o .left .depths)) q ∙ ap (λ (z : Answers). length (z .depths)) (settled-left m c a p) ∙ answers-sized m c (columns-accepted c a p .table) .depths
+      let p : lentAcceptance c a ≡ answer.Accepted = sym (settled-result m c a) ∙ sym (ap (λ (o : SettleOutcome). o .result) q) ∙ e in
+      ap (λ (o : SettleOutcome). length (o .left .depths)) q ∙ ap (λ (z : Answers). length (z .depths)) (settled-left m c a p) ∙ answers-sized m c (columns-accepted c a p .table) .depths
 
   pub priced-accepted : x ≡ answer.Accepted → priced (c .vertices) (settled m c a) ≡ list b (length (b .depths))
-  priced-accepted e = ap (priced (c .vertices)) (sym q) ∙ ap (λ (z : Answer). pricedAs (c .vertices) z b) e ∙ ap (list b) (sym (left-sized e))
+  priced-accepted e = ap (priced (c .vertices)) (sym q) ∙ ap (λ (z : Acceptance). pricedAs (c .vertices) z b) e ∙ ap (list b) (sym (left-sized e))
 
 -- The whole ------------------------------------------------------------------------------------------------------------------------------------
 

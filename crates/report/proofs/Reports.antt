@@ -10,12 +10,12 @@ use borrow.Author.Tests.{lt-ltb, le-ltb}
 use Rattle.weights.specs.declared.Measure.{Measure}
 use Rattle.refusal.specs.declared.Refusal.the-variants.{Text, InputLength}
 use Rattle.refusal.specs.declared.Header.{Header}
-use Rattle.refusal.specs.declared.Answer.the-variants.{Accepted}
+use Rattle.refusal.specs.declared.Acceptance.the-variants.{Accepted}
 use Rattle.refusal.specs.declared.Reading.{Reading}
 use Rattle.refusal.specs.declared.Reading.the-variants as reading
 use Rattle.refusal.specs.Refusals.{placeOf}
-use Rattle.provenance.specs.BestFirst.{Answers, blank}
-use Rattle.columns.specs.Columns.{Columns}
+use Rattle.columns.specs.Columns.{Answers, Columns}
+use Rattle.provenance.specs.BestFirst.{blank}
 use Rattle.columns.specs.Acceptance.{mostEdges, mostListed, acceptance, lentAcceptance}
 use Rattle.columns.proofs.Accepted.{table-accepted, columns-accept}
 use Rattle.settle.specs.Settling.{answersOf, settled}

@@ -11,14 +11,15 @@ use Rattle.weights.specs.Choice.{pick}
 use Rattle.weights.specs.Labels.{entryOf}
 use Rattle.refusal.specs.declared.Refusal.{Refusal}
 use Rattle.refusal.specs.declared.Refusal.the-variants.{InputLength}
-use Rattle.refusal.specs.declared.Answer.{Answer}
-use Rattle.refusal.specs.declared.Answer.the-variants as answer
+use Rattle.refusal.specs.declared.Acceptance.{Acceptance}
+use Rattle.refusal.specs.declared.Acceptance.the-variants as answer
 use Rattle.refusal.specs.declared.Reading.{Reading}
 use Rattle.refusal.specs.declared.Reading.the-variants as reading
 use Rattle.refusal.specs.Refusals.{numberOf, placeOf}
-use Rattle.provenance.specs.BestFirst.{Answers, labels, blank}
+use Rattle.columns.specs.Columns.{Answers}
+use Rattle.provenance.specs.BestFirst.{labels, blank}
 use Rattle.columns.specs.Acceptance.{mostEdges, mostListed}
-use Rattle.settle.specs.Settling.{Outcome, settled}
+use Rattle.settle.specs.Settling.{SettleOutcome, settled}
 use Rattle.text.specs.Render.{digits}
 use Rattle.readtable.specs.Read.{ReadOutcome, columnsRead, readTable}
 
@@ -67,11 +68,11 @@ refusedLine r = refusedWord ++ (32 ∷ digits (numberOf r)) ++ (32 ∷ digits (p
 -- The whole --------------------------------------------------------------------------------------------------------------------------------------
 
 -- by what settling a table of n parts returned
-abbrev pub pricedAs : (n : ℕ) → Answer → Answers → List ℕ
+abbrev pub pricedAs : (n : ℕ) → Acceptance → Answers → List ℕ
 pricedAs n answer.Accepted a = list a n
 pricedAs n (answer.Refused r) a = refusedLine r
 
-abbrev pub priced : (n : ℕ) → Outcome → List ℕ
+abbrev pub priced : (n : ℕ) → SettleOutcome → List ℕ
 priced n o = pricedAs n (o .result) (o .left)
 
 -- by what reading a text returned: the table that was read is settled from answer columns of zeros

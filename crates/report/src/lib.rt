@@ -1,7 +1,7 @@
 // What the listing program prints of an input: the list of a table's entries, or the line of a
 // refusal.
 use readtable::read_table;
-use refusal::Answer;
+use refusal::Acceptance;
 use refusal::Header;
 use refusal::Reading;
 use refusal::Refusal;
@@ -124,8 +124,8 @@ fn put_priced(
 {
     let answer = settle::settle(measure, n, heads, own, spans, tails, weights, depths, edges);
     match answer {
-        Answer::Refused(r) => return put_refused(room, r),
-        Answer::Accepted => {}
+        Acceptance::Refused(r) => return put_refused(room, r),
+        Acceptance::Accepted => {}
     }
     put_list(room, weights, depths, edges)
 }

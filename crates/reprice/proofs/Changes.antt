@@ -13,22 +13,21 @@ use Rattle.weights.proofs.Choice.{both-true}
 use Rattle.weights.specs.Figures.{greatest, struck, isStruck}
 use Rattle.refusal.specs.declared.Refusal.{Refusal}
 use Rattle.refusal.specs.declared.Refusal.the-variants.{WrongAnswers, NoSuchEdge, NewWeight}
-use Rattle.refusal.specs.declared.Answer.{Answer}
-use Rattle.refusal.specs.declared.Answer.the-variants.{Accepted, Refused}
-use Rattle.provenance.specs.BestFirst.{Answers}
-use Rattle.columns.specs.Columns.{Columns, ownAt, withOwn}
+use Rattle.refusal.specs.declared.Acceptance.{Acceptance}
+use Rattle.refusal.specs.declared.Acceptance.the-variants.{Accepted, Refused}
+use Rattle.columns.specs.Columns.{Answers, Columns, ownAt, withOwn}
 use Rattle.columns.specs.Acceptance.{test, andThen, lentAcceptance}
 use Rattle.columns.proofs.Accepted.{refused, test-passed, both-accepted, columns-accepted, columns-accept}
 use Rattle.columns.specs.Owed.{Owed}
 use Rattle.columns.proofs.Repriced.{acceptance-kept}
-use Rattle.columns.specs.Same.{same}
+use Rattle.columns.specs.Same.{sameAnswers}
 use Rattle.columns.proofs.Exactly.{lent-exactly, lent-refused-exactly}
 use Rattle.columns.proofs.Refuses.{Refuses, none-refuses, test-refuses, then-refuses}
 use Rattle.settle.specs.Settling.{answersOf}
 use Rattle.settle.proofs.Demands.{answers-mean, answers-sized}
 use Rattle.settle.proofs.Exactly.{same-exactly, same-fails, yes-exactly}
 use Rattle.settle.proofs.States.{answers-state}
-use Rattle.reprice.specs.Repricing.{stands, lineAcceptance, answersAcceptance, repriceAcceptance, strikeAcceptance, Change, changed, repriced, stricken}
+use Rattle.reprice.specs.Repricing.{stands, lineAcceptance, answersAcceptance, repriceAcceptance, strikeAcceptance, ChangeOutcome, changed, repriced, stricken}
 use Rattle.reprice.specs.Changes.{Named, RightChange, WrongChange, ChangeOwes, Leaves}
 
 -- the test of 9
@@ -52,7 +51,7 @@ module _ (c : Columns) (e : ℕ) where
       go false s = refl
 
 -- a change answers what its tests do
-changed-result : (m : Measure) (c : Columns) (a : Answers) (e w : ℕ) (x : Answer) → changed m c a e w x .result ≡ x
+changed-result : (m : Measure) (c : Columns) (a : Answers) (e w : ℕ) (x : Acceptance) → changed m c a e w x .result ≡ x
 changed-result m c a e w Accepted = refl
 changed-result m c a e w (Refused r) = refl
 
@@ -66,7 +65,7 @@ stricken-result m c a e = changed-result m c a e struck (strikeAcceptance m c a 
 
 -- a change of line e behind a test of the figure that passes exactly if Low
 module _ (m : Measure) (c : Columns) (a : Answers) (e : ℕ) (b : Bool) (Low : Type 0) (low : b ≡ true → Low) (high : b ≡ false → ¬ Low) where
-  abbrev chain : Answer
+  abbrev chain : Acceptance
   chain = andThen (lineAcceptance c a e) (test b NewWeight (answersAcceptance m c a))
 
   passed : Low → b ≡ true
@@ -94,7 +93,7 @@ module _ (m : Measure) (c : Columns) (a : Answers) (e : ℕ) (b : Bool) (Low : T
       let l = lent-exactly c a .0 (t .0) in
       let n = stands-named c e (test-passed (stands c e) NoSuchEdge Accepted (t .1) .0) in
       test-refuses b _ _ (λ h. WrongChange.figure l n (high h)) (λ h.
-      test-refuses (same a (answersOf m c)) _ _ (λ s. WrongChange.answers l n (low h) (same-fails m c a (t .0) .0 s)) (λ _. none-refuses)))
+      test-refuses (sameAnswers a (answersOf m c)) _ _ (λ s. WrongChange.answers l n (low h) (same-fails m c a (t .0) .0 s)) (λ _. none-refuses)))
 
   wrong-chain : {r : Refusal} → WrongChange m c a e Low r → chain ≡ Refused r
   unfolding lineAcceptance
@@ -113,7 +112,7 @@ module _ (m : Measure) (c : Columns) (a : Answers) (e : ℕ) (b : Bool) (Low : T
         lent = lent-exactly c a .0 (l .0);
         named = stands-named c e (test-passed (stands c e) NoSuchEdge Accepted (l .1) .0);
         low = low (f .0);
-        answers = same-exactly m c a (l .0) .0 (test-passed (same a (answersOf m c)) WrongAnswers Accepted (f .1) .0);
+        answers = same-exactly m c a (l .0) .0 (test-passed (sameAnswers a (answersOf m c)) WrongAnswers Accepted (f .1) .0);
       }
 
   right-chain : RightChange m c a e Low → chain ≡ Accepted
@@ -122,20 +121,20 @@ module _ (m : Measure) (c : Columns) (a : Answers) (e : ℕ) (b : Bool) (Low : T
 
   -- what it leaves, storing w
   module _ (w : ℕ) where
-    abbrev left : Change
+    abbrev left : ChangeOutcome
     left = changed m c a e w chain
 
     change-owes : ChangeOwes m c a e w Low left
     change-owes = go chain refl
       where
-        go : (x : Answer) → chain ≡ x → ChangeOwes m c a e w Low (changed m c a e w x)
+        go : (x : Acceptance) → chain ≡ x → ChangeOwes m c a e w Low (changed m c a e w x)
         go Accepted p = Owed.accepted (chain-right p)
         go (Refused r) p = Owed.refused (chain-wrong .holds p)
 
     change-leaves : (Low → w ≤ struck) → left .result ≡ Accepted → Leaves m c e w (left .own) (left .left)
     change-leaves k q = go chain refl q
       where
-        go : (x : Answer) → chain ≡ x → changed m c a e w x .result ≡ Accepted → Leaves m c e w (changed m c a e w x .own) (changed m c a e w x .left)
+        go : (x : Acceptance) → chain ≡ x → changed m c a e w x .result ≡ Accepted → Leaves m c e w (changed m c a e w x .own) (changed m c a e w x .left)
         go (Refused r) p f = absurd (refused f)
         go Accepted p f =
             let g = chain-right p in
@@ -181,7 +180,7 @@ module _ (m : Measure) (c : Columns) (a : Answers) (e : ℕ) where
   never : true ≡ false → ¬ Unit {0}
   never p u = let z : _≡_ {A = ℕ} 0 1 = cc in omega arith
 
-  -- "and strike an unstruck line": the same, with no figure to test
+  -- "and strike an unstruck line": the sameAnswers, with no figure to test
   pub strike-exactly : (strikeAcceptance m c a e ≡ Accepted) ↔ RightChange m c a e (Unit {0})
   unfolding strikeAcceptance
   strike-exactly = (chain-right m c a e true (Unit {0}) ok never, right-chain m c a e true (Unit {0}) ok never)

@@ -17,16 +17,16 @@ use Rattle.weights.specs.Figures.{greatest, over, isStruck}
 use Rattle.weights.specs.Measures.{algebra, cost}
 use Rattle.weights.specs.Labels.{entryOf}
 use Rattle.weights.proofs.Laws.{lawful, cost-lawful, below-over}
-use Rattle.refusal.specs.declared.Answer.the-variants.{Accepted}
+use Rattle.refusal.specs.declared.Acceptance.the-variants.{Accepted}
 use Rattle.provenance.specs.Hypergraph.{Hypergraph, Derivation, listing}
 use Rattle.provenance.specs.Labelling.{Made, Fixpoint}
 use Rattle.provenance.specs.Means.{Follows}
-use Rattle.provenance.specs.BestFirst.{Answers}
+use Rattle.columns.specs.Columns.{Answers, Columns, ownAt, withOwn}
 use Rattle.provenance.proofs.Existence.{label-within}
 use Rattle.provenance.specs.Counting.{count, Raised}
 use Rattle.provenance.proofs.Sensitivity.{same-made, cost-rise, days-rise}
-use Rattle.provenance.specs.Sensitivity.{Within}
-use Rattle.columns.specs.Columns.{Columns, ownAt, withOwn, hypergraph}
+use Rattle.provenance.specs.Sensitivity.{MadeWithin}
+use Rattle.tables.specs.Table.{hypergraph}
 use Rattle.columns.specs.Acceptance.{acceptance}
 use Rattle.columns.proofs.Accepted.{table-accepted, columns-accept}
 use Rattle.columns.proofs.Same.{same-refl}
@@ -67,7 +67,7 @@ record Told (l : Label) : Type 0 where
 made-told : (l : Label) → entryOf l .state ≡ state.Made → Told l
 made-told l p = let t = made-state (l .weight .0) (l .depth) .0 p in record { deep = t .0; low = t .1 }
 
-within : {H : Hypergraph} {own : ℕ → ℕ} {ls : ℕ → Label} → Fixpoint cost H own ls → (v : ℕ) → Told (ls v) → Within (ls v)
+within : {H : Hypergraph} {own : ℕ → ℕ} {ls : ℕ → Label} → Fixpoint cost H own ls → (v : ℕ) → Told (ls v) → MadeWithin (ls v)
 within {ls = ls} fix v t =
     let k : Made (ls v) = record { deep = t .deep } in
     let n : ¬ (ls v .weight .0 ≡ over) = t .low in

@@ -11,17 +11,16 @@ use Rattle.weights.proofs.Choice.{both-true}
 use Rattle.weights.specs.Figures.{greatest, struck, isStruck}
 use Rattle.refusal.specs.declared.Refusal.{Refusal}
 use Rattle.refusal.specs.declared.Refusal.the-variants.{WrongAnswers, NoSuchEdge, NewWeight}
-use Rattle.refusal.specs.declared.Answer.{Answer}
-use Rattle.refusal.specs.declared.Answer.the-variants.{Accepted, Refused}
-use Rattle.provenance.specs.BestFirst.{Answers}
-use Rattle.columns.specs.Columns.{Columns, columns, ownAt, withOwn}
+use Rattle.refusal.specs.declared.Acceptance.{Acceptance}
+use Rattle.refusal.specs.declared.Acceptance.the-variants.{Accepted, Refused}
+use Rattle.columns.specs.Columns.{Answers, Columns, columns, ownAt, withOwn}
 use Rattle.columns.specs.Acceptance.{lentAcceptance}
 use Rattle.columns.proofs.Accepted.{AcceptedColumns, test-passed, both-accepted, columns-accepted, table-accepted}
 use Rattle.columns.proofs.Repriced.{acceptance-kept}
-use Rattle.columns.specs.Same.{same}
+use Rattle.columns.specs.Same.{sameAnswers}
 use Rattle.settle.specs.Settling.{answersOf}
 use Rattle.settle.proofs.Settled.{told-accepted, told-answers}
-use Rattle.reprice.specs.Repricing.{stands, lineAcceptance, answersAcceptance, repriceAcceptance, strikeAcceptance, Change, changed, Changeable, repriced, stricken}
+use Rattle.reprice.specs.Repricing.{stands, lineAcceptance, answersAcceptance, repriceAcceptance, strikeAcceptance, ChangeOutcome, changed, Changeable, repriced, stricken}
 
 -- an accepted line
 module _ (c : Columns) (a : Answers) (e : ℕ) (p : lineAcceptance c a e ≡ Accepted) where
@@ -54,19 +53,19 @@ module _ (c : Columns) (a : Answers) (e w : ℕ) (h : Changeable c a e w) where
   change-accepted = told-accepted (withOwn c e w) a kept
 
   module _ (m : Measure) where
-    pub change-made : {b : Answers} → same a (answersOf m c) ≡ true → b ≡ answersOf m told → record { result = Accepted; own = told .own; left = b } ≡ changed m c a e w (answersAcceptance m c a)
+    pub change-made : {b : Answers} → sameAnswers a (answersOf m c) ≡ true → b ≡ answersOf m told → record { result = Accepted; own = told .own; left = b } ≡ changed m c a e w (answersAcceptance m c a)
     change-made q r = rw (q, told-answers (withOwn c e w) a kept m r)
 
-    pub change-refused : same a (answersOf m c) ≡ false → record { result = Refused WrongAnswers; own = c .own; left = a } ≡ changed m c a e w (answersAcceptance m c a)
+    pub change-refused : sameAnswers a (answersOf m c) ≡ false → record { result = Refused WrongAnswers; own = c .own; left = a } ≡ changed m c a e w (answersAcceptance m c a)
     change-refused q = rw q
 
 module _ (m : Measure) (c : Columns) (a : Answers) (e : ℕ) where
   -- a change is made of its acceptance
-  pub reprice-by : (w : ℕ) {x : Answer} {r : Change} → r ≡ changed m c a e w x → x ≡ repriceAcceptance m c a e w → r ≡ repriced m c a e w
+  pub reprice-by : (w : ℕ) {x : Acceptance} {r : ChangeOutcome} → r ≡ changed m c a e w x → x ≡ repriceAcceptance m c a e w → r ≡ repriced m c a e w
   unfolding repriced
   reprice-by w q p = q ∙ ap (changed m c a e w) p
 
-  pub strike-by : {x : Answer} {r : Change} → r ≡ changed m c a e struck x → x ≡ strikeAcceptance m c a e → r ≡ stricken m c a e
+  pub strike-by : {x : Acceptance} {r : ChangeOutcome} → r ≡ changed m c a e struck x → x ≡ strikeAcceptance m c a e → r ≡ stricken m c a e
   unfolding stricken
   strike-by q p = q ∙ ap (changed m c a e struck) p
 

@@ -8,10 +8,10 @@ use Rattle.weights.specs.declared.Measure.{Measure}
 use Rattle.weights.specs.Figures.{struck}
 use Rattle.refusal.specs.declared.Refusal.{Refusal}
 use Rattle.refusal.specs.declared.Refusal.the-variants.{WrongAnswers, NoSuchEdge, NewWeight}
-use Rattle.refusal.specs.declared.Answer.the-variants.{Accepted, Refused}
+use Rattle.refusal.specs.declared.Acceptance.the-variants.{Accepted, Refused}
 use Rattle.refusal.specs.declared.Verdict.the-variants.{Yes}
-use Rattle.provenance.specs.BestFirst.{Answers, labels}
-use Rattle.columns.specs.Columns.{Columns, ownAt, withOwn}
+use Rattle.columns.specs.Columns.{Answers, Columns, ownAt, withOwn}
+use Rattle.provenance.specs.BestFirst.{labels}
 use Rattle.columns.specs.Acceptance.{acceptance}
 use Rattle.columns.specs.Owed.{Owed}
 use Rattle.columns.specs.Right.{RightLent, WrongLent}
@@ -20,7 +20,7 @@ use Rattle.settle.specs.Checking.{checked}
 use Rattle.settle.specs.Demands.{Demand2}
 use Rattle.settle.specs.Defined.{AllMean}
 use Rattle.settle.specs.States.{StateMeans}
-use Rattle.reprice.specs.Repricing.{Change}
+use Rattle.reprice.specs.Repricing.{ChangeOutcome}
 
 -- line e exists and is not struck
 pub record Named (c : Columns) (e : ℕ) : Type 0 where
@@ -49,7 +49,7 @@ abbrev pub lentTo : List ℕ → Answers → Lent
 lentTo own a = record { own = own; answers = a }
 
 -- demand 1 of a change of line e to w that had this outcome
-abbrev pub ChangeOwes : Measure → Columns → Answers → (e w : ℕ) (Low : Type 0) → Change → Type 0
+abbrev pub ChangeOwes : Measure → Columns → Answers → (e w : ℕ) (Low : Type 0) → ChangeOutcome → Type 0
 ChangeOwes m c a e w Low o =
     Owed Refused (lentTo (c .own) a) (RightChange m c a e Low) (λ _. Accepted) (λ _. lentTo (set (c .own) e w) (answersOf m (withOwn c e w))) (WrongChange m c a e Low)
     (o .result) (lentTo (o .own) (o .left))

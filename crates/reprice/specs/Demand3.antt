@@ -14,13 +14,14 @@ use Rattle.weights.specs.declared.State.the-variants.{Made, Unmade}
 use Rattle.weights.specs.declared.Label.{Label}
 use Rattle.weights.specs.Figures.{isStruck}
 use Rattle.weights.specs.Labels.{entryOf}
-use Rattle.refusal.specs.declared.Answer.the-variants.{Accepted}
+use Rattle.refusal.specs.declared.Acceptance.the-variants.{Accepted}
 use Rattle.provenance.specs.Hypergraph.{Derivation, listing}
 use Rattle.provenance.specs.Means.{Follows}
-use Rattle.provenance.specs.BestFirst.{Answers, labels}
+use Rattle.columns.specs.Columns.{Answers, Columns, ownAt, withOwn}
+use Rattle.provenance.specs.BestFirst.{labels}
 use Rattle.provenance.specs.Counting.{count}
 use Rattle.provenance.specs.Sensitivity.{CostRise, DaysRise}
-use Rattle.columns.specs.Columns.{Columns, ownAt, withOwn, hypergraph}
+use Rattle.tables.specs.Table.{hypergraph}
 use Rattle.columns.specs.Acceptance.{acceptance}
 use Rattle.settle.specs.Settling.{answersOf, settled}
 use Rattle.settle.specs.Demands.{Demand2}

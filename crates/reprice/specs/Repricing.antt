@@ -8,13 +8,12 @@ use Rattle.weights.specs.declared.Measure.{Measure}
 use Rattle.weights.specs.Choice.{pick}
 use Rattle.weights.specs.Figures.{greatest, struck, isStruck}
 use Rattle.refusal.specs.declared.Refusal.the-variants.{WrongAnswers, NoSuchEdge, NewWeight}
-use Rattle.refusal.specs.declared.Answer.{Answer}
-use Rattle.refusal.specs.declared.Answer.the-variants.{Accepted, Refused}
-use Rattle.provenance.specs.BestFirst.{Answers}
-use Rattle.columns.specs.Columns.{Columns, ownAt, withOwn}
+use Rattle.refusal.specs.declared.Acceptance.{Acceptance}
+use Rattle.refusal.specs.declared.Acceptance.the-variants.{Accepted, Refused}
+use Rattle.columns.specs.Columns.{Answers, Columns, ownAt, withOwn}
 use Rattle.columns.specs.Acceptance.{test, andThen, lentAcceptance}
 use Rattle.columns.proofs.Accepted.{AcceptedColumns}
-use Rattle.columns.specs.Same.{same}
+use Rattle.columns.specs.Same.{sameAnswers}
 use Rattle.settle.specs.Settling.{answersOf}
 
 -- line e exists and is not struck
@@ -22,29 +21,29 @@ abbrev pub stands : Columns → ℕ → Bool
 stands c e = pick (ltb e (length (c .heads))) (not (isStruck (ownAt c e))) false
 
 -- 1 to 6, 7, then 9
-unfoldable pub lineAcceptance : Columns → Answers → ℕ → Answer
+unfoldable pub lineAcceptance : Columns → Answers → ℕ → Acceptance
 lineAcceptance c a e = andThen (lentAcceptance c a) (test (stands c e) NoSuchEdge Accepted)
 
 -- 8: the lent answers are this table's
-abbrev pub answersAcceptance : Measure → Columns → Answers → Answer
-answersAcceptance m c a = test (same a (answersOf m c)) WrongAnswers Accepted
+abbrev pub answersAcceptance : Measure → Columns → Answers → Acceptance
+answersAcceptance m c a = test (sameAnswers a (answersOf m c)) WrongAnswers Accepted
 
 -- repricing line e to w: 1 to 6, 7, 9, 10, 8
-unfoldable pub repriceAcceptance : Measure → Columns → Answers → (e w : ℕ) → Answer
+unfoldable pub repriceAcceptance : Measure → Columns → Answers → (e w : ℕ) → Acceptance
 repriceAcceptance m c a e w = andThen (lineAcceptance c a e) (test (leb w greatest) NewWeight (answersAcceptance m c a))
 
--- striking line e: the same without 10
-unfoldable pub strikeAcceptance : Measure → Columns → Answers → ℕ → Answer
+-- striking line e: the sameAnswers without 10
+unfoldable pub strikeAcceptance : Measure → Columns → Answers → ℕ → Acceptance
 strikeAcceptance m c a e = andThen (lineAcceptance c a e) (answersAcceptance m c a)
 
 -- what a change returns, and the own figures and answers as it leaves them; all other columns are lent to be read alone
-pub record Change : Type 0 where
-  pub result : Answer
+pub record ChangeOutcome : Type 0 where
+  pub result : Acceptance
   pub own : List ℕ
   pub left : Answers
 
 -- on acceptance the own figure of line e is w, and the answers are those of the table as it then is; on a refusal nothing has changed
-abbrev pub changed : Measure → Columns → Answers → (e w : ℕ) → Answer → Change
+abbrev pub changed : Measure → Columns → Answers → (e w : ℕ) → Acceptance → ChangeOutcome
 changed m c a e w Accepted = record { result = Accepted; own = set (c .own) e w; left = answersOf m (withOwn c e w) }
 changed m c a e w (Refused r) = record { result = Refused r; own = c .own; left = a }
 
@@ -54,8 +53,8 @@ pub record Changeable (c : Columns) (a : Answers) (e w : ℕ) : Type 0 where
   pub placed : e < length (c .own)
   pub allowed : w ≤ struck
 
-unfoldable pub repriced : Measure → Columns → Answers → (e w : ℕ) → Change
+unfoldable pub repriced : Measure → Columns → Answers → (e w : ℕ) → ChangeOutcome
 repriced m c a e w = changed m c a e w (repriceAcceptance m c a e w)
 
-unfoldable pub stricken : Measure → Columns → Answers → ℕ → Change
+unfoldable pub stricken : Measure → Columns → Answers → ℕ → ChangeOutcome
 stricken m c a e = changed m c a e struck (strikeAcceptance m c a e)

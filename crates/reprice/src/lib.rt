@@ -1,6 +1,6 @@
 // Repricing and striking a line. Everything is checked before anything lent is written; then the
 // figure is stored and the table labelled anew.
-use refusal::Answer;
+use refusal::Acceptance;
 use refusal::Refusal;
 use weights::Hyperedge;
 use weights::Measure;
@@ -20,24 +20,24 @@ fn check_line(
     depths: &[u64],
     edges: &[u64],
     line: Hyperedge,
-) -> Answer
+) -> Acceptance
     ensures { λ r. ⌜ r ≡ lineAcceptance (columns n (now (heads .entry)) (now (own .entry)) (now (spans .entry)) (now (tails .entry))) (answers (now (weights .entry)) (now (depths .entry)) (now (edges .entry))) (line .0) ⌝ }
 {
     let a = columns::check_lent(n, heads, own, spans, tails, weights, depths, edges);
     match a {
-        Answer::Refused(r) => return Answer::Refused(r),
-        Answer::Accepted => {}
+        Acceptance::Refused(r) => return Acceptance::Refused(r),
+        Acceptance::Accepted => {}
     }
     if line.0 >= heads.len() as u64 {
-        return Answer::Refused(Refusal::NoSuchEdge);
+        return Acceptance::Refused(Refusal::NoSuchEdge);
     }
     let i = line.0 as usize;
     let figure = own[i];
     let weight = Weight(figure);
     if weight.is_struck() {
-        return Answer::Refused(Refusal::NoSuchEdge);
+        return Acceptance::Refused(Refusal::NoSuchEdge);
     }
-    Answer::Accepted
+    Acceptance::Accepted
 }
 
 // The line's own figure becomes this one, and the answers those of the table as it then is, which is
@@ -54,17 +54,17 @@ fn change(
     edges: &mut [u64],
     line: Hyperedge,
     figure: Weight,
-) -> Answer
+) -> Acceptance
     requires { ⌜ Changeable (columns n (now heads) (now own) (now spans) (now tails)) (answers (now weights) (now depths) (now edges)) (line .0) (figure .0) ⌝ }
     ensures { λ r. ⌜ record { result = r; own = now (own .exit); left = answers (now (weights .exit)) (now (depths .exit)) (now (edges .exit)) } ≡ changed measure (columns n (now (heads .entry)) (now (own .entry)) (now (spans .entry)) (now (tails .entry))) (answers (now (weights .entry)) (now (depths .entry)) (now (edges .entry))) (line .0) (figure .0) (answersAcceptance measure (columns n (now (heads .entry)) (now (own .entry)) (now (spans .entry)) (now (tails .entry))) (answers (now (weights .entry)) (now (depths .entry)) (now (edges .entry)))) ⌝ }
 {
     if !settle::answers_right(measure, n, heads, own, spans, tails, weights, depths, edges) {
-        return Answer::Refused(Refusal::WrongAnswers);
+        return Acceptance::Refused(Refusal::WrongAnswers);
     }
     let i = line.0 as usize;
     own[i] = figure.0;
     settle::label(measure, heads, own, spans, tails, weights, depths, edges);
-    Answer::Accepted
+    Acceptance::Accepted
 }
 
 // The line's own figure becomes this one, and the answers those of the table as it then is; or a
@@ -81,16 +81,16 @@ pub fn reprice(
     edges: &mut [u64],
     line: Hyperedge,
     figure: Weight,
-) -> Answer
+) -> Acceptance
     ensures { λ r. ⌜ record { result = r; own = now (own .exit); left = answers (now (weights .exit)) (now (depths .exit)) (now (edges .exit)) } ≡ repriced measure (columns n (now (heads .entry)) (now (own .entry)) (now (spans .entry)) (now (tails .entry))) (answers (now (weights .entry)) (now (depths .entry)) (now (edges .entry))) (line .0) (figure .0) ⌝ }
 {
     let a = check_line(n, heads, own, spans, tails, weights, depths, edges, line);
     match a {
-        Answer::Refused(r) => return Answer::Refused(r),
-        Answer::Accepted => {}
+        Acceptance::Refused(r) => return Acceptance::Refused(r),
+        Acceptance::Accepted => {}
     }
     if figure.0 > Weight::GREATEST.0 {
-        return Answer::Refused(Refusal::NewWeight);
+        return Acceptance::Refused(Refusal::NewWeight);
     }
     change(
         measure,
@@ -120,13 +120,13 @@ pub fn strike(
     depths: &mut [u64],
     edges: &mut [u64],
     line: Hyperedge,
-) -> Answer
+) -> Acceptance
     ensures { λ r. ⌜ record { result = r; own = now (own .exit); left = answers (now (weights .exit)) (now (depths .exit)) (now (edges .exit)) } ≡ stricken measure (columns n (now (heads .entry)) (now (own .entry)) (now (spans .entry)) (now (tails .entry))) (answers (now (weights .entry)) (now (depths .entry)) (now (edges .entry))) (line .0) ⌝ }
 {
     let a = check_line(n, heads, own, spans, tails, weights, depths, edges, line);
     match a {
-        Answer::Refused(r) => return Answer::Refused(r),
-        Answer::Accepted => {}
+        Acceptance::Refused(r) => return Acceptance::Refused(r),
+        Acceptance::Accepted => {}
     }
     change(
         measure,

@@ -14,12 +14,12 @@ use Rattle.refusal.specs.declared.Refusal.{Refusal}
 use Rattle.refusal.specs.declared.Refusal.the-variants.{TextRoom}
 use Rattle.refusal.specs.declared.Header.{Header}
 use Rattle.refusal.specs.declared.Reading.the-variants as reading
-use Rattle.refusal.specs.declared.Answer.{Answer}
-use Rattle.refusal.specs.declared.Answer.the-variants.{Accepted, Refused}
+use Rattle.refusal.specs.declared.Acceptance.{Acceptance}
+use Rattle.refusal.specs.declared.Acceptance.the-variants.{Accepted, Refused}
 use Rattle.refusal.specs.declared.Extent.the-variants as extent
 use Rattle.columns.specs.Columns.{Columns, columns}
 use Rattle.columns.specs.Acceptance.{acceptance}
-use Rattle.text.specs.Tables.{Edge, Table, tableOf, total, headsOf, ownsOf, spansFrom, tailsOf, columnsOf, closed}
+use Rattle.text.specs.Tables.{Edge, Table, tableOf, listedInAll, headsOf, ownsOf, spansFrom, tailsOf, columnsOf, closed}
 use Rattle.text.specs.Render.{tableText, render}
 use Rattle.text.specs.Machine.{Parse, Whole, Wrong, parse}
 use Rattle.text.proofs.Rows.{edges-of-columns, accepted-fits, fits-accepted, length-heads, length-owns, length-spans, length-tails}
@@ -49,7 +49,7 @@ roomy u h o s t r =
     let v = r .spans in
     let w = r .tails in
     rw (le-leb (length (u .edges)) (length h) (omega arith), le-leb (length (u .edges)) (length o) (omega arith), le-leb (2 * length (u .edges)) (length s) (omega arith))
-    (le-leb (total (u .edges)) (length t) (omega arith))
+    (le-leb (listedInAll (u .edges)) (length t) (omega arith))
 
 -- a text that holds a table is read into columns that have room for it
 pub read-table : (text : List ℕ) (u : Table) (h o s t : List ℕ) → parse text ≡ Whole u → Room (columnsOf (u .vertices) (u .edges)) h o s t
@@ -84,7 +84,7 @@ text-there text room k e = go (leb (length text) (length room)) e
 pub written : (m : Measure) (c : Columns) (room : List ℕ) (k : ℕ) → writeTable m c room .answer ≡ extent.Length k → (acceptance c ≡ Accepted) × (take k (writeTable m c room .room) ≡ render m c)
 written m c room k e = go (acceptance c) refl e
   where
-    go : (a : Answer) → acceptance c ≡ a → writeAs a (render m c) room .answer ≡ extent.Length k → (acceptance c ≡ Accepted) × (take k (writeAs a (render m c) room .room) ≡ render m c)
+    go : (a : Acceptance) → acceptance c ≡ a → writeAs a (render m c) room .answer ≡ extent.Length k → (acceptance c ≡ Accepted) × (take k (writeAs a (render m c) room .room) ≡ render m c)
     go Accepted p q = (p, text-there (render m c) room k q)
     go (Refused r) p q = absurd (no-length q)
 
@@ -125,8 +125,8 @@ module _ (text h o s t : List ℕ) (g : Header) (k : Held text h o s t g) where
   pub columns-are : columnsRead g (readTable text h o s t) ≡ columnsOf (k .table .vertices) es
   columns-are =
       ap₂ columnsRead (k .header-of) (k .outcome)
-      ∙ ap₂ (λ (a b : List ℕ). columns (k .table .vertices) a b (take (2 * length es) (filled (spansFrom 0 es) s)) (take (total es) (filled (tailsOf es) t))) (take-filled (headsOf es) h (length es) (length-heads es)) (take-filled (ownsOf es) o (length es) (length-owns es))
-      ∙ ap₂ (λ (a b : List ℕ). columns (k .table .vertices) (headsOf es) (ownsOf es) a b) (take-filled (spansFrom 0 es) s (2 * length es) (length-spans 0 es)) (take-filled (tailsOf es) t (total es) (length-tails es))
+      ∙ ap₂ (λ (a b : List ℕ). columns (k .table .vertices) a b (take (2 * length es) (filled (spansFrom 0 es) s)) (take (listedInAll es) (filled (tailsOf es) t))) (take-filled (headsOf es) h (length es) (length-heads es)) (take-filled (ownsOf es) o (length es) (length-owns es))
+      ∙ ap₂ (λ (a b : List ℕ). columns (k .table .vertices) (headsOf es) (ownsOf es) a b) (take-filled (spansFrom 0 es) s (2 * length es) (length-spans 0 es)) (take-filled (tailsOf es) t (listedInAll es) (length-tails es))
 
   accepted-again : acceptance (columnsRead g (readTable text h o s t)) ≡ Accepted
   accepted-again = ap acceptance columns-are ∙ fits-accepted (k .table) (sound text (k .table) (k .whole) .0)
@@ -143,7 +143,7 @@ pub write-after-read : (text h o s t room : List ℕ) (g : Header) → readTable
 unfolding writeText
 write-after-read text h o s t room g e l =
     let k = held text h o s t g e in
-    ap (λ (a : Answer). writeAs a (render (g .measure) (columnsRead g (readTable text h o s t))) room) (accepted-again text h o s t g k)
+    ap (λ (a : Acceptance). writeAs a (render (g .measure) (columnsRead g (readTable text h o s t))) room) (accepted-again text h o s t g k)
     ∙ ap (λ (z : List ℕ). writeText z room) (text-again text h o s t g k)
     ∙ rw (le-leb (length text) (length room) l)
 

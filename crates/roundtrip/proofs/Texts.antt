@@ -15,7 +15,7 @@ use Rattle.refusal.specs.declared.Refusal.the-variants.{Text, TextRoom}
 use Rattle.refusal.specs.declared.Reading.the-variants as reading
 use Rattle.columns.specs.Columns.{Columns}
 use Rattle.columns.specs.Owed.{Owed}
-use Rattle.text.specs.Tables.{Table, total, tableOf, columnsOf, closed}
+use Rattle.text.specs.Tables.{Table, listedInAll, tableOf, columnsOf, closed}
 use Rattle.text.specs.Render.{Permitted}
 use Rattle.text.specs.Machine.{Parse, Whole, Wrong, parse}
 use Rattle.text.proofs.Rows.{length-heads, length-owns, length-spans, length-tails}
@@ -34,11 +34,11 @@ unfolding roomFor
 roomed u h o s t e =
     let a = both-true {a = leb (length (u .edges)) (length h)} e in
     let b = both-true {a = leb (length (u .edges)) (length o)} (a .1) in
-    let c = both-true {a = leb (2 * length (u .edges)) (length s)} {b = leb (total (u .edges)) (length t)} (b .1) in
+    let c = both-true {a = leb (2 * length (u .edges)) (length s)} {b = leb (listedInAll (u .edges)) (length t)} (b .1) in
     let p = leb-true (length (u .edges)) (length h) (a .0) in
     let q = leb-true (length (u .edges)) (length o) (b .0) in
     let v = leb-true (2 * length (u .edges)) (length s) (c .0) in
-    let w = leb-true (total (u .edges)) (length t) (c .1) in
+    let w = leb-true (listedInAll (u .edges)) (length t) (c .1) in
     let i = length-heads (u .edges) in
     let j = length-owns (u .edges) in
     let k = length-spans 0 (u .edges) in

@@ -10,38 +10,40 @@ use Rattle.weights.proofs.Choice.{apart}
 use Rattle.weights.specs.Measures.{algebra}
 use Rattle.weights.proofs.Laws.{lawful}
 use Rattle.refusal.specs.declared.Refusal.{Refusal}
-use Rattle.refusal.specs.declared.Answer.the-variants.{Accepted, Refused}
+use Rattle.refusal.specs.declared.Acceptance.the-variants.{Accepted, Refused}
 use Rattle.refusal.specs.declared.Verdict.the-variants as verdict
 use Rattle.provenance.specs.Labelling.{Fixpoint}
-use Rattle.provenance.specs.BestFirst.{Answers, labels}
+use Rattle.columns.specs.Columns.{Answers, Columns, ownAt}
+use Rattle.provenance.specs.BestFirst.{labels}
 use Rattle.provenance.proofs.Existence.{exists-shallow}
 use Rattle.provenance.specs.Local.{every, vertexRight, edgeRight}
 use Rattle.provenance.proofs.Local.{all-right, not-fixpoint, vertex-fails, edge-fails}
-use Rattle.columns.specs.Columns.{Columns, ownAt, hypergraph}
+use Rattle.tables.specs.Table.{hypergraph}
 use Rattle.columns.specs.Acceptance.{mostVertices, lentAcceptance, allBelow}
-use Rattle.columns.proofs.Accepted.{AcceptedColumns, table-accepted, well-formed, below-at, below-all}
-use Rattle.columns.specs.Same.{same}
+use Rattle.columns.proofs.Accepted.{AcceptedColumns, table-accepted, below-at, below-all}
+use Rattle.tables.proofs.Formed.{well-formed}
+use Rattle.columns.specs.Same.{sameAnswers}
 use Rattle.columns.proofs.Same.{same-refl, same-not}
-use Rattle.offers.specs.Lent.{Turning}
+use Rattle.columns.specs.Lent.{Turning}
 use Rattle.settle.specs.Settling.{answersOf}
 use Rattle.settle.specs.Checking.{verdict as judged, checked}
-use Rattle.offers.proofs.Usable.{same-table, turning-columns}
+use Rattle.columns.proofs.Usable.{same-table, turning-columns}
 
 module _ (m : Measure) (c : Columns) (a : Answers) where
   pub checked-refused : (r : Refusal) → lentAcceptance c a ≡ Refused r → verdict.Refused r ≡ checked m c a
   unfolding checked
   checked-refused r p = rw p
 
-  pub checked-told : (b : Bool) → lentAcceptance c a ≡ Accepted → same a (answersOf m c) ≡ b → judged Accepted b ≡ checked m c a
+  pub checked-told : (b : Bool) → lentAcceptance c a ≡ Accepted → sameAnswers a (answersOf m c) ≡ b → judged Accepted b ≡ checked m c a
   unfolding checked
   checked-told b p q = rw (p, q)
 
 module _ (m : Measure) (c : Columns) (a : Answers) (l : AcceptedColumns c a) where
-  others : ¬ (a ≡ answersOf m c) → false ≡ same a (answersOf m c)
+  others : ¬ (a ≡ answersOf m c) → false ≡ sameAnswers a (answersOf m c)
   others n = sym (same-not a (answersOf m c) n)
 
   -- a depth above the number of vertices is none of the table's
-  pub too-deep : allBelow (c .vertices + 1) (a .depths) ≡ false → false ≡ same a (answersOf m c)
+  pub too-deep : allBelow (c .vertices + 1) (a .depths) ≡ false → false ≡ sameAnswers a (answersOf m c)
   unfolding answersOf
   too-deep q =
       let low = exists-shallow (lawful m) (ownAt c) (well-formed c (l .table)) in
@@ -68,11 +70,11 @@ module _ (m : Measure) (c : Columns) (a : Answers) (l : AcceptedColumns c a) whe
   edges-at : {b : Bool} → edges ≡ b → every (edgeRight (algebra m) (hypergraph c) (ownAt c) (labels a)) (length (c .heads)) ≡ b
   edges-at {b} q = subst (λ (n : ℕ). every (edgeRight (algebra m) (hypergraph (same-table c n)) (ownAt c) (labels a)) (length (c .heads)) ≡ b) (l .sized .depths) q
 
-  fixpoint-only : ¬ Fixpoint (algebra m) (hypergraph c) (ownAt c) (labels a) → false ≡ same a (answersOf m c)
+  fixpoint-only : ¬ Fixpoint (algebra m) (hypergraph c) (ownAt c) (labels a) → false ≡ sameAnswers a (answersOf m c)
   unfolding answersOf
   fixpoint-only n = others (not-fixpoint (lawful m) (hypergraph c) (ownAt c) a (l .sized) (well-formed c (l .table)) n)
 
-  pub wrong-vertex : vertices ≡ false → false ≡ same a (answersOf m c)
+  pub wrong-vertex : vertices ≡ false → false ≡ sameAnswers a (answersOf m c)
   wrong-vertex q = fixpoint-only (vertex-fails (lawful m) (hypergraph c) (ownAt c) a (l .sized) (vertices-at q))
 
   right-all : vertices ≡ true → edges ≡ true → a ≡ answersOf m c
@@ -80,9 +82,9 @@ module _ (m : Measure) (c : Columns) (a : Answers) (l : AcceptedColumns c a) whe
   right-all p q = all-right (lawful m) (hypergraph c) (ownAt c) a (l .sized) (well-formed c (l .table)) (vertices-at p) (edges-at q)
 
   -- where every vertex is right, the hyperedges decide
-  pub edges-decide : vertices ≡ true → edges ≡ same a (answersOf m c)
+  pub edges-decide : vertices ≡ true → edges ≡ sameAnswers a (answersOf m c)
   edges-decide p = go edges refl
     where
-      go : (b : Bool) → edges ≡ b → b ≡ same a (answersOf m c)
-      go true q = subst (λ (x : Answers). true ≡ same a x) (right-all p q) (sym (same-refl a))
+      go : (b : Bool) → edges ≡ b → b ≡ sameAnswers a (answersOf m c)
+      go true q = subst (λ (x : Answers). true ≡ sameAnswers a x) (right-all p q) (sym (same-refl a))
       go false q = fixpoint-only (edge-fails (lawful m) (hypergraph c) (ownAt c) a (l .sized) (edges-at q))

@@ -7,22 +7,23 @@ use borrow.Author.Tests.{eq-eqb}
 use Rattle.weights.specs.declared.Measure.{Measure}
 use Rattle.weights.specs.Measures.{algebra}
 use Rattle.weights.proofs.Laws.{lawful}
-use Rattle.refusal.specs.declared.Answer.{Answer}
-use Rattle.refusal.specs.declared.Answer.the-variants.{Accepted, Refused}
+use Rattle.refusal.specs.declared.Acceptance.{Acceptance}
+use Rattle.refusal.specs.declared.Acceptance.the-variants.{Accepted, Refused}
 use Rattle.refusal.specs.declared.Refusal.{Refusal}
 use Rattle.refusal.specs.declared.Verdict.the-variants as verdict
 use Rattle.provenance.specs.Labelling.{Fixpoint}
 use Rattle.provenance.proofs.Support.{chosen, supports}
 use Rattle.provenance.proofs.Meaning.{meaning}
-use Rattle.provenance.specs.BestFirst.{Answers, labels}
-use Rattle.provenance.specs.Existence.{Sized}
+use Rattle.columns.specs.Columns.{Answers, Sized, Columns, ownAt}
+use Rattle.provenance.specs.BestFirst.{labels}
 use Rattle.provenance.proofs.Existence.{exists, exists-sized, exists-shallow}
 use Rattle.provenance.proofs.Semirings.{computes}
 use Rattle.provenance.proofs.Provenance.{provenance}
-use Rattle.columns.specs.Columns.{Columns, ownAt, hypergraph}
+use Rattle.tables.specs.Table.{hypergraph}
 use Rattle.columns.specs.Acceptance.{acceptance, lentAcceptance}
-use Rattle.columns.proofs.Accepted.{columns-accepted, well-formed}
-use Rattle.columns.specs.Same.{same}
+use Rattle.columns.proofs.Accepted.{columns-accepted}
+use Rattle.tables.proofs.Formed.{well-formed}
+use Rattle.columns.specs.Same.{sameAnswers}
 use Rattle.columns.proofs.Same.{same-refl, same-true}
 use Rattle.settle.specs.Settling.{answersOf, outcome, settled}
 use Rattle.settle.specs.Checking.{verdict, checked}
@@ -63,7 +64,7 @@ module _ (m : Measure) (c : Columns) (a : Answers) where
   unfolding settled
   settled-result = go (lentAcceptance c a)
     where
-      go : (r : Answer) → outcome r (answersOf m c) a .result ≡ r
+      go : (r : Acceptance) → outcome r (answersOf m c) a .result ≡ r
       go Accepted = refl
       go (Refused r) = refl
 
@@ -85,9 +86,9 @@ module _ (m : Measure) (c : Columns) (a : Answers) where
   -- the answer check says yes to the table's answers, and to nothing else
   pub yes-only : checked m c a ≡ verdict.Yes → a ≡ answersOf m c
   unfolding checked
-  yes-only e = go (lentAcceptance c a) (same a (answersOf m c)) refl e
+  yes-only e = go (lentAcceptance c a) (sameAnswers a (answersOf m c)) refl e
     where
-      go : (x : Answer) (b : Bool) → same a (answersOf m c) ≡ b → verdict x b ≡ verdict.Yes → a ≡ answersOf m c
+      go : (x : Acceptance) (b : Bool) → sameAnswers a (answersOf m c) ≡ b → verdict x b ≡ verdict.Yes → a ≡ answersOf m c
       go (Refused r) b q k = let z : _≡_ {A = ℕ} 0 1 = cc in absurd (omega arith)
       go Accepted true q k = same-true a (answersOf m c) q
       go Accepted false q k = let z : _≡_ {A = ℕ} 0 1 = cc in absurd (omega arith)
@@ -98,4 +99,4 @@ yes-settled m c a p =
     let q = sym (settled-result m c a) ∙ p in
     let t = columns-accepted c a q .table in
     let e = settled-left m c a q in
-    subst (λ (b : Answers). verdict (lentAcceptance c b) (same b (answersOf m c)) ≡ verdict.Yes) (sym e) (rw (lent-accepted m c (answersOf m c) t (answers-sized m c t), same-refl (answersOf m c)))
+    subst (λ (b : Answers). verdict (lentAcceptance c b) (sameAnswers b (answersOf m c)) ≡ verdict.Yes) (sym e) (rw (lent-accepted m c (answersOf m c) t (answers-sized m c t), same-refl (answersOf m c)))

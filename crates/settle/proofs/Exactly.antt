@@ -11,16 +11,17 @@ use Rattle.weights.proofs.Choice.{apart}
 use Rattle.weights.specs.Measures.{algebra}
 use Rattle.weights.proofs.Laws.{lawful}
 use Rattle.refusal.specs.declared.Refusal.{Refusal}
-use Rattle.refusal.specs.declared.Answer.{Answer}
-use Rattle.refusal.specs.declared.Answer.the-variants.{Accepted, Refused}
+use Rattle.refusal.specs.declared.Acceptance.{Acceptance}
+use Rattle.refusal.specs.declared.Acceptance.the-variants.{Accepted, Refused}
 use Rattle.refusal.specs.declared.Verdict.the-variants as verdict
 use Rattle.provenance.specs.Means.{Means}
 use Rattle.provenance.proofs.Meaning.{means-unique}
-use Rattle.provenance.specs.BestFirst.{Answers, labels}
-use Rattle.columns.specs.Columns.{Columns, ownAt, hypergraph}
+use Rattle.columns.specs.Columns.{Answers, Columns, ownAt}
+use Rattle.provenance.specs.BestFirst.{labels}
+use Rattle.tables.specs.Table.{hypergraph}
 use Rattle.columns.specs.Acceptance.{lentAcceptance}
 use Rattle.columns.proofs.Accepted.{columns-accepted}
-use Rattle.columns.specs.Same.{same}
+use Rattle.columns.specs.Same.{sameAnswers}
 use Rattle.columns.proofs.Same.{same-refl, same-true}
 use Rattle.settle.specs.Settling.{answersOf}
 use Rattle.settle.specs.Checking.{verdict as told, checked}
@@ -50,27 +51,27 @@ module _ (m : Measure) (c : Columns) (a : Answers) where
       λ i. record { weights = weights i; depths = depths i; edges = edges i }
 
   -- the test of 8, where the columns are accepted
-  pub same-exactly : lentAcceptance c a ≡ Accepted → (same a (answersOf m c) ≡ true) ↔ AllMean m c a
+  pub same-exactly : lentAcceptance c a ≡ Accepted → (sameAnswers a (answersOf m c) ≡ true) ↔ AllMean m c a
   same-exactly p = (
     λ q v h.
         let e = sym (same-true a (answersOf m c) q) in
         subst (λ (b : Answers). Means (algebra m) (hypergraph c) (ownAt c) (labels b v) v) e (answers-mean m c (columns-accepted c a p .table) v .means),
-    λ f. subst (λ (b : Answers). same a b ≡ true) (defined-answers (record { accepted = p; means = f })) (same-refl a),
+    λ f. subst (λ (b : Answers). sameAnswers a b ≡ true) (defined-answers (record { accepted = p; means = f })) (same-refl a),
   )
 
-  pub same-fails : lentAcceptance c a ≡ Accepted → (same a (answersOf m c) ≡ false) ↔ (¬ AllMean m c a)
-  same-fails p = (λ q f. apart (sym q ∙ same-exactly p .1 f), λ n. go (same a (answersOf m c)) refl n)
+  pub same-fails : lentAcceptance c a ≡ Accepted → (sameAnswers a (answersOf m c) ≡ false) ↔ (¬ AllMean m c a)
+  same-fails p = (λ q f. apart (sym q ∙ same-exactly p .1 f), λ n. go (sameAnswers a (answersOf m c)) refl n)
     where
-      go : (b : Bool) → same a (answersOf m c) ≡ b → ¬ AllMean m c a → b ≡ false
+      go : (b : Bool) → sameAnswers a (answersOf m c) ≡ b → ¬ AllMean m c a → b ≡ false
       go true q n = absurd (n (same-exactly p .0 q))
       go false q n = refl
 
-  yes-defined : (x : Answer) (b : Bool) → lentAcceptance c a ≡ x → same a (answersOf m c) ≡ b → told x b ≡ verdict.Yes → Defined m c a
+  yes-defined : (x : Acceptance) (b : Bool) → lentAcceptance c a ≡ x → sameAnswers a (answersOf m c) ≡ b → told x b ≡ verdict.Yes → Defined m c a
   yes-defined (Refused r) b p q e = yes-refusal e
   yes-defined Accepted false p q e = yes-not-no e
   yes-defined Accepted true p q e = record { accepted = p; means = same-exactly p .0 q }
 
-  no-defined : (x : Answer) (b : Bool) → lentAcceptance c a ≡ x → same a (answersOf m c) ≡ b → told x b ≡ verdict.No → (lentAcceptance c a ≡ Accepted) × ¬ AllMean m c a
+  no-defined : (x : Acceptance) (b : Bool) → lentAcceptance c a ≡ x → sameAnswers a (answersOf m c) ≡ b → told x b ≡ verdict.No → (lentAcceptance c a ≡ Accepted) × ¬ AllMean m c a
   no-defined (Refused r) b p q e = no-refusal e
   no-defined Accepted true p q e = yes-not-no (sym e)
   no-defined Accepted false p q e = (p, same-fails p .0 q)
@@ -78,9 +79,9 @@ module _ (m : Measure) (c : Columns) (a : Answers) where
   -- "yes exactly if they are the ones defined above, whoever wrote them"
   pub yes-exactly : (checked m c a ≡ verdict.Yes) ↔ Defined m c a
   unfolding checked
-  yes-exactly = (yes-defined (lentAcceptance c a) (same a (answersOf m c)) refl refl, λ d. rw (d .accepted, same-exactly (d .accepted) .1 (d .means)))
+  yes-exactly = (yes-defined (lentAcceptance c a) (sameAnswers a (answersOf m c)) refl refl, λ d. rw (d .accepted, same-exactly (d .accepted) .1 (d .means)))
 
   -- "Checking answers returns no, and not 8, for wrong ones"
   pub no-exactly : (checked m c a ≡ verdict.No) ↔ ((lentAcceptance c a ≡ Accepted) × ¬ AllMean m c a)
   unfolding checked
-  no-exactly = (no-defined (lentAcceptance c a) (same a (answersOf m c)) refl refl, λ d. rw (d .0, same-fails (d .0) .1 (d .1)))
+  no-exactly = (no-defined (lentAcceptance c a) (sameAnswers a (answersOf m c)) refl refl, λ d. rw (d .0, same-fails (d .0) .1 (d .1)))

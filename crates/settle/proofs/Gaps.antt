@@ -1,21 +1,22 @@
--- "Gaps may stand between spans and their contents are never looked at": a table with other contents in its gaps has the same answers, and settling and the
--- answer check have the same outcome, accepted or refused. Assumes nothing.
+-- "Gaps may stand between spans and their contents are never looked at": a table with other contents in its gaps has the sameAnswers answers, and settling and the
+-- answer check have the sameAnswers outcome, accepted or refused. Assumes nothing.
 use mathlib.Core.Path.{_≡_, refl, sym, _∙_, ap, ap₂}
 use mathlib.Core.List.{List}
 use Prim.Native.Nat.{ℕ}
 use Rattle.weights.specs.declared.Measure.{Measure}
 use Rattle.weights.specs.Measures.{algebra}
 use Rattle.refusal.specs.declared.Refusal.{Refusal}
-use Rattle.refusal.specs.declared.Answer.{Answer}
-use Rattle.refusal.specs.declared.Answer.the-variants.{Accepted, Refused}
+use Rattle.refusal.specs.declared.Acceptance.{Acceptance}
+use Rattle.refusal.specs.declared.Acceptance.the-variants.{Accepted, Refused}
 use Rattle.provenance.specs.Hypergraph.{Hypergraph}
-use Rattle.provenance.specs.BestFirst.{Answers, best-first}
-use Rattle.columns.specs.Columns.{Columns, ownAt}
+use Rattle.columns.specs.Columns.{Answers, Columns, ownAt}
+use Rattle.provenance.specs.BestFirst.{best-first}
 use Rattle.columns.specs.Acceptance.{acceptance, lentAcceptance}
 use Rattle.columns.proofs.Accepted.{columns-accepted}
-use Rattle.columns.specs.Same.{same}
+use Rattle.columns.specs.Same.{sameAnswers}
 use Rattle.columns.specs.Gaps.{Gapped, withTails}
-use Rattle.columns.proofs.Gaps.{gaps-lent, gaps-hypergraph}
+use Rattle.columns.proofs.Gaps.{gaps-lent}
+use Rattle.tables.proofs.Gaps.{gaps-hypergraph}
 use Rattle.settle.specs.Settling.{answersOf, outcome, settled}
 use Rattle.settle.specs.Checking.{verdict, checked}
 
@@ -28,16 +29,16 @@ module _ (m : Measure) (c : Columns) (tails : List ℕ) (g : Gapped c tails) whe
   gaps-answers p = ap (λ (H : Hypergraph). best-first (algebra m) H (ownAt c)) (gaps-hypergraph c tails g p)
 
   -- an outcome that looks at the answers of an accepted table alone
-  alike : {B : Type 0} (f : Answer → Answers → B) (a : Answers) → ((r : Refusal) (x y : Answers) → f (Refused r) x ≡ f (Refused r) y)
+  alike : {B : Type 0} (f : Acceptance → Answers → B) (a : Answers) → ((r : Refusal) (x y : Answers) → f (Refused r) x ≡ f (Refused r) y)
       → f (lentAcceptance c a) (answersOf m c) ≡ f (lentAcceptance c′ a) (answersOf m c′)
   alike f a k = go (lentAcceptance c a) refl
     where
-      go : (x : Answer) → lentAcceptance c a ≡ x → f (lentAcceptance c a) (answersOf m c) ≡ f (lentAcceptance c′ a) (answersOf m c′)
+      go : (x : Acceptance) → lentAcceptance c a ≡ x → f (lentAcceptance c a) (answersOf m c) ≡ f (lentAcceptance c′ a) (answersOf m c′)
       go Accepted p = ap₂ f (gaps-lent c tails g a) (gaps-answers (columns-accepted c a p .table))
       go (Refused r) p =
-          ap (λ (x : Answer). f x (answersOf m c)) p
+          ap (λ (x : Acceptance). f x (answersOf m c)) p
           ∙ k r (answersOf m c) (answersOf m c′)
-          ∙ sym (ap (λ (x : Answer). f x (answersOf m c′)) (sym (gaps-lent c tails g a) ∙ p))
+          ∙ sym (ap (λ (x : Acceptance). f x (answersOf m c′)) (sym (gaps-lent c tails g a) ∙ p))
 
   pub gaps-settled : (a : Answers) → settled m c a ≡ settled m c′ a
   unfolding settled
@@ -45,4 +46,4 @@ module _ (m : Measure) (c : Columns) (tails : List ℕ) (g : Gapped c tails) whe
 
   pub gaps-checked : (a : Answers) → checked m c a ≡ checked m c′ a
   unfolding checked
-  gaps-checked a = alike (λ x b. verdict x (same a b)) a (λ r x y. refl)
+  gaps-checked a = alike (λ x b. verdict x (sameAnswers a b)) a (λ r x y. refl)

@@ -5,16 +5,15 @@ use native.Mathlib.Omega.{arith}
 use lib.ListN.{List·getD-eq-default}
 use Rattle.weights.specs.declared.Measure.{Measure}
 use Rattle.weights.specs.Labels.{label, unmade, entryOf}
-use Rattle.refusal.specs.declared.Answer.{Answer}
-use Rattle.refusal.specs.declared.Answer.the-variants.{Accepted, Refused}
+use Rattle.refusal.specs.declared.Acceptance.{Acceptance}
+use Rattle.refusal.specs.declared.Acceptance.the-variants.{Accepted, Refused}
 use Rattle.refusal.specs.declared.Verdict.the-variants as verdict
-use Rattle.provenance.specs.BestFirst.{Answers, labels}
-use Rattle.provenance.specs.Existence.{Sized}
-use Rattle.columns.specs.Columns.{Columns}
+use Rattle.columns.specs.Columns.{Answers, Sized, Columns}
+use Rattle.provenance.specs.BestFirst.{labels}
 use Rattle.columns.specs.Acceptance.{lentAcceptance}
 use Rattle.columns.specs.Owed.{Owed}
 use Rattle.columns.specs.Right.{RightLent, WrongLent}
-use Rattle.columns.specs.Same.{same}
+use Rattle.columns.specs.Same.{sameAnswers}
 use Rattle.columns.proofs.Exactly.{lent-exactly, lent-refused-exactly}
 use Rattle.settle.specs.Settling.{answersOf, outcome, settled}
 use Rattle.settle.specs.Checking.{verdict as told, checked}
@@ -25,18 +24,18 @@ module _ (m : Measure) (c : Columns) (a : Answers) where
   unfolding settled
   settle-owes = go (lentAcceptance c a) refl
     where
-      go : (x : Answer) → lentAcceptance c a ≡ x
+      go : (x : Acceptance) → lentAcceptance c a ≡ x
           → Owed Refused a (RightLent c a) (λ _. Accepted) (λ _. answersOf m c) (WrongLent c a) (outcome x (answersOf m c) a .result) (outcome x (answersOf m c) a .left)
       go Accepted p = Owed.accepted (lent-exactly c a .0 p)
       go (Refused r) p = Owed.refused (lent-refused-exactly c a r .0 p)
 
   -- check answers, which writes nothing: `yes-exactly` and `no-exactly` say which of the two
-  pub check-answers-owes : Owed verdict.Refused (tt {0}) (RightLent c a) (λ _. told Accepted (same a (answersOf m c))) (λ _. tt {0}) (WrongLent c a) (checked m c a) (tt {0})
+  pub check-answers-owes : Owed verdict.Refused (tt {0}) (RightLent c a) (λ _. told Accepted (sameAnswers a (answersOf m c))) (λ _. tt {0}) (WrongLent c a) (checked m c a) (tt {0})
   unfolding checked
   check-answers-owes = go (lentAcceptance c a) refl
     where
-      go : (x : Answer) → lentAcceptance c a ≡ x
-          → Owed verdict.Refused (tt {0}) (RightLent c a) (λ _. told Accepted (same a (answersOf m c))) (λ _. tt {0}) (WrongLent c a) (told x (same a (answersOf m c))) (tt {0})
+      go : (x : Acceptance) → lentAcceptance c a ≡ x
+          → Owed verdict.Refused (tt {0}) (RightLent c a) (λ _. told Accepted (sameAnswers a (answersOf m c))) (λ _. tt {0}) (WrongLent c a) (told x (sameAnswers a (answersOf m c))) (tt {0})
       go Accepted p = Owed.accepted (lent-exactly c a .0 p)
       go (Refused r) p = Owed.refused (lent-refused-exactly c a r .0 p)
 

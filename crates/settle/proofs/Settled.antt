@@ -7,15 +7,15 @@ use lib.ListN.{length, getD, replicate, length-replicate}
 use Rattle.weights.specs.declared.Measure.{Measure}
 use Rattle.weights.specs.Measures.{algebra}
 use Rattle.refusal.specs.declared.Refusal.{Refusal}
-use Rattle.refusal.specs.declared.Answer.the-variants.{Accepted, Refused}
-use Rattle.provenance.specs.BestFirst.{Answers, turns, best-first}
-use Rattle.provenance.specs.Existence.{Sized}
+use Rattle.refusal.specs.declared.Acceptance.the-variants.{Accepted, Refused}
+use Rattle.columns.specs.Columns.{Answers, Sized, Columns, answers, ownAt}
+use Rattle.provenance.specs.BestFirst.{turns, best-first}
 use Rattle.provenance.proofs.Existence.{zeros}
-use Rattle.columns.specs.Columns.{Columns, answers, ownAt, hypergraph}
+use Rattle.tables.specs.Table.{hypergraph}
 use Rattle.columns.specs.Acceptance.{mostVertices, lentAcceptance}
 use Rattle.columns.proofs.Accepted.{AcceptedColumns}
-use Rattle.offers.proofs.Usable.{same-table, turning-columns}
-use Rattle.bestfirst.specs.Turns.{Unmade}
+use Rattle.columns.proofs.Usable.{same-table, turning-columns}
+use Rattle.bestfirst.specs.Turns.{Blank}
 use Rattle.settle.specs.Settling.{answersOf, settled}
 
 module _ (m : Measure) (c : Columns) (a : Answers) where
@@ -42,7 +42,7 @@ module _ (m : Measure) (c : Columns) (a : Answers) where
     unfolding turns
     cleared = rw (p, q, r, h .sized .weights, h .sized .depths, h .sized .edges)
 
-    pub all-unmade : Unmade m (same-table c (length ds)) (answers ws ds es)
+    pub all-unmade : Blank m (same-table c (length ds)) (answers ws ds es)
     all-unmade =
         let long : Sized (c .vertices) (answers ws ds es) = record { weights = weights-long; depths = depths-long; edges = edges-long } in
         let low : (v : ℕ) → getD ds v 0 ≤ mostVertices = λ v. omega (arith, ap (λ (x : List ℕ). getD x v 0) q, zeros (length (a .depths)) v) in

@@ -16,13 +16,14 @@ use Rattle.weights.specs.Labels.{unmade, entryOf}
 use Rattle.weights.proofs.Laws.{at-most}
 use Rattle.weights.specs.Measures.{Algebra, algebra, cost, days, fold, weigh}
 use Rattle.weights.proofs.States.{unmade-state, over-state, made-state}
-use Rattle.refusal.specs.declared.Answer.the-variants.{Accepted}
+use Rattle.refusal.specs.declared.Acceptance.the-variants.{Accepted}
 use Rattle.provenance.specs.Hypergraph.{Hypergraph, Derivation, Derivations, node, none, more, weight, weights, depth, listing}
 use Rattle.provenance.specs.Means.{Means, Derivable, underivable, derivable}
-use Rattle.provenance.specs.BestFirst.{Answers, labels}
+use Rattle.columns.specs.Columns.{Answers, Columns, ownAt}
+use Rattle.provenance.specs.BestFirst.{labels}
 use Rattle.provenance.specs.Counting.{total}
 use Rattle.provenance.proofs.Sensitivity.{cost-total}
-use Rattle.columns.specs.Columns.{Columns, ownAt, hypergraph}
+use Rattle.tables.specs.Table.{hypergraph}
 use Rattle.columns.specs.Acceptance.{acceptance}
 use Rattle.columns.proofs.Accepted.{table-accepted, columns-accepted}
 use Rattle.settle.specs.Settling.{answersOf, settled}

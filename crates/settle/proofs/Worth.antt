@@ -5,11 +5,12 @@ use native.Mathlib.Omega.{arith}
 use Rattle.semiring.specs.Semiring.{finite}
 use Rattle.weights.specs.declared.Measure.the-variants.{Cost, Days}
 use Rattle.weights.specs.declared.Label.{Label}
-use Rattle.refusal.specs.declared.Answer.the-variants.{Accepted}
-use Rattle.provenance.specs.BestFirst.{Answers, labels}
+use Rattle.refusal.specs.declared.Acceptance.the-variants.{Accepted}
+use Rattle.columns.specs.Columns.{Answers, Columns, ownAt}
+use Rattle.provenance.specs.BestFirst.{labels}
 use Rattle.provenance.specs.Provenance.{HasProvenance, empty, worth}
 use Rattle.provenance.proofs.Semirings.{cost-computes, days-computes}
-use Rattle.columns.specs.Columns.{Columns, ownAt, hypergraph}
+use Rattle.tables.specs.Table.{hypergraph}
 use Rattle.settle.specs.Settling.{settled}
 use Rattle.settle.proofs.Demands.{demand-2}
 use Rattle.settle.specs.Worth.{Bottleneck, CostMeans, DaysMeans}

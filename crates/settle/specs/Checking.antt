@@ -1,21 +1,20 @@
 -- Checking answers: yes exactly if they are the table's. The paper's "The calls". Assumes nothing: these are definitions.
 use mathlib.Core.Bool.{Bool, true, false}
 use Rattle.weights.specs.declared.Measure.{Measure}
-use Rattle.refusal.specs.declared.Answer.{Answer}
-use Rattle.refusal.specs.declared.Answer.the-variants as answer
+use Rattle.refusal.specs.declared.Acceptance.{Acceptance}
+use Rattle.refusal.specs.declared.Acceptance.the-variants as answer
 use Rattle.refusal.specs.declared.Verdict.{Verdict}
 use Rattle.refusal.specs.declared.Verdict.the-variants.{Yes, No, Refused}
-use Rattle.provenance.specs.BestFirst.{Answers}
-use Rattle.columns.specs.Columns.{Columns}
+use Rattle.columns.specs.Columns.{Answers, Columns}
 use Rattle.columns.specs.Acceptance.{lentAcceptance}
-use Rattle.columns.specs.Same.{same}
+use Rattle.columns.specs.Same.{sameAnswers}
 use Rattle.settle.specs.Settling.{answersOf}
 
-abbrev pub verdict : Answer → Bool → Verdict
+abbrev pub verdict : Acceptance → Bool → Verdict
 verdict (answer.Refused r) b = Refused r
 verdict answer.Accepted true = Yes
 verdict answer.Accepted false = No
 
 -- yes if the lent answers are those of the table, and otherwise no, never 8
 unfoldable pub checked : Measure → Columns → Answers → Verdict
-checked m c a = verdict (lentAcceptance c a) (same a (answersOf m c))
+checked m c a = verdict (lentAcceptance c a) (sameAnswers a (answersOf m c))

@@ -4,10 +4,11 @@ use mathlib.Core.Path.{_≡_}
 use Prim.Native.Nat.{ℕ, _<_}
 use Rattle.weights.specs.declared.Measure.{Measure}
 use Rattle.weights.specs.Measures.{algebra}
-use Rattle.refusal.specs.declared.Answer.the-variants.{Accepted}
+use Rattle.refusal.specs.declared.Acceptance.the-variants.{Accepted}
 use Rattle.provenance.specs.Means.{Means}
-use Rattle.provenance.specs.BestFirst.{Answers, labels}
-use Rattle.columns.specs.Columns.{Columns, ownAt, hypergraph}
+use Rattle.columns.specs.Columns.{Answers, Columns, ownAt}
+use Rattle.provenance.specs.BestFirst.{labels}
+use Rattle.tables.specs.Table.{hypergraph}
 use Rattle.columns.specs.Acceptance.{lentAcceptance}
 
 -- every part's label is the one that the paper defines

@@ -9,7 +9,8 @@ use Rattle.provenance.specs.Support.{ChosenDerivation, Supports}
 use Rattle.provenance.proofs.Support.{chosen, supports}
 use Rattle.provenance.proofs.Semirings.{computes}
 use Rattle.provenance.specs.Provenance.{HasProvenance}
-use Rattle.columns.specs.Columns.{Columns, ownAt, hypergraph}
+use Rattle.columns.specs.Columns.{Columns, ownAt}
+use Rattle.tables.specs.Table.{hypergraph}
 
 -- the entry of part v: it means what the paper says; its figure is the provenance; if it is made, its chosen make-up is thrifty and has its figure and depth; and
 -- its depth is at most n

@@ -11,7 +11,8 @@ use Rattle.weights.specs.Figures.{ceiling}
 use Rattle.weights.specs.Labels.{entryOf}
 use Rattle.provenance.specs.Hypergraph.{Derivation, listing}
 use Rattle.provenance.specs.Counting.{total}
-use Rattle.columns.specs.Columns.{Columns, ownAt, hypergraph}
+use Rattle.columns.specs.Columns.{Columns, ownAt}
+use Rattle.tables.specs.Table.{hypergraph}
 
 -- v has a make-up, and the plain sum of every one is above the ceiling
 pub record Dear (c : Columns) (v : ℕ) : Type 0 where

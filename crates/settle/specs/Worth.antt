@@ -9,7 +9,8 @@ use Rattle.weights.specs.Figures.{ceiling, over}
 use Rattle.provenance.specs.Labelling.{Made}
 use Rattle.provenance.specs.Program.{part, program}
 use Rattle.provenance.proofs.Semirings.{cost-computes, days-computes}
-use Rattle.columns.specs.Columns.{Columns, ownAt, hypergraph}
+use Rattle.columns.specs.Columns.{Columns, ownAt}
+use Rattle.tables.specs.Table.{hypergraph}
 
 -- x is the provenance of v: in the tropical semiring for cost, in the bottleneck semiring for days
 abbrev pub Tropical : Columns → (v : ℕ) → Extended → Type 0

@@ -1,7 +1,7 @@
 // Settling a table that is lent as columns: every vertex gets the label of its chosen derivation,
 // found best first. And the check that lent answers are those labels.
 use offers::offer;
-use refusal::Answer;
+use refusal::Acceptance;
 use refusal::Verdict;
 use weights::Entry;
 use weights::Hyperedge;
@@ -17,10 +17,11 @@ ghost use Rattle.weights.specs.Measures.{algebra};
 ghost use Rattle.weights.specs.Labels.{entryOf};
 ghost use Rattle.provenance.specs.BestFirst.{labels};
 ghost use Rattle.provenance.specs.Local.{every, gives, keepsUp, vertexRight, edgeRight};
-ghost use Rattle.columns.specs.Columns.{columns, answers, hypergraph};
+ghost use Rattle.columns.specs.Columns.{columns, answers, cell};
+ghost use Rattle.tables.specs.Table.{hypergraph};
 ghost use Rattle.columns.proofs.Accepted.{AcceptedColumns};
-ghost use Rattle.columns.specs.Same.{same};
-ghost use Rattle.offers.specs.Lent.{lent, cell, Turning};
+ghost use Rattle.columns.specs.Same.{sameAnswers};
+ghost use Rattle.columns.specs.Lent.{lent, Turning};
 ghost use Rattle.settle.specs.Settling.{answersOf, settled};
 ghost use Rattle.settle.specs.Checking.{checked};
 
@@ -55,16 +56,16 @@ pub fn settle(
     weights: &mut [u64],
     depths: &mut [u64],
     edges: &mut [u64],
-) -> Answer
+) -> Acceptance
     ensures { λ r. ⌜ record { result = r; left = answers (now (weights .exit)) (now (depths .exit)) (now (edges .exit)) } ≡ settled measure (columns n (now (heads .entry)) (now (own .entry)) (now (spans .entry)) (now (tails .entry))) (answers (now (weights .entry)) (now (depths .entry)) (now (edges .entry))) ⌝ }
 {
     let a = columns::check_lent(n, heads, own, spans, tails, weights, depths, edges);
     match a {
-        Answer::Refused(r) => return Answer::Refused(r),
-        Answer::Accepted => {}
+        Acceptance::Refused(r) => return Acceptance::Refused(r),
+        Acceptance::Accepted => {}
     }
     label(measure, heads, own, spans, tails, weights, depths, edges);
-    Answer::Accepted
+    Acceptance::Accepted
 }
 
 // Whether an offer is of this weight and depth.
@@ -159,7 +160,7 @@ fn edge_right(
     keeps_up(measure, l, o)
 }
 
-// The same of every vertex.
+// The sameAnswers of every vertex.
 fn vertices_right(
     measure: Measure,
     heads: &[u64],
@@ -184,7 +185,7 @@ fn vertices_right(
     true
 }
 
-// The same of every hyperedge.
+// The sameAnswers of every hyperedge.
 fn edges_right(
     measure: Measure,
     heads: &[u64],
@@ -223,7 +224,7 @@ pub fn answers_right(
     edges: &[u64],
 ) -> bool
     requires { ⌜ AcceptedColumns (columns n (now heads) (now own) (now spans) (now tails)) (answers (now weights) (now depths) (now edges)) ⌝ }
-    ensures { λ r. ⌜ r ≡ same (answers (now (weights .entry)) (now (depths .entry)) (now (edges .entry))) (answersOf measure (columns n (now (heads .entry)) (now (own .entry)) (now (spans .entry)) (now (tails .entry)))) ⌝ }
+    ensures { λ r. ⌜ r ≡ sameAnswers (answers (now (weights .entry)) (now (depths .entry)) (now (edges .entry))) (answersOf measure (columns n (now (heads .entry)) (now (own .entry)) (now (spans .entry)) (now (tails .entry)))) ⌝ }
 {
     if !columns::all_below(n + 1, depths) {
         return false;
@@ -234,7 +235,7 @@ pub fn answers_right(
     edges_right(measure, heads, own, spans, tails, weights, depths, edges)
 }
 
-// The same of any table, or why it is refused.
+// The sameAnswers of any table, or why it is refused.
 pub fn check_answers(
     measure: Measure,
     n: u64,
@@ -250,8 +251,8 @@ pub fn check_answers(
 {
     let a = columns::check_lent(n, heads, own, spans, tails, weights, depths, edges);
     match a {
-        Answer::Refused(r) => return Verdict::Refused(r),
-        Answer::Accepted => {}
+        Acceptance::Refused(r) => return Verdict::Refused(r),
+        Acceptance::Accepted => {}
     }
     if answers_right(measure, n, heads, own, spans, tails, weights, depths, edges) {
         return Verdict::Yes;

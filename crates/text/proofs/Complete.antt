@@ -13,11 +13,11 @@ use Rattle.weights.specs.Figures.{struck, isStruck}
 use Rattle.weights.specs.Choice.{pick}
 use Rattle.columns.specs.Acceptance.{mostVertices, mostEdges, mostListed, allBelow}
 use Rattle.columns.proofs.Accepted.{below-at}
-use Rattle.text.specs.Tables.{Edge, edge, Table, total}
-use Rattle.text.specs.Render.{digits, word, opening, measureText, header, ownText, tailText, edgeText, edgesText, tableText}
+use Rattle.text.specs.Tables.{Edge, edge, Table, listedInAll}
+use Rattle.text.specs.Render.{digits, word, firstWord, measureText, header, ownText, tailText, edgeText, edgesText, tableText}
 use Rattle.text.specs.Machine.{Place, Vertices, Head, Own, Listed, State, Spelling, First, Within, Failed, begun, withEdge, mayList, limit, digitOf, grown, instead, after, spell, ended, step, run, Whole, finish, begin, parse}
 use Rattle.text.proofs.Digits.{digits-one, digits-more, byte-digit, by-digits}
-use Rattle.text.specs.Rows.{EdgeFits, All, one, Fits}
+use Rattle.text.specs.Rows.{EdgeFits, All, one, WithinLimits}
 use Rattle.text.proofs.Rows.{total-append}
 
 -- reading what is joined is reading twice
@@ -100,7 +100,7 @@ run-tail t h o (v ∷ vs) xs σ w a l =
     ∙ run-tail t h o vs (xs ++ v ∷ []) (Within (Listed t h o xs) v) (number-ended (Listed t h o xs) v) (below-rest (t .vertices) v vs a) (omega arith)
     ∙ ap (λ (z : List ℕ). First (Head (withEdge t (edge h o z)))) (append-snoc xs v vs)
 
-run-edge : (t : Table) (e : Edge) → length (t .edges) < mostEdges → EdgeFits (t .vertices) e → total (t .edges) + length (e .tail) ≤ mostListed
+run-edge : (t : Table) (e : Edge) → length (t .edges) < mostEdges → EdgeFits (t .vertices) e → listedInAll (t .edges) + length (e .tail) ≤ mostListed
     → run (First (Head t)) (edgeText e ++ 10 ∷ []) ≡ First (Head (withEdge t e))
 unfolding edgeText limit Behind ended run digitOf
 run-edge t e r f m =
@@ -117,15 +117,15 @@ run-edge t e r f m =
 abbrev tableIs : ℕ → Measure → List Edge → Table
 tableIs n m es = record { vertices = n; measure = m; edges = es }
 
-run-edges : (n : ℕ) (m : Measure) (fs es : List Edge) → length (es ++ fs) ≤ mostEdges → total (es ++ fs) ≤ mostListed → All (EdgeFits n) fs
+run-edges : (n : ℕ) (m : Measure) (fs es : List Edge) → length (es ++ fs) ≤ mostEdges → listedInAll (es ++ fs) ≤ mostListed → All (EdgeFits n) fs
     → run (First (Head (tableIs n m es))) (edgesText fs) ≡ First (Head (tableIs n m (es ++ fs)))
-unfolding edgesText run total
+unfolding edgesText run listedInAll
 run-edges n m [] es r s a = ap (λ (z : List Edge). First (Head (tableIs n m z))) (sym (append-nil es))
 run-edges n m (e ∷ fs) es r s (one f a) =
     let q : length (es ++ e ∷ fs) ≡ length es + suc (length fs) = length-append es (e ∷ fs) in
     let q′ : length ((es ++ e ∷ []) ++ fs) ≡ length (es ++ e ∷ fs) = ap length (append-snoc es e fs) in
-    let p : total (es ++ e ∷ fs) ≡ total es + (length (e .tail) + total fs) = total-append es (e ∷ fs) in
-    let p′ : total ((es ++ e ∷ []) ++ fs) ≡ total (es ++ e ∷ fs) = ap total (append-snoc es e fs) in
+    let p : listedInAll (es ++ e ∷ fs) ≡ listedInAll es + (length (e .tail) + listedInAll fs) = total-append es (e ∷ fs) in
+    let p′ : listedInAll ((es ++ e ∷ []) ++ fs) ≡ listedInAll (es ++ e ∷ fs) = ap listedInAll (append-snoc es e fs) in
     run-append (First (Head (tableIs n m es))) (edgeText e ++ 10 ∷ []) (edgesText fs)
     ∙ ap (λ (σ : State). run σ (edgesText fs)) (run-edge (tableIs n m es) e (omega arith) f (omega arith))
     ∙ run-edges n m fs (es ++ e ∷ []) (omega arith) (omega arith) a
@@ -134,24 +134,24 @@ run-edges n m (e ∷ fs) es r s (one f a) =
 run-header : (n : ℕ) (m : Measure) → n ≤ mostVertices → run begin (header n m) ≡ First (Head (begun n m))
 unfolding header limit
 run-header n m h =
-    run-append begin (opening ++ digits n) (measureText m)
-    ∙ ap (λ (σ : State). run σ (measureText m)) (run-append begin opening (digits n) ∙ ap (λ (σ : State). run σ (digits n)) opened ∙ run-digits Vertices n (omega arith))
+    run-append begin (firstWord ++ digits n) (measureText m)
+    ∙ ap (λ (σ : State). run σ (measureText m)) (run-append begin firstWord (digits n) ∙ ap (λ (σ : State). run σ (digits n)) opened ∙ run-digits Vertices n (omega arith))
     ∙ measured m
   where
-    opened : run begin opening ≡ First Vertices
-    opened = unfold opening in run-word 112 _ Vertices
+    opened : run begin firstWord ≡ First Vertices
+    opened = unfold firstWord in run-word 112 _ Vertices
 
     measured : (m : Measure) → run (Within Vertices n) (measureText m) ≡ First (Head (begun n m))
     measured Cost = unfold run step spell measureText word digitOf ended in refl
     measured Days = unfold run step spell measureText word digitOf ended in refl
 
-pub run-text : (t : Table) → Fits t → run begin (tableText t) ≡ First (Head t)
+pub run-text : (t : Table) → WithinLimits t → run begin (tableText t) ≡ First (Head t)
 unfolding tableText
 run-text t f =
     run-append begin (header (t .vertices) (t .measure)) (edgesText (t .edges))
     ∙ ap (λ (σ : State). run σ (edgesText (t .edges))) (run-header (t .vertices) (t .measure) (f .vertices))
     ∙ run-edges (t .vertices) (t .measure) (t .edges) [] (f .edges) (f .listed) (f .each)
 
-pub complete : (t : Table) → Fits t → parse (tableText t) ≡ Whole t
+pub complete : (t : Table) → WithinLimits t → parse (tableText t) ≡ Whole t
 unfolding parse finish
 complete t f = ap finish (run-text t f)

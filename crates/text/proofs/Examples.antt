@@ -4,8 +4,8 @@ use mathlib.Core.List.{List, [], _∷_}
 use Prim.Native.Nat.{ℕ}
 use Rattle.weights.specs.declared.Measure.the-variants.{Cost, Days}
 use Rattle.columns.specs.Columns.{Columns, columns}
-use Rattle.text.specs.Tables.{edge, edgesFrom, tableOf, closed, total, headsOf, ownsOf, spansFrom, tailsOf}
-use Rattle.text.specs.Render.{digitsOn, digits, word, opening, measureText, header, ownText, tailText, edgeText, edgesText, tableText, render}
+use Rattle.text.specs.Tables.{edge, edgesFrom, tableOf, closed, listedInAll, headsOf, ownsOf, spansFrom, tailsOf}
+use Rattle.text.specs.Render.{digitsOn, digits, word, firstWord, measureText, header, ownText, tailText, edgeText, edgesText, tableText, render}
 use Rattle.text.specs.Machine.{limit, lineAt, digitOf, grown, instead, after, spell, ended, step, run, Whole, Wrong, finish, parse}
 
 -- the paper's table, with gaps before the first span, between two and behind the last
@@ -24,11 +24,11 @@ workedText =
     ∷ 52 ∷ 32 ∷ 49 ∷ 48 ∷ 32 ∷ 52 ∷ 10 ∷ []
 
 rendered : render Cost worked ≡ workedText
-unfolding worked workedText edgesFrom digitsOn digits word opening measureText header ownText tailText edgeText edgesText tableText
+unfolding worked workedText edgesFrom digitsOn digits word firstWord measureText header ownText tailText edgeText edgesText tableText
 rendered = refl
 
 read-back : parse workedText ≡ Whole (tableOf Cost worked)
-unfolding worked workedText edgesFrom word opening total limit lineAt digitOf grown instead after spell ended step run finish parse
+unfolding worked workedText edgesFrom word firstWord listedInAll limit lineAt digitOf grown instead after spell ended step run finish parse
 read-back = refl
 
 gaps-closed : closed worked ≡ columns 5 (0 ∷ 1 ∷ 2 ∷ 2 ∷ 3 ∷ 4 ∷ []) (1200 ∷ 300 ∷ 500 ∷ 2100 ∷ 0 ∷ 10 ∷ []) (0 ∷ 0 ∷ 0 ∷ 0 ∷ 0 ∷ 2 ∷ 2 ∷ 0 ∷ 2 ∷ 3 ∷ 5 ∷ 1 ∷ []) (0 ∷ 1 ∷ 2 ∷ 1 ∷ 1 ∷ 4 ∷ [])
@@ -37,7 +37,7 @@ gaps-closed = refl
 
 -- `parts 5 days`, LF, `0 -`, LF
 struck-days : parse (112 ∷ 97 ∷ 114 ∷ 116 ∷ 115 ∷ 32 ∷ 53 ∷ 32 ∷ 100 ∷ 97 ∷ 121 ∷ 115 ∷ 10 ∷ 48 ∷ 32 ∷ 45 ∷ 10 ∷ []) ≡ Whole (record { vertices = 5; measure = Days; edges = edge 0 1000000001 [] ∷ [] })
-unfolding word opening total limit lineAt digitOf grown instead after spell ended step run finish parse
+unfolding word firstWord listedInAll limit lineAt digitOf grown instead after spell ended step run finish parse
 struck-days = refl
 
 -- no byte; a lone LF; `parts 5` without LF
@@ -46,19 +46,19 @@ unfolding run finish parse
 empty = refl
 
 lone-end : parse (10 ∷ []) ≡ Wrong 1
-unfolding opening spell step run finish parse
+unfolding firstWord spell step run finish parse
 lone-end = refl
 
 no-end : parse (112 ∷ 97 ∷ 114 ∷ 116 ∷ 115 ∷ 32 ∷ 53 ∷ []) ≡ Wrong 1
-unfolding opening limit lineAt digitOf grown spell step run finish parse
+unfolding firstWord limit lineAt digitOf grown spell step run finish parse
 no-end = refl
 
 -- `parts 5 cost`, LF
 default-named : parse (112 ∷ 97 ∷ 114 ∷ 116 ∷ 115 ∷ 32 ∷ 53 ∷ 32 ∷ 99 ∷ 111 ∷ 115 ∷ 116 ∷ 10 ∷ []) ≡ Wrong 1
-unfolding word opening limit lineAt digitOf grown spell ended step run finish parse
+unfolding word firstWord limit lineAt digitOf grown spell ended step run finish parse
 default-named = refl
 
 -- `parts 0`, LF, and any line
 no-vertex : parse (112 ∷ 97 ∷ 114 ∷ 116 ∷ 115 ∷ 32 ∷ 48 ∷ 10 ∷ 48 ∷ 32 ∷ 48 ∷ 10 ∷ []) ≡ Wrong 2
-unfolding word opening limit lineAt digitOf grown instead after spell ended step run finish parse
+unfolding word firstWord limit lineAt digitOf grown instead after spell ended step run finish parse
 no-vertex = refl

@@ -6,7 +6,7 @@ use mathlib.Core.List.{List}
 use Rattle.text.specs.Tables.{Edge, Table, tableOf, columnsOf}
 use Rattle.text.specs.Render.{tableText, Permitted}
 use Rattle.text.specs.Machine.{Parse, Whole, Wrong, parse}
-use Rattle.text.specs.Rows.{Fits}
+use Rattle.text.specs.Rows.{WithinLimits}
 use Rattle.text.proofs.Rows.{edges-of-columns, accepted-fits, fits-accepted}
 use Rattle.text.proofs.Sound.{sound, never}
 use Rattle.text.proofs.Complete.{complete}
@@ -14,7 +14,7 @@ use Rattle.text.specs.Places.{firstLines}
 use Rattle.text.proofs.Places.{first-unread}
 use Rattle.text.specs.Permitted.{FirstWrong}
 
-pub table-permitted : (s : List ℕ) (t : Table) → Fits t → s ≡ tableText t → Permitted s
+pub table-permitted : (s : List ℕ) (t : Table) → WithinLimits t → s ≡ tableText t → Permitted s
 table-permitted s t f e = record {
   measure = t .measure;
   table = columnsOf (t .vertices) (t .edges);

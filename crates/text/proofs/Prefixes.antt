@@ -5,7 +5,7 @@ use mathlib.Core.Path.{_≡_, refl, sym, _∙_, ap}
 use mathlib.Core.List.{List, [], _∷_, _++_}
 use native.Mathlib.Omega.{arith}
 use borrow.Author.Tests.{lt-ltb}
-use Rattle.text.specs.Tables.{edge, Table, total}
+use Rattle.text.specs.Tables.{edge, Table, listedInAll}
 use Rattle.text.specs.Render.{default}
 use Rattle.text.specs.Machine.{Place, Vertices, Head, Own, Listed, State, Spelling, First, Within, Failed, begun, withEdge, limit, digitOf, grown, after, ended, step, run, finish, begin, parse}
 use Rattle.text.proofs.Sound.{Spells, Reached, begin-reached, run-reached}
@@ -25,7 +25,7 @@ record Ends (σ : State) : Type 0 where
   there : run σ rest ≡ First (Head table)
 
 first-ends : (p : Place) (s : List ℕ) → Reached (First p) s → Ends (First p)
-unfolding run step digitOf grown limit ended after total
+unfolding run step digitOf grown limit ended after listedInAll
 first-ends Vertices s r = record { rest = 48 ∷ 10 ∷ []; table = begun 0 default; there = refl }
 first-ends (Head t) s r = record { rest = []; table = t; there = refl }
 first-ends (Own t h) s r = record { rest = 48 ∷ 10 ∷ []; table = withEdge t (edge h 0 []); there = refl }
@@ -39,7 +39,7 @@ spelled [] p s = absurd s
 spelled (w ∷ ws) p s = run-word w ws p
 
 ends : (σ : State) (s : List ℕ) → Reached σ s → NotFailed σ → Ends σ
-unfolding run step digitOf ended after total
+unfolding run step digitOf ended after listedInAll
 ends (Spelling ws p) s r g =
     let e = first-ends p (s ++ ws) (sym (r .0), r .1) in
     record { rest = ws ++ e .rest; table = e .table; there = run-append (Spelling ws p) ws (e .rest) ∙ ap (λ (σ : State). run σ (e .rest)) (spelled ws p (r .2)) ∙ e .there }

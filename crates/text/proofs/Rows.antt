@@ -10,13 +10,13 @@ use lib.ListN.{length, getD, take, drop, length-append, length-take}
 use lib.Seq.{append-snoc, getD-at, take-at, drop-at}
 use borrow.Author.Tests.{lt-ltb, le-leb, eq-eqb}
 use Rattle.weights.specs.declared.Measure.{Measure}
-use Rattle.refusal.specs.declared.Answer.{Answer}
-use Rattle.refusal.specs.declared.Answer.the-variants.{Accepted}
+use Rattle.refusal.specs.declared.Acceptance.{Acceptance}
+use Rattle.refusal.specs.declared.Acceptance.the-variants.{Accepted}
 use Rattle.columns.specs.Columns.{Columns, headAt, ownAt, offsetAt, lengthAt, part, tailAt}
 use Rattle.columns.specs.Acceptance.{mostEdges, mostListed, longestTail, andThen, allBelow, edgeAcceptance, edgeAt, edgesAcceptance, acceptance}
 use Rattle.columns.proofs.Accepted.{both-accepted, edge-accepted, table-accepted, below-at}
-use Rattle.text.specs.Tables.{Edge, edge, Table, edgesFrom, edgesOf, tableOf, total, headsOf, ownsOf, spansFrom, tailsOf, columnsOf, closed}
-use Rattle.text.specs.Rows.{EdgeFits, All, none, one, Fits}
+use Rattle.text.specs.Tables.{Edge, edge, Table, edgesFrom, edgesOf, tableOf, listedInAll, headsOf, ownsOf, spansFrom, tailsOf, columnsOf, closed}
+use Rattle.text.specs.Rows.{EdgeFits, All, none, one, WithinLimits}
 
 pub all-snoc : {P : Edge → Type 0} {es : List Edge} {e : Edge} → All P es → P e → All P (es ++ e ∷ [])
 all-snoc none p = one p none
@@ -29,13 +29,13 @@ below-snoc n (u ∷ vs) v e h = rw (lt-ltb u n (below-at n (u ∷ vs) e 0 (omega
 
 -- Columns of appended hyperedges -----------------------------------------------------------------------------------------------------------
 
-pub total-append : (es fs : List Edge) → total (es ++ fs) ≡ total es + total fs
-unfolding total
+pub total-append : (es fs : List Edge) → listedInAll (es ++ fs) ≡ listedInAll es + listedInAll fs
+unfolding listedInAll
 total-append [] fs = omega arith
 total-append (e ∷ es) fs = let q = total-append es fs in omega arith
 
-pub total-snoc : (es : List Edge) (e : Edge) → total (es ++ e ∷ []) ≡ total es + length (e .tail)
-unfolding total
+pub total-snoc : (es : List Edge) (e : Edge) → listedInAll (es ++ e ∷ []) ≡ listedInAll es + length (e .tail)
+unfolding listedInAll
 total-snoc es e = total-append es (e ∷ []) ∙ omega arith
 
 pub heads-append : (es fs : List Edge) → headsOf (es ++ fs) ≡ headsOf es ++ headsOf fs
@@ -53,12 +53,12 @@ unfolding tailsOf
 tails-append [] fs = refl
 tails-append (e ∷ es) fs = ap (λ (z : List ℕ). e .tail ++ z) (tails-append es fs) ∙ sym (append-assoc (e .tail) (tailsOf es) (tailsOf fs))
 
-pub spans-append : (from : ℕ) (es fs : List Edge) → spansFrom from (es ++ fs) ≡ spansFrom from es ++ spansFrom (from + total es) fs
-unfolding spansFrom total
+pub spans-append : (from : ℕ) (es fs : List Edge) → spansFrom from (es ++ fs) ≡ spansFrom from es ++ spansFrom (from + listedInAll es) fs
+unfolding spansFrom listedInAll
 spans-append from [] fs = ap (λ (z : ℕ). spansFrom z fs) (omega arith)
 spans-append from (e ∷ es) fs =
     ap (λ (z : List ℕ). from ∷ length (e .tail) ∷ z) (spans-append (from + length (e .tail)) es fs
-    ∙ ap (λ (z : ℕ). spansFrom (from + length (e .tail)) es ++ spansFrom z fs) (add-assoc from (length (e .tail)) (total es)))
+    ∙ ap (λ (z : ℕ). spansFrom (from + length (e .tail)) es ++ spansFrom z fs) (add-assoc from (length (e .tail)) (listedInAll es)))
 
 pub length-heads : (es : List Edge) → length (headsOf es) ≡ length es
 unfolding headsOf
@@ -75,8 +75,8 @@ unfolding spansFrom
 length-spans from [] = refl
 length-spans from (e ∷ es) = let q = length-spans (from + length (e .tail)) es in omega arith
 
-pub length-tails : (es : List Edge) → length (tailsOf es) ≡ total es
-unfolding tailsOf total
+pub length-tails : (es : List Edge) → length (tailsOf es) ≡ listedInAll es
+unfolding tailsOf listedInAll
 length-tails [] = refl
 length-tails (e ∷ es) = let q = length-tails es in let p = length-append (e .tail) (tailsOf es) in omega arith
 
@@ -94,23 +94,23 @@ module _ (n : ℕ) (es : List Edge) (e : Edge) (fs : List Edge) where
   unfolding ownsOf
   own-there = rw (owns-append es (e ∷ fs)) (getD-at (ownsOf es) (e .own) (ownsOf fs) 0 (length es) (length-owns es))
 
-  offset-there : offsetAt C (length es) ≡ total es
+  offset-there : offsetAt C (length es) ≡ listedInAll es
   unfolding spansFrom
-  offset-there = rw (spans-append 0 es (e ∷ fs)) (getD-at (spansFrom 0 es) (0 + total es) (length (e .tail) ∷ spansFrom (0 + total es + length (e .tail)) fs) 0 (2 * length es) (length-spans 0 es) ∙ omega arith)
+  offset-there = rw (spans-append 0 es (e ∷ fs)) (getD-at (spansFrom 0 es) (0 + listedInAll es) (length (e .tail) ∷ spansFrom (0 + listedInAll es + length (e .tail)) fs) 0 (2 * length es) (length-spans 0 es) ∙ omega arith)
 
   length-there : lengthAt C (length es) ≡ length (e .tail)
   unfolding spansFrom
   length-there =
-      let k : length (spansFrom 0 es ++ (0 + total es) ∷ []) ≡ 2 * length es + 1 = length-append (spansFrom 0 es) ((0 + total es) ∷ []) ∙ ap (λ (z : ℕ). z + 1) (length-spans 0 es) in
+      let k : length (spansFrom 0 es ++ (0 + listedInAll es) ∷ []) ≡ 2 * length es + 1 = length-append (spansFrom 0 es) ((0 + listedInAll es) ∷ []) ∙ ap (λ (z : ℕ). z + 1) (length-spans 0 es) in
       rw (spans-append 0 es (e ∷ fs))
-      (ap (λ (z : List ℕ). getD z (2 * length es + 1) 0) (sym (append-snoc (spansFrom 0 es) (0 + total es) (length (e .tail) ∷ spansFrom (0 + total es + length (e .tail)) fs)))
-      ∙ getD-at (spansFrom 0 es ++ (0 + total es) ∷ []) (length (e .tail)) (spansFrom (0 + total es + length (e .tail)) fs) 0 (2 * length es + 1) k)
+      (ap (λ (z : List ℕ). getD z (2 * length es + 1) 0) (sym (append-snoc (spansFrom 0 es) (0 + listedInAll es) (length (e .tail) ∷ spansFrom (0 + listedInAll es + length (e .tail)) fs)))
+      ∙ getD-at (spansFrom 0 es ++ (0 + listedInAll es) ∷ []) (length (e .tail)) (spansFrom (0 + listedInAll es + length (e .tail)) fs) 0 (2 * length es + 1) k)
 
-  part-there : part (total es) (length (e .tail)) (C .tails) ≡ e .tail
+  part-there : part (listedInAll es) (length (e .tail)) (C .tails) ≡ e .tail
   unfolding tailsOf
   part-there =
       rw (tails-append es (e ∷ fs))
-      (ap (take (length (e .tail))) (drop-at (tailsOf es) (e .tail ++ tailsOf fs) (total es) (length-tails es))
+      (ap (take (length (e .tail))) (drop-at (tailsOf es) (e .tail ++ tailsOf fs) (listedInAll es) (length-tails es))
       ∙ take-at (e .tail) (tailsOf fs) (length (e .tail)) refl)
 
   tail-there : tailAt C (length es) ≡ e .tail
@@ -146,8 +146,8 @@ edges-fit c (suc left) e end p =
     short-part h = let l = length-take (lengthAt c e) (drop (offsetAt c e) (c .tails)) in omega arith
 
 -- spans are sorted and within the column, so what they cover is no longer than it
-covered : (c : Columns) (left e end : ℕ) → end ≤ length (c .tails) → edgesAcceptance c left e end ≡ Accepted → end + total (edgesFrom c left e) ≤ length (c .tails)
-unfolding edgesAcceptance edgesFrom total
+covered : (c : Columns) (left e end : ℕ) → end ≤ length (c .tails) → edgesAcceptance c left e end ≡ Accepted → end + listedInAll (edgesFrom c left e) ≤ length (c .tails)
+unfolding edgesAcceptance edgesFrom listedInAll
 covered c zero e end h p = omega arith
 covered c (suc left) e end h p =
     let t = both-accepted (edgeAt c e end) (edgesAcceptance c left (e + 1) (offsetAt c e + lengthAt c e)) p in
@@ -168,7 +168,7 @@ edges-pass c p =
     let t = table-accepted c p in
     rw (le-leb _ _ (t .few), eq-eqb _ _ (t .own), le-leb _ _ (t .edges), eq-eqb _ _ (t .spans), le-leb _ _ (t .tails)) at p
 
-pub accepted-fits : (m : Measure) (c : Columns) → acceptance c ≡ Accepted → Fits (tableOf m c)
+pub accepted-fits : (m : Measure) (c : Columns) → acceptance c ≡ Accepted → WithinLimits (tableOf m c)
 accepted-fits m c p =
     let t = table-accepted c p in
     let l = length-edges c (length (c .heads)) 0 in
@@ -180,30 +180,30 @@ accepted-fits m c p =
 -- Within the limits is accepted --------------------------------------------------------------------------------------------------------------
 
 module _ (n : ℕ) (es : List Edge) (e : Edge) (fs : List Edge) (f : EdgeFits n e) where
-  within-column : total es + length (e .tail) ≤ length (tailsOf (es ++ e ∷ fs))
-  unfolding total
+  within-column : listedInAll es + length (e .tail) ≤ length (tailsOf (es ++ e ∷ fs))
+  unfolding listedInAll
   within-column = let l = length-tails (es ++ e ∷ fs) in let t = total-append es (e ∷ fs) in omega arith
 
-  edge-passes : edgeAt (columnsOf n (es ++ e ∷ fs)) (length es) (total es) ≡ Accepted
+  edge-passes : edgeAt (columnsOf n (es ++ e ∷ fs)) (length es) (listedInAll es) ≡ Accepted
   unfolding edgeAcceptance
   edge-passes =
       rw (head-there n es e fs, own-there n es e fs, offset-there n es e fs, length-there n es e fs)
-      (rw (lt-ltb _ _ (f .head), le-leb _ _ (f .own), le-leb (total es) (total es) (omega arith), le-leb _ _ (f .short), le-leb _ _ within-column, part-there n es e fs, f .tail))
+      (rw (lt-ltb _ _ (f .head), le-leb _ _ (f .own), le-leb (listedInAll es) (listedInAll es) (omega arith), le-leb _ _ (f .short), le-leb _ _ within-column, part-there n es e fs, f .tail))
 
-edges-passed : (n : ℕ) (es fs : List Edge) → All (EdgeFits n) fs → edgesAcceptance (columnsOf n (es ++ fs)) (length fs) (length es) (total es) ≡ Accepted
+edges-passed : (n : ℕ) (es fs : List Edge) → All (EdgeFits n) fs → edgesAcceptance (columnsOf n (es ++ fs)) (length fs) (length es) (listedInAll es) ≡ Accepted
 unfolding edgesAcceptance
 edges-passed n es [] none = refl
 edges-passed n es (e ∷ fs) (one f a) =
     let c = columnsOf n (es ++ e ∷ fs) in
-    let q : offsetAt c (length es) + lengthAt c (length es) ≡ total (es ++ e ∷ []) =
+    let q : offsetAt c (length es) + lengthAt c (length es) ≡ listedInAll (es ++ e ∷ []) =
     let o = offset-there n es e fs in let l = length-there n es e fs in let t = total-snoc es e in omega arith in
-    ap (λ (z : Answer). andThen z (edgesAcceptance c (length fs) (length es + 1) (offsetAt c (length es) + lengthAt c (length es)))) (edge-passes n es e fs f)
+    ap (λ (z : Acceptance). andThen z (edgesAcceptance c (length fs) (length es + 1) (offsetAt c (length es) + lengthAt c (length es)))) (edge-passes n es e fs f)
     ∙ ap₂ (λ (i j : ℕ). edgesAcceptance c (length fs) i j) (sym (one-further es e)) q
-    ∙ ap (λ (z : List Edge). edgesAcceptance (columnsOf n z) (length fs) (length (es ++ e ∷ [])) (total (es ++ e ∷ []))) (sym (append-snoc es e fs))
+    ∙ ap (λ (z : List Edge). edgesAcceptance (columnsOf n z) (length fs) (length (es ++ e ∷ [])) (listedInAll (es ++ e ∷ []))) (sym (append-snoc es e fs))
     ∙ edges-passed n (es ++ e ∷ []) fs a
 
-pub fits-accepted : (t : Table) → Fits t → acceptance (columnsOf (t .vertices) (t .edges)) ≡ Accepted
-unfolding acceptance total
+pub fits-accepted : (t : Table) → WithinLimits t → acceptance (columnsOf (t .vertices) (t .edges)) ≡ Accepted
+unfolding acceptance listedInAll
 fits-accepted t f =
     let h = length-heads (t .edges) in
     let o = length-owns (t .edges) in

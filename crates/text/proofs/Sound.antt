@@ -12,11 +12,11 @@ use borrow.Author.Tests.{ltb-true, eqb-true, ne-eqb}
 use Rattle.weights.specs.declared.Measure.{Measure}
 use Rattle.weights.specs.Figures.{struck}
 use Rattle.columns.specs.Acceptance.{mostVertices, mostEdges, mostListed, allBelow}
-use Rattle.text.specs.Tables.{Edge, edge, Table, total}
-use Rattle.text.specs.Render.{digits, default, spoken, word, opening, measureText, header, ownText, tailText, edgeText, edgesText, tableText}
+use Rattle.text.specs.Tables.{Edge, edge, Table, listedInAll}
+use Rattle.text.specs.Render.{digits, default, spoken, word, firstWord, measureText, header, ownText, tailText, edgeText, edgesText, tableText}
 use Rattle.text.specs.Machine.{Place, Vertices, Head, Own, Listed, State, Spelling, First, Within, Failed, begun, withEdge, nextLine, mayList, limit, digitOf, grown, instead, after, spell, ended, step, run, Whole, Wrong, finish, begin, parse}
 use Rattle.text.proofs.Digits.{pick-by, digits-one, digits-more, digit-byte}
-use Rattle.text.specs.Rows.{EdgeFits, none, Fits}
+use Rattle.text.specs.Rows.{EdgeFits, none, WithinLimits}
 use Rattle.text.proofs.Rows.{all-snoc, below-snoc, total-snoc}
 
 -- Texts of one more ----------------------------------------------------------------------------------------------------------------------
@@ -43,18 +43,18 @@ text-more : (t : Table) (e : Edge) → tableText (withEdge t e) ≡ (tableText t
 unfolding tableText
 text-more t e = rw (edges-text-snoc (t .edges) e) (simp append-assoc)
 
-pub text-begun : (n : ℕ) (m : Measure) → tableText (begun n m) ≡ (opening ++ digits n) ++ measureText m
+pub text-begun : (n : ℕ) (m : Measure) → tableText (begun n m) ≡ (firstWord ++ digits n) ++ measureText m
 unfolding tableText header edgesText
 text-begun n m = append-nil _
 
-begun-fits : (n : ℕ) (m : Measure) → n ≤ mostVertices → Fits (begun n m)
-unfolding total
+begun-fits : (n : ℕ) (m : Measure) → n ≤ mostVertices → WithinLimits (begun n m)
+unfolding listedInAll
 begun-fits n m h = record { vertices = h; edges = omega arith; listed = omega arith; each = none }
 
 -- What a state shows ---------------------------------------------------------------------------------------------------------------------
 
 unfoldable pub before : Place → List ℕ
-before Vertices = opening
+before Vertices = firstWord
 before (Head t) = tableText t
 before (Own t h) = (tableText t ++ digits h) ++ 32 ∷ []
 before (Listed t h o xs) = (tableText t ++ edgeText (edge h o xs)) ++ 32 ∷ []
@@ -67,14 +67,14 @@ numberText (Listed t h o xs) v = digits v
 
 -- a line that may end here
 pub record EdgeSits (t : Table) (h o : ℕ) (xs : List ℕ) : Type 0 where
-  pub fits : Fits t
+  pub fits : WithinLimits t
   pub room : length (t .edges) < mostEdges
   pub one-more : EdgeFits (t .vertices) (edge h o xs)
-  pub listed : total (t .edges) + length xs ≤ mostListed
+  pub listed : listedInAll (t .edges) + length xs ≤ mostListed
 
 abbrev pub Sits : Place → Type 0
 Sits Vertices = Unit {0}
-Sits (Head t) = Fits t
+Sits (Head t) = WithinLimits t
 Sits (Own t h) = EdgeSits t h 0 []
 Sits (Listed t h o xs) = EdgeSits t h o xs × (length xs < mayList t)
 
@@ -104,7 +104,7 @@ Reached (Within p v) s = (before p ++ numberText p v ≡ s) × Sits p × InPlace
 Reached (Failed l) s = Unit {0}
 
 pub begin-reached : Reached begin []
-unfolding opening before
+unfolding firstWord before
 begin-reached = (refl, tt, ((λ e. omega arith), ((λ e. omega arith), ((λ e. omega arith), ((λ e. omega arith), ((λ e. omega arith), (λ e. omega arith)))))))
 
 -- A step ---------------------------------------------------------------------------------------------------------------------------------
@@ -143,7 +143,7 @@ grown-reached : (p : Place) (v : ℕ) (s : List ℕ) → Sits p → (v < limit p
 unfolding grown
 grown-reached p v s sits e = pick-by (λ (σ : State). Reached σ s) (ltb v (limit p)) (λ l. (e (ltb-true _ _ l), sits, placed p v (ltb-true _ _ l))) (λ f. tt)
 
-edge-done : (t : Table) (h o : ℕ) (xs : List ℕ) → EdgeSits t h o xs → Fits (withEdge t (edge h o xs))
+edge-done : (t : Table) (h o : ℕ) (xs : List ℕ) → EdgeSits t h o xs → WithinLimits (withEdge t (edge h o xs))
 edge-done t h o xs g = record {
   vertices = g .fits .vertices;
   edges = simp length-append (let r = g .room in omega arith);
@@ -163,7 +163,7 @@ after-reached t h o xs b s g e =
     (λ f. pick-by P (ltb (length xs) (mayList t)) (λ l. (joined b 32 e f, (g, ltb-true _ _ l))) (λ l. tt))
     (λ _. pick-by P (eqb b 10) (λ f. (text-more t (edge h o xs) ∙ joined b 10 e f, edge-done t h o xs g)) (λ f. tt))
 
-head-sits : (t : Table) (h o : ℕ) → Fits t → length (t .edges) < mostEdges → h < t .vertices → o ≤ struck → EdgeSits t h o []
+head-sits : (t : Table) (h o : ℕ) → WithinLimits t → length (t .edges) < mostEdges → h < t .vertices → o ≤ struck → EdgeSits t h o []
 unfolding allBelow
 head-sits t h o f r v l = record { fits = f; room = r; one-more = record { head = v; own = l; short = omega arith; tail = refl }; listed = let q = f .listed in omega arith }
 
@@ -200,9 +200,9 @@ word-spells n = ((λ e. omega arith), ((λ e. omega arith), ((λ e. omega arith)
 ended-reached : (p : Place) (v b : ℕ) → Sits p → InPlace p v → Reached (ended p v b) ((before p ++ numberText p v) ++ b ∷ [])
 unfolding ended before numberText measureText
 ended-reached Vertices v b s h =
-    pick-by (λ (σ : State). Reached σ ((opening ++ digits v) ++ b ∷ [])) (eqb b 10)
-    (λ e. (text-begun v default ∙ joined {l = opening ++ digits v} b 10 refl e, begun-fits v default h))
-    (λ f. spell-reached (word ++ 10 ∷ []) (Head (begun v spoken)) b (opening ++ digits v) (sym (text-begun v spoken)) (begun-fits v spoken h) (word-spells v))
+    pick-by (λ (σ : State). Reached σ ((firstWord ++ digits v) ++ b ∷ [])) (eqb b 10)
+    (λ e. (text-begun v default ∙ joined {l = firstWord ++ digits v} b 10 refl e, begun-fits v default h))
+    (λ f. spell-reached (word ++ 10 ∷ []) (Head (begun v spoken)) b (firstWord ++ digits v) (sym (text-begun v spoken)) (begun-fits v spoken h) (word-spells v))
 ended-reached (Head t) v b s h =
     pick-by (λ (σ : State). Reached σ ((tableText t ++ digits v) ++ b ∷ [])) (eqb b 32)
     (λ e. (joined {l = tableText t ++ digits v} b 32 refl e, head-sits t v 0 s (h .1) (h .0) (omega arith))) (λ f. tt)
@@ -248,16 +248,16 @@ run-reached σ s (b ∷ bs) r = subst (λ (u : List ℕ). Reached (run (step σ 
 pub never : {l : ℕ} {t : Table} → Wrong l ≡ Whole t → ⊥
 never {l} {t} e = let z : _≡_ {A = ℕ} 0 1 = cc in omega arith
 
-finished : (σ : State) (s : List ℕ) (t : Table) → Reached σ s → finish σ ≡ Whole t → Fits t × (s ≡ tableText t)
+finished : (σ : State) (s : List ℕ) (t : Table) → Reached σ s → finish σ ≡ Whole t → WithinLimits t × (s ≡ tableText t)
 unfolding finish before
 finished (Spelling ws p) s t r e = absurd (never e)
 finished (First Vertices) s t r e = absurd (never e)
-finished (First (Head u)) s t r e = let q : u ≡ t = cc in subst (λ (w : Table). Fits w × (s ≡ tableText w)) q (r .1, sym (r .0))
+finished (First (Head u)) s t r e = let q : u ≡ t = cc in subst (λ (w : Table). WithinLimits w × (s ≡ tableText w)) q (r .1, sym (r .0))
 finished (First (Own u h)) s t r e = absurd (never e)
 finished (First (Listed u h o xs)) s t r e = absurd (never e)
 finished (Within p v) s t r e = absurd (never e)
 finished (Failed l) s t r e = absurd (never e)
 
-pub sound : (s : List ℕ) (t : Table) → parse s ≡ Whole t → Fits t × (s ≡ tableText t)
+pub sound : (s : List ℕ) (t : Table) → parse s ≡ Whole t → WithinLimits t × (s ≡ tableText t)
 unfolding parse
 sound s t e = finished (run begin s) s t (run-reached begin [] s begin-reached) e

@@ -9,8 +9,8 @@ use Rattle.weights.specs.declared.Measure.{Measure}
 use Rattle.weights.specs.Figures.{struck}
 use Rattle.weights.specs.Choice.{pick}
 use Rattle.columns.specs.Acceptance.{mostVertices, mostEdges, mostListed, longestTail}
-use Rattle.text.specs.Tables.{Edge, edge, Table, total}
-use Rattle.text.specs.Render.{default, spoken, word, opening}
+use Rattle.text.specs.Tables.{Edge, edge, Table, listedInAll}
+use Rattle.text.specs.Render.{default, spoken, word, firstWord}
 
 -- the number that a reader stands before or in, with all that was read before it
 pub data Place : Type 0 where
@@ -41,7 +41,7 @@ nextLine t = length (t .edges) + 2
 
 -- how many parts the next line may list
 abbrev pub mayList : Table → ℕ
-mayList t = min (mostListed - total (t .edges)) longestTail
+mayList t = min (mostListed - listedInAll (t .edges)) longestTail
 
 -- a number there is below this; the 4,097th hyperedge has no head
 unfoldable pub limit : Place → ℕ
@@ -120,7 +120,7 @@ finish (Within p v) = Wrong (lineAt p)
 finish (Failed l) = Wrong l
 
 abbrev pub begin : State
-begin = Spelling opening Vertices
+begin = Spelling firstWord Vertices
 
 unfoldable pub parse : List ℕ → Parse
 parse s = finish (run begin s)

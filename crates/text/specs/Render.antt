@@ -8,7 +8,7 @@ use Rattle.weights.specs.declared.Measure.{Measure}
 use Rattle.weights.specs.declared.Measure.the-variants.{Cost, Days}
 use Rattle.weights.specs.Figures.{isStruck}
 use Rattle.weights.specs.Choice.{pick}
-use Rattle.refusal.specs.declared.Answer.the-variants.{Accepted}
+use Rattle.refusal.specs.declared.Acceptance.the-variants.{Accepted}
 use Rattle.columns.specs.Columns.{Columns}
 use Rattle.columns.specs.Acceptance.{acceptance}
 use Rattle.text.specs.Tables.{Edge, Table, tableOf}
@@ -41,22 +41,22 @@ other Days = Cost
 abbrev pub spoken : Measure
 spoken = other default
 
-abbrev pub same : Measure → Measure → Bool
-same Cost Cost = true
-same Cost Days = false
-same Days Cost = false
-same Days Days = true
+abbrev pub sameMeasure : Measure → Measure → Bool
+sameMeasure Cost Cost = true
+sameMeasure Cost Days = false
+sameMeasure Days Cost = false
+sameMeasure Days Days = true
 
 -- `parts `
-unfoldable pub opening : List ℕ
-opening = 112 ∷ 97 ∷ 114 ∷ 116 ∷ 115 ∷ 32 ∷ []
+unfoldable pub firstWord : List ℕ
+firstWord = 112 ∷ 97 ∷ 114 ∷ 116 ∷ 115 ∷ 32 ∷ []
 
 -- the end of the first line
 unfoldable pub measureText : Measure → List ℕ
-measureText m = pick (same m default) (10 ∷ []) (word ++ 10 ∷ [])
+measureText m = pick (sameMeasure m default) (10 ∷ []) (word ++ 10 ∷ [])
 
 unfoldable pub header : ℕ → Measure → List ℕ
-header n m = (opening ++ digits n) ++ measureText m
+header n m = (firstWord ++ digits n) ++ measureText m
 
 -- A line for each hyperedge: head, own figure, listed parts, single spaces between -------------------------------------------------------
 

@@ -7,7 +7,7 @@ use mathlib.Core.Bool.{true}
 use lib.ListN.{length}
 use Rattle.weights.specs.Figures.{struck}
 use Rattle.columns.specs.Acceptance.{mostVertices, mostEdges, mostListed, longestTail, allBelow}
-use Rattle.text.specs.Tables.{Edge, Table, total}
+use Rattle.text.specs.Tables.{Edge, Table, listedInAll}
 
 -- Within the limits ------------------------------------------------------------------------------------------------------------------------
 
@@ -22,8 +22,8 @@ pub data All (P : Edge → Type 0) : List Edge → Type 0 where
   none : All P []
   one : {e : Edge} {es : List Edge} → P e → All P es → All P (e ∷ es)
 
-pub record Fits (t : Table) : Type 0 where
+pub record WithinLimits (t : Table) : Type 0 where
   pub vertices : t .vertices ≤ mostVertices
   pub edges : length (t .edges) ≤ mostEdges
-  pub listed : total (t .edges) ≤ mostListed
+  pub listed : listedInAll (t .edges) ≤ mostListed
   pub each : All (EdgeFits (t .vertices)) (t .edges)

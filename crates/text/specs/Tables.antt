@@ -32,9 +32,9 @@ abbrev pub tableOf : Measure → Columns → Table
 tableOf m c = record { vertices = c .vertices; measure = m; edges = edgesOf c }
 
 -- how many parts are listed in all
-unfoldable pub total : List Edge → ℕ
-total [] = 0
-total (e ∷ es) = length (e .tail) + total es
+unfoldable pub listedInAll : List Edge → ℕ
+listedInAll [] = 0
+listedInAll (e ∷ es) = length (e .tail) + listedInAll es
 
 -- the four columns of hyperedges, spans from an offset on without gaps
 unfoldable pub headsOf : List Edge → List ℕ

@@ -2,7 +2,7 @@
 // names, the default measure and the other's word, by which the code keeps to it.
 use weights::Measure;
 ghost use mathlib.Core.Path.{_≡_};
-ghost use Rattle.text.specs.Render.{default, spoken, same};
+ghost use Rattle.text.specs.Render.{default, spoken, sameMeasure};
 
 // The word of the measure that is not the default, as it ends the first line.
 pub const WORD: [u8; 6] = [b' ', b'd', b'a', b'y', b's', b'\n'];
@@ -22,7 +22,7 @@ pub fn named_measure() -> Measure
 }
 
 pub fn is_default(measure: Measure) -> bool
-    ensures { λ r. ⌜ r ≡ same measure default ⌝ }
+    ensures { λ r. ⌜ r ≡ sameMeasure measure default ⌝ }
 {
     match measure {
         Measure::Cost => true,

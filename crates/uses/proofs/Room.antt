@@ -10,7 +10,7 @@ use lib.ListN.{length, drop, length-take}
 use borrow.Author.Tests.{eq-eqb, ne-eqb}
 use Rattle.weights.specs.Lists.{member}
 use Rattle.weights.proofs.Lists.{true-or-false}
-use Rattle.refusal.specs.declared.Answer.the-variants.{Accepted}
+use Rattle.refusal.specs.declared.Acceptance.the-variants.{Accepted}
 use Rattle.weights.specs.Choice.{pick}
 use Rattle.columns.specs.Columns.{Columns, offsetAt, lengthAt, tailAt}
 use Rattle.columns.specs.Acceptance.{allBelow, edgeAt, edgesAcceptance, acceptance}

@@ -19,10 +19,10 @@ use Rattle.weights.specs.Measures.{Algebra, algebra, fold}
 use Rattle.weights.specs.Figures.{over, isStruck}
 use Rattle.weights.specs.declared.Offer.{Offer}
 use Rattle.weights.specs.declared.Offer.the-variants.{Nothing, Found}
-use Rattle.provenance.specs.Labelling.{each, greatest, noneZero}
+use Rattle.provenance.specs.Labelling.{each, greatestDepth, noneZero}
 use Rattle.provenance.specs.BestFirst.{opening}
-use Rattle.columns.specs.Columns.{Columns, headAt, ownAt, tailAt, hypergraph}
-use Rattle.offers.specs.Lent.{cell}
+use Rattle.columns.specs.Columns.{Columns, headAt, ownAt, tailAt, cell}
+use Rattle.tables.specs.Table.{hypergraph}
 use Rattle.offers.proofs.Laws.{rest, rest-more}
 use Rattle.minima.specs.Minima.{none, keys, Grouped}
 use Rattle.queue.specs.Keys.{heavy, Fitting, nothing, found, keyOf}
@@ -68,7 +68,7 @@ plain-fold Days own a x ws = refl
 
 plain-rest : (m : Measure) (e own : ℕ) (w d : ℕ → ℕ) (a x g : ℕ) (vs : List ℕ) → rest (algebra m) e own w d (plain m a x) g vs ≡ rest (algebra m) e own w d (algebra m .join a x) g vs
 unfolding rest
-plain-rest m e own w d a x g vs = ap (λ (z : ℕ). pick (noneZero d vs) (Found (label z (max g (greatest d vs) + 1) e)) Nothing) (plain-fold m own a x (each w vs))
+plain-rest m e own w d a x g vs = ap (λ (z : ℕ). pick (noneZero d vs) (Found (label z (max g (greatestDepth d vs) + 1) e)) Nothing) (plain-fold m own a x (each w vs))
 
 plain-bound : (m : Measure) (a x b : ℕ) → a ≤ b → x < heavy → plain m a x ≤ b + heavy
 plain-bound Cost a x b h k = omega arith

@@ -19,8 +19,8 @@ use Rattle.weights.specs.Figures.{isStruck}
 use Rattle.weights.specs.Measures.{Algebra}
 use Rattle.provenance.specs.Labelling.{noneZero, offerOf}
 use Rattle.provenance.specs.BestFirst.{opening}
-use Rattle.columns.specs.Columns.{Columns, headAt, ownAt, tailAt, hypergraph}
-use Rattle.offers.specs.Lent.{cell}
+use Rattle.columns.specs.Columns.{Columns, headAt, ownAt, tailAt, cell}
+use Rattle.tables.specs.Table.{hypergraph}
 use Rattle.minima.specs.Minima.{none, keys, raised}
 use Rattle.minima.proofs.Laws.{raised-same, raised-other, raised-grouped}
 use Rattle.queue.specs.Keys.{Fitting, keyOf}

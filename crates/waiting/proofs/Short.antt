@@ -9,7 +9,7 @@ use lib.ListN.{length}
 use lib.Dec.{eqb}
 use borrow.Author.Tests.{eq-eqb, ne-eqb, eqb-true, eqb-false}
 use Rattle.weights.specs.Choice.{pick}
-use Rattle.offers.specs.Lent.{cell}
+use Rattle.columns.specs.Columns.{cell}
 use Rattle.waiting.specs.Lines.{end, Chain, ended, linked}
 use Rattle.waiting.proofs.Keeping.{chain-each}
 

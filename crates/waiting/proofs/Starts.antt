@@ -11,8 +11,7 @@ use Rattle.weights.specs.declared.Measure.{Measure}
 use Rattle.weights.proofs.Choice.{apart}
 use Rattle.weights.specs.Figures.{isStruck}
 use Rattle.weights.specs.Measures.{algebra}
-use Rattle.columns.specs.Columns.{Columns, headAt, ownAt, offsetAt, lengthAt, tailAt}
-use Rattle.offers.specs.Lent.{cell}
+use Rattle.columns.specs.Columns.{Columns, headAt, ownAt, offsetAt, lengthAt, tailAt, cell}
 use Rattle.minima.specs.Minima.{Grouped}
 use Rattle.minima.proofs.Laws.{no-keys, no-keys-grouped}
 use Rattle.waiting.specs.Lines.{Lines, pushed, Carried, Gone, Pushable, ended, kept, Moved, stays, waits, Went, Offerable, Going, Starting, Rested, Empty}

@@ -19,12 +19,12 @@ use Rattle.weights.specs.Figures.{isStruck}
 use Rattle.weights.specs.Labels.{label}
 use Rattle.weights.specs.Measures.{Algebra, algebra, fold}
 use Rattle.provenance.specs.Hypergraph.{Hypergraph}
-use Rattle.provenance.specs.Labelling.{each, greatest, noneZero}
+use Rattle.provenance.specs.Labelling.{each, greatestDepth, noneZero}
 use Rattle.provenance.specs.BestFirst.{opening}
-use Rattle.columns.specs.Columns.{Columns, headAt, ownAt, offsetAt, lengthAt, tailAt, hypergraph}
+use Rattle.columns.specs.Columns.{Columns, headAt, ownAt, offsetAt, lengthAt, tailAt, cell}
+use Rattle.tables.specs.Table.{hypergraph}
 use Rattle.columns.proofs.Accepted.{table-accepted, below-at}
-use Rattle.offers.specs.Lent.{cell}
-use Rattle.offers.proofs.Usable.{edge-in}
+use Rattle.columns.proofs.Usable.{edge-in}
 use Rattle.offers.proofs.Laws.{rest, rest-end, rest-whole}
 use Rattle.minima.specs.Minima.{keys}
 use Rattle.queue.specs.Keys.{Fits, Fitting, nothing, found}
@@ -116,7 +116,7 @@ module _ (A : Algebra) (c : Columns) (w d : ℕ → ℕ) (e : ℕ) where
     -- past the end of the tail every vertex of it is made
     pub all-made : noneZero d (tailAt c e) ≡ true
     unfolding rest
-    all-made = go (noneZero d (tailAt c e)) (Found (label (A .finish (ownAt c e) (fold (A .join) (A .unit) (each w (tailAt c e)))) (max 0 (greatest d (tailAt c e)) + 1) e)) at-end
+    all-made = go (noneZero d (tailAt c e)) (Found (label (A .finish (ownAt c e) (fold (A .join) (A .unit) (each w (tailAt c e)))) (max 0 (greatestDepth d (tailAt c e)) + 1) e)) at-end
       where
         go : (b : Bool) (m : Offer) {l : Label} → Found l ≡ pick b m Nothing → b ≡ true
         go true m z = refl

@@ -9,8 +9,7 @@ use lib.ListN.{length}
 use Rattle.weights.specs.declared.Measure.{Measure}
 use Rattle.weights.specs.Figures.{isStruck}
 use Rattle.weights.specs.Measures.{Algebra, algebra}
-use Rattle.columns.specs.Columns.{Columns, ownAt, tailAt}
-use Rattle.offers.specs.Lent.{cell}
+use Rattle.columns.specs.Columns.{Columns, ownAt, tailAt, cell}
 use Rattle.waiting.specs.Lines.{end, Lines, places, pushed, Chain, ended, linked, Waiter, Placed, kept, waits, heard, Waiting, Moved, stays, Went, Offerable, Waking, Rested, Wakeful}
 use Rattle.waiting.proofs.Keeping.{chain-other, pushed-sizes, went-stays, went-waits}
 use Rattle.waiting.proofs.Steps.{few, edge-few, edge-room, head-key, tail-below, edge-fits}

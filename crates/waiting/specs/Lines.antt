@@ -14,10 +14,11 @@ use Rattle.weights.specs.Figures.{isStruck}
 use Rattle.weights.specs.Measures.{Algebra, algebra}
 use Rattle.provenance.specs.Labelling.{noneZero}
 use Rattle.provenance.specs.BestFirst.{opening}
-use Rattle.columns.specs.Columns.{Columns, headAt, ownAt, tailAt, hypergraph}
+use Rattle.columns.specs.Columns.{Columns, headAt, ownAt, tailAt, cell}
+use Rattle.tables.specs.Table.{hypergraph}
 use Rattle.columns.specs.Acceptance.{mostVertices, mostEdges, longestTail}
 use Rattle.weights.specs.Choice.{pick}
-use Rattle.offers.specs.Lent.{cell, Legible, Usable}
+use Rattle.columns.specs.Lent.{Legible, Usable}
 use Rattle.offers.proofs.Laws.{rest}
 use Rattle.minima.specs.Minima.{none, keys, size, Grouped}
 use Rattle.queue.specs.Keys.{heavy}

@@ -11,7 +11,8 @@ ghost use mathlib.Core.Path.{_≡_};
 ghost use Prim.Native.Nat.{_+_, _<_};
 ghost use lib.ListN.{length};
 ghost use Rattle.weights.specs.Measures.{algebra};
-ghost use Rattle.offers.specs.Lent.{lent, cell};
+ghost use Rattle.columns.specs.Lent.{lent};
+ghost use Rattle.columns.specs.Columns.{cell};
 ghost use Rattle.waiting.specs.Lines.{plain, Passable, lines, pushed, Carried, Gone, Pushable, Offerable, Going, Went, Wakeful, Starting, Waking, Rested, Empty};
 
 // In place of a hyperedge, at the end of a list.

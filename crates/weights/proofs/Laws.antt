@@ -9,7 +9,7 @@ use Rattle.weights.specs.declared.Measure.{Measure}
 use Rattle.weights.specs.declared.Measure.the-variants.{Cost, Days}
 use Rattle.weights.specs.Figures.{over}
 use Rattle.weights.specs.Measures.{cost, days, algebra}
-use Rattle.weights.specs.Laws.{NoWorse, Within, Ordered, Lawful}
+use Rattle.weights.specs.Laws.{NoWorse, InRange, Ordered, Lawful}
 
 -- the order by which the least is the best
 pub least : {a b : ℕ} → a ≤ b → NoWorse leb a b
@@ -26,10 +26,10 @@ upward = record {
   total = λ a b e. least (omega (arith, leb-false a b e));
 }
 
-pub below-over : {a : ℕ} → Within cost a → a ≤ over
+pub below-over : {a : ℕ} → InRange cost a → a ≤ over
 below-over {a} p = leb-true a over (p .holds)
 
-within-cost : {a : ℕ} → a ≤ over → Within cost a
+within-cost : {a : ℕ} → a ≤ over → InRange cost a
 within-cost {a} h = record { holds = le-leb a over h }
 
 pub cost-lawful : Lawful cost

@@ -4,7 +4,7 @@ use mathlib.Core.Path.{_≡_}
 use mathlib.Core.List.{List, [], _∷_, List·Memᴰ, List·Memᴰ·head, List·Memᴰ·tail}
 use Prim.Native.Nat.{ℕ}
 use Rattle.weights.specs.Measures.{Algebra, fold, weigh}
-use Rattle.weights.specs.Laws.{NoWorse, Within, Lawful}
+use Rattle.weights.specs.Laws.{NoWorse, InRange, Lawful}
 
 -- each weight of one list is no worse than the other's
 pub data Pointwise (A : Algebra) : List ℕ → List ℕ → Type 0 where
@@ -21,18 +21,18 @@ module _ {A : Algebra} (L : Lawful A) where
   fold-mono o Pointwise.none = o
   fold-mono o (Pointwise.more p ps) = fold-mono (L .join-mono o p) ps
 
-  fold-within : {a : ℕ} (xs : List ℕ) → Within A a → Within A (fold (A .join) a xs)
+  fold-within : {a : ℕ} (xs : List ℕ) → InRange A a → InRange A (fold (A .join) a xs)
   unfolding fold
   fold-within [] h = h
   fold-within {a} (x ∷ xs) h = fold-within xs (L .join-within a x)
 
   -- where the joining starts is no worse than the whole, and so is each weight on the way
-  fold-from : {a : ℕ} (xs : List ℕ) → Within A a → NoWorse (A .leq) a (fold (A .join) a xs)
+  fold-from : {a : ℕ} (xs : List ℕ) → InRange A a → NoWorse (A .leq) a (fold (A .join) a xs)
   unfolding fold
   fold-from [] h = L .ordered .reflexive
   fold-from {a} (x ∷ xs) h = L .ordered .transitive (L .join-left x h) (fold-from xs (L .join-within a x))
 
-  fold-superior : (a : ℕ) {x : ℕ} {xs : List ℕ} → List·Memᴰ x xs → Within A x → NoWorse (A .leq) x (fold (A .join) a xs)
+  fold-superior : (a : ℕ) {x : ℕ} {xs : List ℕ} → List·Memᴰ x xs → InRange A x → NoWorse (A .leq) x (fold (A .join) a xs)
   unfolding fold
   fold-superior a (List·Memᴰ·head {x = y} {xs = ys} e) h = rw e (L .ordered .transitive (L .join-right a (rw e at h)) (fold-from ys (L .join-within a y)))
   fold-superior a (List·Memᴰ·tail {x = y} i) h = fold-superior (A .join a y) i h
@@ -41,11 +41,11 @@ module _ {A : Algebra} (L : Lawful A) where
   unfolding weigh
   weigh-mono o ps = L .finish-mono o (fold-mono (L .ordered .reflexive) ps)
 
-  pub weigh-within : (own : ℕ) (xs : List ℕ) → Within A (weigh A own xs)
+  pub weigh-within : (own : ℕ) (xs : List ℕ) → InRange A (weigh A own xs)
   unfolding weigh
   weigh-within own xs = L .finish-within own (fold (A .join) (A .unit) xs)
 
   -- superiority (document 000, before Lemma 2)
-  pub superior : (own : ℕ) {x : ℕ} {xs : List ℕ} → List·Memᴰ x xs → Within A x → NoWorse (A .leq) x (weigh A own xs)
+  pub superior : (own : ℕ) {x : ℕ} {xs : List ℕ} → List·Memᴰ x xs → InRange A x → NoWorse (A .leq) x (weigh A own xs)
   unfolding weigh
   superior own {x} {xs} i h = L .ordered .transitive (fold-superior (A .unit) i h) (L .finish-superior own (fold-within xs (L .unit-within)))

@@ -9,7 +9,7 @@ use Rattle.weights.specs.Measures.{Algebra}
 pub record NoWorse (leq : ℕ → ℕ → Bool) (a b : ℕ) : Type 0 where
   pub holds : leq a b ≡ true
 
-pub record Within (A : Algebra) (a : ℕ) : Type 0 where
+pub record InRange (A : Algebra) (a : ℕ) : Type 0 where
   pub holds : A .within a ≡ true
 
 -- a total order
@@ -22,10 +22,10 @@ pub record Ordered (leq : ℕ → ℕ → Bool) : Type 0 where
 pub record Lawful (A : Algebra) : Type 0 where
   pub ordered : Ordered (A .leq)
   pub join-mono : {a b c d : ℕ} → NoWorse (A .leq) a b → NoWorse (A .leq) c d → NoWorse (A .leq) (A .join a c) (A .join b d)
-  pub join-left : {a : ℕ} (b : ℕ) → Within A a → NoWorse (A .leq) a (A .join a b)
-  pub join-right : (a : ℕ) {b : ℕ} → Within A b → NoWorse (A .leq) b (A .join a b)
-  pub join-within : (a b : ℕ) → Within A (A .join a b)
-  pub unit-within : Within A (A .unit)
+  pub join-left : {a : ℕ} (b : ℕ) → InRange A a → NoWorse (A .leq) a (A .join a b)
+  pub join-right : (a : ℕ) {b : ℕ} → InRange A b → NoWorse (A .leq) b (A .join a b)
+  pub join-within : (a b : ℕ) → InRange A (A .join a b)
+  pub unit-within : InRange A (A .unit)
   pub finish-mono : {a b c d : ℕ} → NoWorse (A .leq) a b → NoWorse (A .leq) c d → NoWorse (A .leq) (A .finish a c) (A .finish b d)
-  pub finish-superior : (own : ℕ) {a : ℕ} → Within A a → NoWorse (A .leq) a (A .finish own a)
-  pub finish-within : (own a : ℕ) → Within A (A .finish own a)
+  pub finish-superior : (own : ℕ) {a : ℕ} → InRange A a → NoWorse (A .leq) a (A .finish own a)
+  pub finish-within : (own a : ℕ) → InRange A (A .finish own a)

@@ -10,8 +10,8 @@ use borrow.Author.Tests.{leb-true, leb-false}
 use Rattle.weights.specs.declared.Measure.{Measure}
 use Rattle.weights.specs.Choice.{pick}
 use Rattle.refusal.specs.declared.Refusal.the-variants.{TextRoom}
-use Rattle.refusal.specs.declared.Answer.{Answer}
-use Rattle.refusal.specs.declared.Answer.the-variants.{Accepted, Refused}
+use Rattle.refusal.specs.declared.Acceptance.{Acceptance}
+use Rattle.refusal.specs.declared.Acceptance.the-variants.{Accepted, Refused}
 use Rattle.refusal.specs.declared.Extent.the-variants as extent
 use Rattle.columns.specs.Columns.{Columns}
 use Rattle.columns.specs.Acceptance.{acceptance}
@@ -32,7 +32,7 @@ module _ (m : Measure) (c : Columns) (room : List ℕ) where
   by-room t true e = Owed.accepted (record { table = t; room = leb-true (length text) (length room) e })
   by-room t false e = Owed.refused (WrongWrite.room t (λ h. omega (arith, leb-false (length text) (length room) e, h)))
 
-  by-table : (x : Answer) → acceptance c ≡ x → WriteOwes m c room (writeAs x text room)
+  by-table : (x : Acceptance) → acceptance c ≡ x → WriteOwes m c room (writeAs x text room)
   unfolding writeText
   by-table Accepted p = by-room (accepted-exactly c .0 p) (leb (length text) (length room)) refl
   by-table (Refused r) p = Owed.refused (WrongWrite.table (refused-exactly c r .0 p))

@@ -10,8 +10,8 @@ use borrow.Author.Tests.{lt-ltb, le-leb, lt-leb}
 use Rattle.weights.specs.declared.Measure.{Measure}
 use Rattle.refusal.specs.declared.Refusal.the-variants.{TextRoom}
 use Rattle.refusal.specs.declared.Refusal.{Refusal}
-use Rattle.refusal.specs.declared.Answer.{Answer}
-use Rattle.refusal.specs.declared.Answer.the-variants.{Accepted, Refused}
+use Rattle.refusal.specs.declared.Acceptance.{Acceptance}
+use Rattle.refusal.specs.declared.Acceptance.the-variants.{Accepted, Refused}
 use Rattle.refusal.specs.declared.Extent.the-variants as extent
 use Rattle.columns.specs.Columns.{Columns, headAt, ownAt, offsetAt, lengthAt, tailAt}
 use Rattle.columns.specs.Acceptance.{mostVertices, mostEdges, mostListed, allBelow, acceptance}
@@ -219,7 +219,7 @@ write-whole text room new n h e w = rw (le-leb (length text) (length room) h) (a
 
 -- by what the check of the table says
 pub write-refused : (m : Measure) (c : Columns) (room : List ℕ) (r : Refusal) → acceptance c ≡ Refused r → writeOutcome (extent.Refused r) room ≡ writeTable m c room
-write-refused m c room r e = ap (λ (a : Answer). writeAs a (render m c) room) (sym e)
+write-refused m c room r e = ap (λ (a : Acceptance). writeAs a (render m c) room) (sym e)
 
 pub write-accepted : (m : Measure) (c : Columns) (room : List ℕ) → acceptance c ≡ Accepted → writeText (render m c) room ≡ writeTable m c room
-write-accepted m c room e = ap (λ (a : Answer). writeAs a (render m c) room) (sym e)
+write-accepted m c room e = ap (λ (a : Acceptance). writeAs a (render m c) room) (sym e)

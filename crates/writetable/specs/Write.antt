@@ -8,8 +8,8 @@ use lib.Dec.{leb}
 use Rattle.weights.specs.declared.Measure.{Measure}
 use Rattle.weights.specs.Choice.{pick}
 use Rattle.refusal.specs.declared.Refusal.the-variants.{TextRoom}
-use Rattle.refusal.specs.declared.Answer.{Answer}
-use Rattle.refusal.specs.declared.Answer.the-variants.{Accepted, Refused}
+use Rattle.refusal.specs.declared.Acceptance.{Acceptance}
+use Rattle.refusal.specs.declared.Acceptance.the-variants.{Accepted, Refused}
 use Rattle.refusal.specs.declared.Extent.{Extent}
 use Rattle.refusal.specs.declared.Extent.the-variants as extent
 use Rattle.columns.specs.Columns.{Columns}
@@ -30,7 +30,7 @@ unfoldable pub writeText : (text room : List ℕ) → WriteOutcome
 writeText text room = pick (leb (length text) (length room)) (writeOutcome (extent.Length (length text)) (filled text room)) (writeOutcome (extent.Refused TextRoom) room)
 
 -- by whether the table is accepted
-abbrev pub writeAs : Answer → (text room : List ℕ) → WriteOutcome
+abbrev pub writeAs : Acceptance → (text room : List ℕ) → WriteOutcome
 writeAs Accepted text room = writeText text room
 writeAs (Refused r) text room = writeOutcome (extent.Refused r) room
 

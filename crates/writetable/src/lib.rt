@@ -1,6 +1,6 @@
 // Writing a table that is lent as columns into lent room.
 use columns::check_table;
-use refusal::Answer;
+use refusal::Acceptance;
 use refusal::Extent;
 use refusal::Refusal;
 use weights::Measure;
@@ -12,7 +12,7 @@ use writing::put_edge;
 use writing::put_header;
 ghost use mathlib.Core.Path.{_≡_};
 ghost use lib.ListN.{length};
-ghost use Rattle.refusal.specs.declared.Answer.the-variants.{Accepted};
+ghost use Rattle.refusal.specs.declared.Acceptance.the-variants.{Accepted};
 ghost use Rattle.columns.specs.Columns.{columns};
 ghost use Rattle.columns.specs.Acceptance.{acceptance};
 ghost use Rattle.text.specs.Render.{render};
@@ -83,7 +83,7 @@ pub fn write_table(
     ensures { λ r. ⌜ writeOutcome r (now (room .exit)) ≡ writeTable measure (columns n (now (heads .entry)) (now (own .entry)) (now (spans .entry)) (now (tails .entry))) (now (room .entry)) ⌝ }
 {
     let checked = check_table(n, heads, own, spans, tails);
-    if let Answer::Refused(r) = checked {
+    if let Acceptance::Refused(r) = checked {
         return Extent::Refused(r);
     }
     let width = text_width(measure, n, heads, own, spans, tails);

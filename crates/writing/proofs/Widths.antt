@@ -13,7 +13,7 @@ use Rattle.weights.specs.Figures.{struck, isStruck}
 use Rattle.columns.specs.Acceptance.{mostVertices}
 use Rattle.columns.proofs.Accepted.{below-at}
 use Rattle.text.specs.Tables.{Edge}
-use Rattle.text.specs.Render.{digits, default, same, opening, word, measureText, header, ownText, tailText, edgeText}
+use Rattle.text.specs.Render.{digits, default, sameMeasure, firstWord, word, measureText, header, ownText, tailText, edgeText}
 use Rattle.text.proofs.Digits.{pick-by, digits-one, digits-more, by-digits}
 use Rattle.text.specs.Rows.{EdgeFits}
 use Rattle.text.proofs.Sound.{tail-text-snoc}
@@ -87,11 +87,11 @@ tail-most vs f =
         omega arith
 
 -- the end of the first line, by whether the measure is the default
-pub default-end : (m : Measure) → same m default ≡ true → measureText m ≡ 10 ∷ []
+pub default-end : (m : Measure) → sameMeasure m default ≡ true → measureText m ≡ 10 ∷ []
 unfolding measureText
 default-end m e = rw e
 
-pub named-end : (m : Measure) → same m default ≡ false → measureText m ≡ word ++ 10 ∷ []
+pub named-end : (m : Measure) → sameMeasure m default ≡ false → measureText m ≡ word ++ 10 ∷ []
 unfolding measureText
 named-end m e = rw e
 
@@ -127,8 +127,8 @@ line-most e f =
     omega arith
 
 pub header-width-is : (n : ℕ) (m : Measure) → length (header n m) ≡ 6 + length (digits n) + length (measureText m)
-unfolding header opening
-header-width-is n m = let a = length-append (opening ++ digits n) (measureText m) in let b = length-append opening (digits n) in omega arith
+unfolding header firstWord
+header-width-is n m = let a = length-append (firstWord ++ digits n) (measureText m) in let b = length-append firstWord (digits n) in omega arith
 
 pub header-most : (n : ℕ) (m : Measure) → n ≤ mostVertices → length (header n m) ≤ 2000
 header-most n m h = let a = header-width-is n m in let b = width-most n in let c = measure-most m in omega arith

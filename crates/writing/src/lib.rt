@@ -11,7 +11,7 @@ ghost use Prim.Native.Nat.{_≤_};
 ghost use lib.ListN.{length};
 ghost use Rattle.columns.specs.Acceptance.{mostVertices};
 ghost use Rattle.text.specs.Tables.{edge};
-ghost use Rattle.text.specs.Render.{digits, opening, measureText, header, ownText, tailText, edgeText};
+ghost use Rattle.text.specs.Render.{digits, firstWord, measureText, header, ownText, tailText, edgeText};
 ghost use Rattle.text.specs.Rows.{EdgeFits};
 ghost use Rattle.writing.specs.Written.{Written, TailFits, OwnFits};
 
@@ -174,8 +174,8 @@ pub fn header_width(n: u64, measure: Measure) -> usize
 }
 
 fn put_opening(room: &mut [u8], n: u64) -> usize
-    requires { ⌜ length (opening ++ digits n) ≤ length (now room) ⌝ }
-    ensures { λ r. ⌜ Written (opening ++ digits n) (now (room .entry)) r (now (room .exit)) ⌝ }
+    requires { ⌜ length (firstWord ++ digits n) ≤ length (now room) ⌝ }
+    ensures { λ r. ⌜ Written (firstWord ++ digits n) (now (room .entry)) r (now (room .exit)) ⌝ }
 {
     let at = put_bytes(room, b"parts ");
     let width = put_number(&mut room[at..], n);

@@ -4,11 +4,10 @@ use Rattle.bill.proofs.bill.Statement.{statement}
 use Rattle.bill.proofs.bill.Tie as tie
 use mathlib.Core.Path.{_≡_, sym, _∙_}
 use native.Mathlib.Omega.{arith}
-use Rattle.refusal.specs.declared.Answer.the-variants.{Accepted}
-use Rattle.provenance.specs.BestFirst.{Answers}
-use Rattle.columns.specs.Columns.{Columns, columns, answers}
+use Rattle.refusal.specs.declared.Acceptance.the-variants.{Accepted}
+use Rattle.columns.specs.Columns.{Answers, Columns, columns, answers}
 use Rattle.bill.specs.Billing.{partAcceptance}
-use Rattle.bill.proofs.Printed.{bill-refused, bill-placed, bill-grounded, bill-printed}
+use Rattle.bill.proofs.Printed.{bill-refused, bill-placed, bill-grounded, vertex-printed}
 
 -- the table and the answers; past the check of the part it is accepted
 abbrev tableOf : tie.Start → Columns
@@ -46,7 +45,7 @@ returns-2 : tie.Need-returns-2
 returns-2 c =
     let p = c .before .before .before .before .before in
     let s = entry p in
-    c .before .before .print .ensures ∙ bill-printed (s .args .measure) (tableOf s) (came s) (s .args .part .0) (accepted p) (s .args .room .now)
+    c .before .before .print .ensures ∙ vertex-printed (s .args .measure) (tableOf s) (came s) (s .args .part .0) (accepted p) (s .args .room .now)
 
 pub bill-spec : {M : Type 1} → statement M
 bill-spec =

@@ -4,12 +4,11 @@ use mathlib.Core.Bool.{true}
 use native.Mathlib.Omega.{arith}
 use borrow.Author.Needs.{needs}
 use borrow.Author.Tests.{not-true, not-false}
-use Rattle.refusal.specs.declared.Answer.the-variants.{Accepted}
-use Rattle.provenance.specs.BestFirst.{Answers}
-use Rattle.columns.specs.Columns.{Columns, columns, answers}
+use Rattle.refusal.specs.declared.Acceptance.the-variants.{Accepted}
+use Rattle.columns.specs.Columns.{Answers, Columns, columns, answers}
 use Rattle.columns.specs.Acceptance.{lentAcceptance}
 use Rattle.columns.proofs.Accepted.{columns-accepted}
-use Rattle.columns.specs.Same.{same}
+use Rattle.columns.specs.Same.{sameAnswers}
 use Rattle.settle.specs.Settling.{answersOf}
 use Rattle.bill.proofs.Admitted.{part-refused, part-absent, part-wrong, part-placed, part-underivable, part-accepted}
 use Rattle.bill.proofs.check_part.Statement.{statement}
@@ -30,7 +29,7 @@ accepted : (c : tie.After-enum-told) → lentAcceptance (tableOf (entry c)) (cam
 accepted c = sym (c .before .before .check-lent .ensures) ∙ c .enum-told .given .1
 
 -- and past 8 the answers are the table's
-right : (c : tie.Else2) → let s = entry (c .before .before .before .before) in same (came s) (answersOf (s .args .measure) (tableOf s)) ≡ true
+right : (c : tie.Else2) → let s = entry (c .before .before .before .before) in sameAnswers (came s) (answersOf (s .args .measure) (tableOf s)) ≡ true
 right c = sym (c .before .answers-right .ensures) ∙ not-false _ (c .if2 .left)
 
 returns : tie.Need-returns

@@ -1,5 +1,5 @@
 use mathlib.Core.Path.{_∙_, ap}
-use Rattle.refusal.specs.Refusals.{answerResult}
+use Rattle.refusal.specs.Refusals.{acceptanceResult}
 use borrow.Author.Needs.{needs}
 use Rattle.harness.proofs.harness_check_table.Statement.{statement}
 use Rattle.harness.proofs.harness_check_table.Tie as tie
@@ -11,7 +11,7 @@ result-requires : tie.Need-result-requires
 result-requires c κs = search needs
 
 returns : tie.Need-returns
-returns c = c .result .ensures ∙ ap answerResult (c .before .check-table .ensures)
+returns c = c .result .ensures ∙ ap acceptanceResult (c .before .check-table .ensures)
 
 pub harness-check-table-spec : {M : Type 1} → statement M
 harness-check-table-spec = tie.close (tie.spec check-table-requires result-requires returns)

@@ -8,7 +8,7 @@ use mathlib.Core.Bool.{false}
 use Rattle.weights.specs.Figures.{isStruck}
 use Rattle.weights.specs.Measures.{algebra}
 use Rattle.columns.specs.Acceptance.{mostVertices}
-use Rattle.offers.specs.Lent.{cell}
+use Rattle.columns.specs.Columns.{cell}
 use Rattle.offers.proofs.Laws.{rest, rest-more, rest-stop, rest-end, rest-whole, struck-nothing}
 use Rattle.offers.proofs.candidate.Statement.{statement}
 use Rattle.offers.proofs.candidate.Tie as tie

@@ -8,7 +8,7 @@ use borrow.Author.Tests.{not-true, not-false}
 use lib.ListN.{getD, drop, length-drop}
 use Rattle.weights.specs.declared.Measure.{Measure}
 use Rattle.columns.specs.Acceptance.{mostVertices}
-use Rattle.text.specs.Render.{word, opening}
+use Rattle.text.specs.Render.{word, firstWord}
 use Rattle.columns.proofs.Filled.{part-whole}
 use Rattle.cursor.specs.declared.Found.the-variants.{Number}
 use Rattle.cursor.specs.Cursor.{numberAt}
@@ -21,12 +21,12 @@ use Rattle.reading.proofs.first_line.Statement.{statement}
 use Rattle.reading.proofs.first_line.Tie as tie
 
 returns : tie.Need-returns
-unfolding opening
+unfolding firstWord
 returns c = first-unopened _ (sym (c .before .starts-with .ensures) ∙ not-true _ (c .if1 .taken))
 
--- behind the opening the number of vertices decides
+-- behind the firstWord the number of vertices decides
 opened : (c : tie.Else1) → let s = c .before .before .before .before .args .text .now in onCount s (numberAt s 6 (mostVertices + 1)) ≡ firstLine s
-unfolding opening
+unfolding firstWord
 opened c = first-opened _ (sym (c .before .starts-with .ensures) ∙ not-false _ (c .if1 .left))
 
 enum-told : tie.Need-enum-told

@@ -3,8 +3,7 @@
 use mathlib.Core.Path.{sym, _∙_}
 use borrow.Author.Needs.{needs}
 use borrow.Author.Tests.{not-true, not-false}
-use Rattle.provenance.specs.BestFirst.{Answers}
-use Rattle.columns.specs.Columns.{Columns, columns, answers}
+use Rattle.columns.specs.Columns.{Answers, Columns, columns, answers}
 use Rattle.reprice.proofs.Laws.{change-accepted, change-made, change-refused}
 use Rattle.reprice.proofs.change.Statement.{statement}
 use Rattle.reprice.proofs.change.Tie as tie

@@ -4,9 +4,8 @@ use Rattle.reprice.proofs.strike.Statement.{statement}
 use Rattle.reprice.proofs.strike.Tie as tie
 use mathlib.Core.Path.{_≡_, refl, sym, _∙_}
 use native.Mathlib.Omega.{arith}
-use Rattle.refusal.specs.declared.Answer.the-variants.{Accepted}
-use Rattle.provenance.specs.BestFirst.{Answers}
-use Rattle.columns.specs.Columns.{Columns, columns, answers}
+use Rattle.refusal.specs.declared.Acceptance.the-variants.{Accepted}
+use Rattle.columns.specs.Columns.{Answers, Columns, columns, answers}
 use Rattle.reprice.specs.Repricing.{lineAcceptance}
 use Rattle.reprice.proofs.Laws.{strike-by, strike-line, strike-answers, line-changeable}
 

@@ -5,8 +5,7 @@ use mathlib.Core.Bool.{true}
 use Prim.Native.Nat.{_+_}
 use borrow.Author.Needs.{needs}
 use borrow.Author.Tests.{not-true, not-false}
-use Rattle.provenance.specs.BestFirst.{Answers}
-use Rattle.columns.specs.Columns.{Columns, columns, answers}
+use Rattle.columns.specs.Columns.{Answers, Columns, columns, answers}
 use Rattle.columns.specs.Acceptance.{allBelow}
 use Rattle.settle.proofs.Checked.{too-deep, usable, wrong-vertex, edges-decide}
 use Rattle.settle.proofs.answers_right.Statement.{statement}

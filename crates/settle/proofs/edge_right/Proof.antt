@@ -4,7 +4,7 @@ use native.Mathlib.Omega.{arith}
 use lib.ListN.{length, getD}
 use mathlib.Core.Path.{_∙_, ap}
 use Rattle.provenance.specs.Local.{keepsUp, edgeRight}
-use Rattle.offers.proofs.Usable.{head-in, edge-in}
+use Rattle.columns.proofs.Usable.{head-in, edge-in}
 use borrow.Author.Needs.{needs}
 use Rattle.settle.proofs.edge_right.Statement.{statement}
 use Rattle.settle.proofs.edge_right.Tie as tie

@@ -7,11 +7,12 @@ use borrow.Author.Needs.{needs}
 use borrow.Author.Tests.{not-true, not-false}
 use lib.ListN.{length}
 use Rattle.weights.specs.Measures.{algebra}
-use Rattle.columns.specs.Columns.{answers, hypergraph}
+use Rattle.columns.specs.Columns.{answers, cell}
+use Rattle.tables.specs.Table.{hypergraph}
 use Rattle.provenance.specs.BestFirst.{labels}
 use Rattle.provenance.specs.Local.{every, edgeRight}
 use Rattle.provenance.proofs.Local.{every-more, every-stop}
-use Rattle.offers.specs.Lent.{lent, cell}
+use Rattle.columns.specs.Lent.{lent}
 use Rattle.settle.proofs.edges_right.Statement.{statement}
 use Rattle.settle.proofs.edges_right.Tie as tie
 

@@ -1,8 +1,7 @@
 -- `settle::label` meets its contract: the columns are set to 0, which is unmade, and best-first labels them. Assumes nothing.
 use borrow.Author.Needs.{needs}
 use lib.ListN.{length}
-use Rattle.provenance.specs.BestFirst.{Answers}
-use Rattle.columns.specs.Columns.{Columns, columns, answers}
+use Rattle.columns.specs.Columns.{Answers, Columns, columns, answers}
 use Rattle.settle.proofs.Settled.{all-unmade, labelled}
 use Rattle.settle.proofs.label.Statement.{statement}
 use Rattle.settle.proofs.label.Tie as tie

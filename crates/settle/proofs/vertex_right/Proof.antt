@@ -3,8 +3,8 @@ use mathlib.Core.Path.{_∙_, ap}
 use borrow.Author.Tests.{eq-eqb, ne-eqb, lt-ltb, le-ltb}
 use Rattle.weights.specs.declared.Offer.{Offer}
 use Rattle.provenance.specs.Local.{gives, vertexRight}
-use Rattle.offers.specs.Lent.{cell}
-use Rattle.offers.proofs.Usable.{edge-in}
+use Rattle.columns.specs.Columns.{cell}
+use Rattle.columns.proofs.Usable.{edge-in}
 use borrow.Author.Needs.{needs}
 use Rattle.settle.proofs.vertex_right.Statement.{statement}
 use Rattle.settle.proofs.vertex_right.Tie as tie

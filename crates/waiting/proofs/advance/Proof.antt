@@ -10,9 +10,10 @@ use Rattle.weights.specs.declared.Offer.the-variants.{Found}
 use Rattle.weights.specs.Labels.{label}
 use Rattle.weights.specs.Measures.{algebra}
 use Rattle.provenance.specs.BestFirst.{opening}
-use Rattle.columns.specs.Columns.{offsetAt, lengthAt, tailAt, hypergraph}
-use Rattle.offers.specs.Lent.{lent, cell}
-use Rattle.offers.proofs.Usable.{edge-in}
+use Rattle.columns.specs.Columns.{offsetAt, lengthAt, tailAt, cell}
+use Rattle.tables.specs.Table.{hypergraph}
+use Rattle.columns.specs.Lent.{lent}
+use Rattle.columns.proofs.Usable.{edge-in}
 use Rattle.minima.specs.Minima.{lowered}
 use Rattle.queue.specs.Queue.{offered}
 use Rattle.waiting.specs.Lines.{lines, Gone}

@@ -7,8 +7,8 @@ use mathlib.Core.Bool.{false}
 use native.Mathlib.Omega.{arith}
 use borrow.Author.Needs.{needs}
 use Rattle.weights.specs.Figures.{isStruck}
-use Rattle.offers.specs.Lent.{cell}
-use Rattle.offers.proofs.Usable.{edge-in}
+use Rattle.columns.specs.Columns.{cell}
+use Rattle.columns.proofs.Usable.{edge-in}
 use Rattle.waiting.proofs.Steps.{tails-few}
 use Rattle.waiting.proofs.Starts.{struck-next, going, first-pushable, first-waits, went-next}
 

@@ -7,7 +7,7 @@ use native.Mathlib.Omega.{arith}
 use borrow.Author.Needs.{needs}
 use lib.ListN.{length}
 use Rattle.weights.specs.Measures.{algebra}
-use Rattle.offers.specs.Lent.{cell}
+use Rattle.columns.specs.Columns.{cell}
 use Rattle.waiting.specs.Lines.{Carried}
 use Rattle.waiting.proofs.Keeping.{unit-none, carried-more}
 

@@ -5,7 +5,7 @@ use mathlib.Core.Path.{sym, _∙_}
 use Prim.Native.Nat.{_-_, _≤_}
 use native.Mathlib.Omega.{arith}
 use lib.ListN.{length}
-use Rattle.offers.specs.Lent.{lent}
+use Rattle.columns.specs.Lent.{lent}
 use Rattle.waiting.specs.Lines.{lines, Starting}
 use Rattle.waiting.proofs.Steps.{edge-few}
 use Rattle.waiting.proofs.Starts.{nothing-waits, all-started}

@@ -5,8 +5,9 @@ use mathlib.Core.Path.{refl}
 use native.Mathlib.Omega.{arith}
 use borrow.Author.Needs.{needs}
 use Rattle.weights.specs.Measures.{algebra}
-use Rattle.offers.specs.Lent.{lent, cell}
-use Rattle.offers.proofs.Usable.{head-in}
+use Rattle.columns.specs.Lent.{lent}
+use Rattle.columns.specs.Columns.{cell}
+use Rattle.columns.proofs.Usable.{head-in}
 use Rattle.waiting.specs.Lines.{stays}
 use Rattle.waiting.proofs.Steps.{edge-room, heard-made}
 

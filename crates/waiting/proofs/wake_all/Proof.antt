@@ -4,7 +4,7 @@ use Rattle.waiting.proofs.wake_all.Tie as tie
 use mathlib.Core.Path.{sym, _∙_}
 use Prim.Native.Nat.{_<_}
 use native.Mathlib.Omega.{arith}
-use Rattle.offers.specs.Lent.{lent}
+use Rattle.columns.specs.Lent.{lent}
 use Rattle.waiting.specs.Lines.{lines, Offerable, Waking}
 use Rattle.waiting.proofs.Steps.{vertices-few}
 use Rattle.waiting.proofs.Short.{steps}

@@ -3,7 +3,7 @@ use mathlib.Core.List.{_++_}
 use native.Mathlib.Omega.{arith}
 use borrow.Author.Needs.{needs}
 use lib.ListN.{length-append}
-use Rattle.text.specs.Render.{digits, opening, measureText, header}
+use Rattle.text.specs.Render.{digits, firstWord, measureText, header}
 use Rattle.writing.proofs.Widths.{width-most, measure-most}
 use Rattle.writing.proofs.header_width.Statement.{statement}
 use Rattle.writing.proofs.header_width.Tie as tie
@@ -28,12 +28,12 @@ add-result-2 c =
     omega arith
 
 returns : tie.Need-returns
-unfolding header opening
+unfolding header firstWord
 returns c =
     let a = c .before .before .args in
     let w = c .before .number-width .ensures in
     let v = c .measure-width .ensures in
-    omega (arith, length-append (opening ++ digits (a .n)) (measureText (a .measure)), length-append opening (digits (a .n)))
+    omega (arith, length-append (firstWord ++ digits (a .n)) (measureText (a .measure)), length-append firstWord (digits (a .n)))
 
 pub header-width-spec : {M : Type 1} → statement M
 header-width-spec =

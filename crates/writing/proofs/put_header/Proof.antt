@@ -4,30 +4,30 @@ use Prim.Native.Nat.{_≤_}
 use native.Mathlib.Omega.{arith}
 use borrow.Author.Needs.{needs}
 use lib.ListN.{length}
-use Rattle.text.specs.Render.{digits, opening, measureText, header}
+use Rattle.text.specs.Render.{digits, firstWord, measureText, header}
 use Rattle.writing.proofs.Written.{lent-room, within, written-part, first-fits}
 use Rattle.writing.proofs.put_header.Statement.{statement}
 use Rattle.writing.proofs.put_header.Tie as tie
 
 -- the two pieces have room
-whole : (c : tie.Start) → length ((opening ++ digits (c .args .n)) ++ measureText (c .args .measure)) ≤ length (c .args .room .now)
+whole : (c : tie.Start) → length ((firstWord ++ digits (c .args .n)) ++ measureText (c .args .measure)) ≤ length (c .args .room .now)
 unfolding header
 whole c = c .pre
 
 put-opening-requires : tie.Need-put-opening-requires
 unfolding header
-put-opening-requires c κs = let s = c .before .before in first-fits (opening ++ digits (s .args .n)) (measureText (s .args .measure)) (s .args .room .now) (whole s)
+put-opening-requires c κs = let s = c .before .before in first-fits (firstWord ++ digits (s .args .n)) (measureText (s .args .measure)) (s .args .room .now) (whole s)
 
 sub-put-measure : tie.Need-sub-put-measure
 unfolding header
-sub-put-measure c = let s = c .before .before .before .before .before in within (opening ++ digits (s .args .n)) _ _ _ (c .before .before .put-opening .ensures) (measureText (s .args .measure)) (whole s)
+sub-put-measure c = let s = c .before .before .before .before .before in within (firstWord ++ digits (s .args .n)) _ _ _ (c .before .before .put-opening .ensures) (measureText (s .args .measure)) (whole s)
 
 part-put-measure-start : tie.Need-part-put-measure-start
 part-put-measure-start c = let r = sub-put-measure c in search (needs, r)
 
 put-measure-requires : tie.Need-put-measure-requires
 unfolding header
-put-measure-requires c κs = let k = c .before in let s = k .before .before .before .before .before in lent-room (opening ++ digits (s .args .n)) _ _ _ (k .before .before .put-opening .ensures) (measureText (s .args .measure)) (whole s)
+put-measure-requires c κs = let k = c .before in let s = k .before .before .before .before .before in lent-room (firstWord ++ digits (s .args .n)) _ _ _ (k .before .before .put-opening .ensures) (measureText (s .args .measure)) (whole s)
 
 returns : tie.Need-returns
 unfolding header
@@ -35,7 +35,7 @@ returns c =
     let p = c .before .before in
     let k = p .before .before in
     let s = k .before .before .before .before .before in
-    written-part (opening ++ digits (s .args .n)) _ _ _ (k .before .before .put-opening .ensures) (measureText (s .args .measure)) _ _ (whole s) (p .put-measure .ensures)
+    written-part (firstWord ++ digits (s .args .n)) _ _ _ (k .before .before .put-opening .ensures) (measureText (s .args .measure)) _ _ (whole s) (p .put-measure .ensures)
 
 add-result : tie.Need-add-result
 add-result c =

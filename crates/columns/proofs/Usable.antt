@@ -4,13 +4,11 @@ use mathlib.Core.List.{List}
 use Prim.Native.Nat.{ℕ, _≤_, _<_}
 use native.Mathlib.Omega.{arith}
 use lib.ListN.{length}
-use Rattle.refusal.specs.declared.Answer.the-variants.{Accepted}
-use Rattle.provenance.specs.BestFirst.{Answers}
-use Rattle.provenance.specs.Existence.{Sized}
-use Rattle.columns.specs.Columns.{Columns, columns, headAt}
+use Rattle.refusal.specs.declared.Acceptance.the-variants.{Accepted}
+use Rattle.columns.specs.Columns.{Answers, Sized, Columns, columns, headAt, cell}
 use Rattle.columns.specs.Acceptance.{mostVertices, acceptance}
 use Rattle.columns.proofs.Accepted.{table-accepted, below-at}
-use Rattle.offers.specs.Lent.{cell, EdgeIn, Usable, Turning}
+use Rattle.columns.specs.Lent.{EdgeIn, Usable, Turning}
 
 module _ {c : Columns} {ws ds : List ℕ} (u : Usable c ws ds) (e : ℕ) (h : e < length (c .heads)) where
   pub head-in : headAt c e < length ds

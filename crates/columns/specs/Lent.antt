@@ -3,19 +3,14 @@
 use mathlib.Core.Path.{_≡_}
 use Prim.Native.Nat.{ℕ, _+_, _*_, _≤_, _<_}
 use mathlib.Core.List.{List}
-use lib.ListN.{length, getD}
-use Rattle.refusal.specs.declared.Answer.the-variants.{Accepted}
-use Rattle.provenance.specs.BestFirst.{Answers}
-use Rattle.columns.specs.Columns.{Columns, columns, tailOf}
+use lib.ListN.{length}
+use Rattle.refusal.specs.declared.Acceptance.the-variants.{Accepted}
+use Rattle.columns.specs.Columns.{Answers, Columns, columns, cell, tailOf}
 use Rattle.columns.specs.Acceptance.{mostVertices, acceptance}
 
 -- a table of as many vertices as the column of depths has places
 abbrev pub lent : (heads own spans tails depths : List ℕ) → Columns
 lent heads own spans tails depths = columns (length depths) heads own spans tails
-
--- what a column holds for a vertex
-abbrev pub cell : List ℕ → ℕ → ℕ
-cell xs v = getD xs v 0
 
 -- a tail can be read: its vertices have their places, and one more than a depth does not wrap
 pub record Legible (tail ws ds : List ℕ) : Type 0 where
