@@ -26,7 +26,3 @@ module _ {P : Refusal → Type 0} where
   pub then-refuses : (a b : Acceptance) → Refuses P a → (a ≡ Accepted → Refuses P b) → Refuses P (andThen a b)
   then-refuses Accepted b f g = g refl
   then-refuses (Refused r) b f g = f
-
-  -- a test of which nothing need be known
-  pub any-refuses : (b : Bool) (r : Refusal) (a : Acceptance) → P r → Refuses P a → Refuses P (test b r a)
-  any-refuses b r a h f = test-refuses b r a (λ _. h) (λ _. f)

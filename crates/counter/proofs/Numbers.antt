@@ -180,6 +180,13 @@ all-append (All.more p ps) qs = All.more p (all-append ps qs)
 abbrev single : Columns
 single = columns 1 (0 ∷ []) (5 ∷ []) (0 ∷ 0 ∷ []) []
 
+-- one part, and no line
+abbrev lineless : Columns
+lineless = columns 1 [] [] [] []
+
+abbrev unmade : Answers
+unmade = answers (0 ∷ []) (0 ∷ []) (0 ∷ [])
+
 abbrev answer-of : ℕ → Answers
 answer-of w = answers (w ∷ []) (1 ∷ []) (0 ∷ [])
 
@@ -260,7 +267,7 @@ unfolding billed billAcceptance partAcceptance billOf bill bills lentAcceptance 
 bill-late =
     All.more (record { measure = 0; columns = single; answers = answer-of 5; vertex = 1; room = []; refused = record { refusal = NoSuchVertex; returned = refl; number = refl } })
     (All.more (record { measure = 0; columns = single; answers = answer-of 6; vertex = 0; room = []; refused = record { refusal = WrongAnswers; returned = refl; number = refl } })
-    (All.more (record { measure = 0; columns = columns 1 [] [] [] []; answers = answers (0 ∷ []) (0 ∷ []) (0 ∷ []); vertex = 0; room = []; refused = record { refusal = Underivable; returned = refl; number = refl } })
+    (All.more (record { measure = 0; columns = lineless; answers = unmade; vertex = 0; room = []; refused = record { refusal = Underivable; returned = refl; number = refl } })
     (All.more (record { measure = 0; columns = single; answers = answer-of 5; vertex = 0; room = []; refused = record { refusal = BillRoom; returned = refl; number = refl } })
     All.none)))
 

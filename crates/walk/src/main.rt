@@ -79,16 +79,18 @@ fn walk(text: &[u8]) -> Walked
 fn main() {
     let mut input = io::large_buffer();
     let read = read_input(&mut input);
-    let mut length = read.count;
-    // After a read that failed no byte counts: the start of a text is not the text.
-    if read.last < 0 {
-        length = 0;
-    }
+    let length = read.count;
+    let last = read.last;
     if length == input.len() {
         io::write_all(STDOUT_FILENO, b"refused 17 0\n");
         return;
     }
     io::write_all(STDOUT_FILENO, b"head own listed\n");
+    // After a read that failed no byte counts: the start of a text is not the text.
+    if last < 0 {
+        put_stop(1);
+        return;
+    }
     let walked = walk(&input[..length]);
     match walked {
         Walked::End => {}
