@@ -120,7 +120,8 @@ bill-owes m c a v room = go (billAcceptance m c a v (length room)) refl
     go (answer.Refused r) p = Owed.refused (bill-refused-exactly m c a v (length room) r .0 p)
 
 -- the call is refused by what its tests refuse by
-pub bill-refused : (m : Measure) (c : Columns) (a : Answers) (v : ℕ) (room : List ℕ) (r : Refusal) → (billed m c a v room .result ≡ Refused r) ↔ (billAcceptance m c a v (length room) ≡ answer.Refused r)
+pub bill-refused : (m : Measure) (c : Columns) (a : Answers) (v : ℕ) (room : List ℕ) (r : Refusal)
+    → (billed m c a v room .result ≡ Refused r) ↔ (billAcceptance m c a v (length room) ≡ answer.Refused r)
 unfolding billed
 bill-refused m c a v room r = (go (billAcceptance m c a v (length room)), λ p. ap (λ (x : Acceptance). outcome x (billOf c a v) room .result) p)
   where
