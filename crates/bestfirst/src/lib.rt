@@ -23,7 +23,10 @@ fn store(
 ) -> usize
     requires { ⌜ Placeable l (now heads) (answers (now weights) (now depths) (now edges)) ⌝ }
     ensures head { λ r. ⌜ r ≡ cell (now (heads .entry)) (l .edge .0) ⌝ }
-    ensures stored { λ r. ⌜ answers (now (weights .exit)) (now (depths .exit)) (now (edges .exit)) ≡ put (answers (now (weights .entry)) (now (depths .entry)) (now (edges .entry))) (cell (now (heads .entry)) (l .edge .0)) l ⌝ }
+    ensures stored { λ r.
+        let a = answers (now (weights .entry)) (now (depths .entry)) (now (edges .entry)) in
+        let a′ = answers (now (weights .exit)) (now (depths .exit)) (now (edges .exit)) in
+        ⌜ a′ ≡ put a (cell (now (heads .entry)) (l .edge .0)) l ⌝ }
 {
     let weight = l.weight;
     let e = l.edge;
@@ -53,8 +56,16 @@ fn turn(
     deepest: &mut [u16],
     queue: &mut [u64],
 )
-    requires { ⌜ Underway measure (lent (now heads) (now own) (now spans) (now tails) (now depths)) (answers (now weights) (now depths) (now edges)) (lines (now first) (now next) (now at) (now joined) (now deepest)) (now queue) ⌝ }
-    ensures { λ r. ⌜ (answers (now (weights .exit)) (now (depths .exit)) (now (edges .exit)) ≡ turn (algebra measure) (hypergraph (lent (now (heads .entry)) (now (own .entry)) (now (spans .entry)) (now (tails .entry)) (now (depths .entry)))) (cell (now (own .entry))) (answers (now (weights .entry)) (now (depths .entry)) (now (edges .entry)))) × Waits measure (lent (now (heads .entry)) (now (own .entry)) (now (spans .entry)) (now (tails .entry)) (now (depths .entry))) (now (weights .exit)) (now (depths .exit)) (lines (now (first .exit)) (now (next .exit)) (now (at .exit)) (now (joined .exit)) (now (deepest .exit))) (now (queue .exit)) ⌝ }
+    requires { let c = lent (now heads) (now own) (now spans) (now tails) (now depths) in
+        let a = answers (now weights) (now depths) (now edges) in
+        let s = lines (now first) (now next) (now at) (now joined) (now deepest) in
+        ⌜ Underway measure c a s (now queue) ⌝ }
+    ensures { λ r.
+        let c = lent (now (heads .entry)) (now (own .entry)) (now (spans .entry)) (now (tails .entry)) (now (depths .entry)) in
+        let a = answers (now (weights .entry)) (now (depths .entry)) (now (edges .entry)) in
+        let a′ = answers (now (weights .exit)) (now (depths .exit)) (now (edges .exit)) in
+        let s′ = lines (now (first .exit)) (now (next .exit)) (now (at .exit)) (now (joined .exit)) (now (deepest .exit)) in
+        ⌜ (a′ ≡ turn (algebra measure) (hypergraph c) (cell (now (own .entry))) a) × Waits measure c (now (weights .exit)) (now (depths .exit)) s′ (now (queue .exit)) ⌝ }
 {
     let key = minima::least(queue);
     if key == minima::NONE {
@@ -98,8 +109,14 @@ fn turns(
     deepest: &mut [u16],
     queue: &mut [u64],
 )
-    requires { ⌜ Begun measure (lent (now heads) (now own) (now spans) (now tails) (now depths)) (answers (now weights) (now depths) (now edges)) (lines (now first) (now next) (now at) (now joined) (now deepest)) (now queue) ⌝ }
-    ensures { λ r. ⌜ answers (now (weights .exit)) (now (depths .exit)) (now (edges .exit)) ≡ best-first (algebra measure) (hypergraph (lent (now (heads .entry)) (now (own .entry)) (now (spans .entry)) (now (tails .entry)) (now (depths .entry)))) (cell (now (own .entry))) ⌝ }
+    requires { let c = lent (now heads) (now own) (now spans) (now tails) (now depths) in
+        let a = answers (now weights) (now depths) (now edges) in
+        let s = lines (now first) (now next) (now at) (now joined) (now deepest) in
+        ⌜ Begun measure c a s (now queue) ⌝ }
+    ensures { λ r.
+        let c = lent (now (heads .entry)) (now (own .entry)) (now (spans .entry)) (now (tails .entry)) (now (depths .entry)) in
+        let a′ = answers (now (weights .exit)) (now (depths .exit)) (now (edges .exit)) in
+        ⌜ a′ ≡ best-first (algebra measure) (hypergraph c) (cell (now (own .entry))) ⌝ }
 {
     let mut k = 0;
     while k < depths.len() {
@@ -140,8 +157,14 @@ fn label_with(
     deepest: &mut [u16],
     queue: &mut [u64],
 )
-    requires { ⌜ (Blank measure (lent (now heads) (now own) (now spans) (now tails) (now depths)) (answers (now weights) (now depths) (now edges))) × Cleared (length (now heads)) (lines (now first) (now next) (now at) (now joined) (now deepest)) (now queue) ⌝ }
-    ensures { λ r. ⌜ answers (now (weights .exit)) (now (depths .exit)) (now (edges .exit)) ≡ best-first (algebra measure) (hypergraph (lent (now (heads .entry)) (now (own .entry)) (now (spans .entry)) (now (tails .entry)) (now (depths .entry)))) (cell (now (own .entry))) ⌝ }
+    requires { let c = lent (now heads) (now own) (now spans) (now tails) (now depths) in
+        let a = answers (now weights) (now depths) (now edges) in
+        let s = lines (now first) (now next) (now at) (now joined) (now deepest) in
+        ⌜ (Blank measure c a) × Cleared (length (now heads)) s (now queue) ⌝ }
+    ensures { λ r.
+        let c = lent (now (heads .entry)) (now (own .entry)) (now (spans .entry)) (now (tails .entry)) (now (depths .entry)) in
+        let a′ = answers (now (weights .exit)) (now (depths .exit)) (now (edges .exit)) in
+        ⌜ a′ ≡ best-first (algebra measure) (hypergraph c) (cell (now (own .entry))) ⌝ }
 {
     waiting::start(
         measure,
@@ -187,8 +210,13 @@ fn label_few(
     depths: &mut [u64],
     edges: &mut [u64],
 )
-    requires { ⌜ (Blank measure (lent (now heads) (now own) (now spans) (now tails) (now depths)) (answers (now weights) (now depths) (now edges))) × (length (now heads) ≤ fewEdges) ⌝ }
-    ensures { λ r. ⌜ answers (now (weights .exit)) (now (depths .exit)) (now (edges .exit)) ≡ best-first (algebra measure) (hypergraph (lent (now (heads .entry)) (now (own .entry)) (now (spans .entry)) (now (tails .entry)) (now (depths .entry)))) (cell (now (own .entry))) ⌝ }
+    requires { let c = lent (now heads) (now own) (now spans) (now tails) (now depths) in
+        let a = answers (now weights) (now depths) (now edges) in
+        ⌜ (Blank measure c a) × (length (now heads) ≤ fewEdges) ⌝ }
+    ensures { λ r.
+        let c = lent (now (heads .entry)) (now (own .entry)) (now (spans .entry)) (now (tails .entry)) (now (depths .entry)) in
+        let a′ = answers (now (weights .exit)) (now (depths .exit)) (now (edges .exit)) in
+        ⌜ a′ ≡ best-first (algebra measure) (hypergraph c) (cell (now (own .entry))) ⌝ }
 {
     let mut first = [65535u16; 1024];
     let mut next = [0u16; 256];
@@ -225,8 +253,13 @@ fn label_many(
     depths: &mut [u64],
     edges: &mut [u64],
 )
-    requires { ⌜ (Blank measure (lent (now heads) (now own) (now spans) (now tails) (now depths)) (answers (now weights) (now depths) (now edges))) × (fewEdges < length (now heads)) ⌝ }
-    ensures { λ r. ⌜ answers (now (weights .exit)) (now (depths .exit)) (now (edges .exit)) ≡ best-first (algebra measure) (hypergraph (lent (now (heads .entry)) (now (own .entry)) (now (spans .entry)) (now (tails .entry)) (now (depths .entry)))) (cell (now (own .entry))) ⌝ }
+    requires { let c = lent (now heads) (now own) (now spans) (now tails) (now depths) in
+        let a = answers (now weights) (now depths) (now edges) in
+        ⌜ (Blank measure c a) × (fewEdges < length (now heads)) ⌝ }
+    ensures { λ r.
+        let c = lent (now (heads .entry)) (now (own .entry)) (now (spans .entry)) (now (tails .entry)) (now (depths .entry)) in
+        let a′ = answers (now (weights .exit)) (now (depths .exit)) (now (edges .exit)) in
+        ⌜ a′ ≡ best-first (algebra measure) (hypergraph c) (cell (now (own .entry))) ⌝ }
 {
     let mut first = [65535u16; 1024];
     let mut next = [0u16; 4096];
@@ -264,7 +297,10 @@ pub fn label_all(
     edges: &mut [u64],
 )
     requires { ⌜ Blank measure (lent (now heads) (now own) (now spans) (now tails) (now depths)) (answers (now weights) (now depths) (now edges)) ⌝ }
-    ensures { λ r. ⌜ answers (now (weights .exit)) (now (depths .exit)) (now (edges .exit)) ≡ best-first (algebra measure) (hypergraph (lent (now (heads .entry)) (now (own .entry)) (now (spans .entry)) (now (tails .entry)) (now (depths .entry)))) (cell (now (own .entry))) ⌝ }
+    ensures { λ r.
+        let c = lent (now (heads .entry)) (now (own .entry)) (now (spans .entry)) (now (tails .entry)) (now (depths .entry)) in
+        let a′ = answers (now (weights .exit)) (now (depths .exit)) (now (edges .exit)) in
+        ⌜ a′ ≡ best-first (algebra measure) (hypergraph c) (cell (now (own .entry))) ⌝ }
 {
     if heads.len() <= 256 {
         label_few(measure, heads, own, spans, tails, weights, depths, edges);

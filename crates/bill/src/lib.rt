@@ -137,7 +137,10 @@ fn check_part(
     edges: &[u64],
     part: Vertex,
 ) -> Acceptance
-    ensures { λ r. ⌜ r ≡ partAcceptance measure (columns n (now (heads .entry)) (now (own .entry)) (now (spans .entry)) (now (tails .entry))) (answers (now (weights .entry)) (now (depths .entry)) (now (edges .entry))) (part .0) ⌝ }
+    ensures { λ r.
+        let c = columns n (now (heads .entry)) (now (own .entry)) (now (spans .entry)) (now (tails .entry)) in
+        let a = answers (now (weights .entry)) (now (depths .entry)) (now (edges .entry)) in
+        ⌜ r ≡ partAcceptance measure c a (part .0) ⌝ }
 {
     let a = columns::check_lent(n, heads, own, spans, tails, weights, depths, edges);
     match a {
@@ -193,7 +196,10 @@ pub fn bill(
     part: Vertex,
     room: &mut [u64],
 ) -> Extent
-    ensures { λ r. ⌜ record { result = r; left = now (room .exit) } ≡ billed measure (columns n (now (heads .entry)) (now (own .entry)) (now (spans .entry)) (now (tails .entry))) (answers (now (weights .entry)) (now (depths .entry)) (now (edges .entry))) (part .0) (now (room .entry)) ⌝ }
+    ensures { λ r.
+        let c = columns n (now (heads .entry)) (now (own .entry)) (now (spans .entry)) (now (tails .entry)) in
+        let a = answers (now (weights .entry)) (now (depths .entry)) (now (edges .entry)) in
+        ⌜ record { result = r; left = now (room .exit) } ≡ billed measure c a (part .0) (now (room .entry)) ⌝ }
 {
     let a = check_part(
         measure,

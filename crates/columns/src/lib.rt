@@ -81,7 +81,9 @@ fn check_edge(
 // Whether every hyperedge is accepted, or the first refusal.
 fn check_edges(n: u64, heads: &[u64], own: &[u64], spans: &[u64], tails: &[u64]) -> Acceptance
     requires { ⌜ (length (now own) ≡ length (now heads)) × (length (now spans) ≡ 2 * length (now heads)) ⌝ }
-    ensures { λ r. ⌜ r ≡ edgesAcceptance (columns n (now (heads .entry)) (now (own .entry)) (now (spans .entry)) (now (tails .entry))) (length (now (heads .entry))) 0 0 ⌝ }
+    ensures { λ r.
+        let c = columns n (now (heads .entry)) (now (own .entry)) (now (spans .entry)) (now (tails .entry)) in
+        ⌜ r ≡ edgesAcceptance c (length (now (heads .entry))) 0 0 ⌝ }
 {
     let mut end: u64 = 0;
     let mut i = 0;
@@ -143,7 +145,10 @@ pub fn check_lent(
     depths: &[u64],
     edges: &[u64],
 ) -> Acceptance
-    ensures { λ r. ⌜ r ≡ lentAcceptance (columns n (now (heads .entry)) (now (own .entry)) (now (spans .entry)) (now (tails .entry))) (answers (now (weights .entry)) (now (depths .entry)) (now (edges .entry))) ⌝ }
+    ensures { λ r.
+        let c = columns n (now (heads .entry)) (now (own .entry)) (now (spans .entry)) (now (tails .entry)) in
+        let a = answers (now (weights .entry)) (now (depths .entry)) (now (edges .entry)) in
+        ⌜ r ≡ lentAcceptance c a ⌝ }
 {
     let a = check_table(n, heads, own, spans, tails);
     match a {

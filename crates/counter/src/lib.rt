@@ -22,7 +22,11 @@ pub extern "C" fn settle(
     depths: &mut [u64],
     edges: &mut [u64],
 ) -> u64
-    ensures { λ r. ⌜ record { result = r; left = answers (now (weights .exit)) (now (depths .exit)) (now (edges .exit)) } ≡ settledResult (measureOf measure) (columns n (now (heads .entry)) (now (own .entry)) (now (spans .entry)) (now (tails .entry))) (answers (now (weights .entry)) (now (depths .entry)) (now (edges .entry))) ⌝ }
+    ensures { λ r.
+        let c = columns n (now (heads .entry)) (now (own .entry)) (now (spans .entry)) (now (tails .entry)) in
+        let a = answers (now (weights .entry)) (now (depths .entry)) (now (edges .entry)) in
+        let a′ = answers (now (weights .exit)) (now (depths .exit)) (now (edges .exit)) in
+        ⌜ record { result = r; left = a′ } ≡ settledResult (measureOf measure) c a ⌝ }
 {
     let choice = refusal::measure_numbered(measure);
     match choice {
@@ -48,7 +52,11 @@ pub extern "C" fn reprice(
     line: u64,
     figure: u64,
 ) -> u64
-    ensures { λ r. ⌜ record { result = r; own = now (own .exit); left = answers (now (weights .exit)) (now (depths .exit)) (now (edges .exit)) } ≡ repricedResult (measureOf measure) (columns n (now (heads .entry)) (now (own .entry)) (now (spans .entry)) (now (tails .entry))) (answers (now (weights .entry)) (now (depths .entry)) (now (edges .entry))) line figure ⌝ }
+    ensures { λ r.
+        let c = columns n (now (heads .entry)) (now (own .entry)) (now (spans .entry)) (now (tails .entry)) in
+        let a = answers (now (weights .entry)) (now (depths .entry)) (now (edges .entry)) in
+        let a′ = answers (now (weights .exit)) (now (depths .exit)) (now (edges .exit)) in
+        ⌜ record { result = r; own = now (own .exit); left = a′ } ≡ repricedResult (measureOf measure) c a line figure ⌝ }
 {
     let choice = refusal::measure_numbered(measure);
     match choice {
@@ -100,7 +108,10 @@ pub extern "C" fn bill(
     part: u64,
     room: &mut [u64],
 ) -> u64
-    ensures { λ r. ⌜ record { result = r; left = now (room .exit) } ≡ billedResult (measureOf measure) (columns n (now (heads .entry)) (now (own .entry)) (now (spans .entry)) (now (tails .entry))) (answers (now (weights .entry)) (now (depths .entry)) (now (edges .entry))) part (now (room .entry)) ⌝ }
+    ensures { λ r.
+        let c = columns n (now (heads .entry)) (now (own .entry)) (now (spans .entry)) (now (tails .entry)) in
+        let a = answers (now (weights .entry)) (now (depths .entry)) (now (edges .entry)) in
+        ⌜ record { result = r; left = now (room .exit) } ≡ billedResult (measureOf measure) c a part (now (room .entry)) ⌝ }
 {
     let choice = refusal::measure_numbered(measure);
     match choice {

@@ -24,7 +24,9 @@ pub extern "C" fn harness_check_table(
     spans: &[u64],
     tails: &[u64],
 ) -> u64
-    ensures { λ r. ⌜ r ≡ acceptanceResult (acceptance (columns n (now (heads .entry)) (now (own .entry)) (now (spans .entry)) (now (tails .entry)))) ⌝ }
+    ensures { λ r.
+        let c = columns n (now (heads .entry)) (now (own .entry)) (now (spans .entry)) (now (tails .entry)) in
+        ⌜ r ≡ acceptanceResult (acceptance c) ⌝ }
 {
     let a = columns::check_table(n, heads, own, spans, tails);
     a.result()
@@ -42,7 +44,10 @@ pub extern "C" fn harness_check_answers(
     depths: &[u64],
     edges: &[u64],
 ) -> u64
-    ensures { λ r. ⌜ r ≡ checkedResult (measureOf measure) (columns n (now (heads .entry)) (now (own .entry)) (now (spans .entry)) (now (tails .entry))) (answers (now (weights .entry)) (now (depths .entry)) (now (edges .entry))) ⌝ }
+    ensures { λ r.
+        let c = columns n (now (heads .entry)) (now (own .entry)) (now (spans .entry)) (now (tails .entry)) in
+        let a = answers (now (weights .entry)) (now (depths .entry)) (now (edges .entry)) in
+        ⌜ r ≡ checkedResult (measureOf measure) c a ⌝ }
 {
     let choice = refusal::measure_numbered(measure);
     match choice {
@@ -67,7 +72,11 @@ pub extern "C" fn harness_strike(
     edges: &mut [u64],
     line: u64,
 ) -> u64
-    ensures { λ r. ⌜ record { result = r; own = now (own .exit); left = answers (now (weights .exit)) (now (depths .exit)) (now (edges .exit)) } ≡ strickenResult (measureOf measure) (columns n (now (heads .entry)) (now (own .entry)) (now (spans .entry)) (now (tails .entry))) (answers (now (weights .entry)) (now (depths .entry)) (now (edges .entry))) line ⌝ }
+    ensures { λ r.
+        let c = columns n (now (heads .entry)) (now (own .entry)) (now (spans .entry)) (now (tails .entry)) in
+        let a = answers (now (weights .entry)) (now (depths .entry)) (now (edges .entry)) in
+        let a′ = answers (now (weights .exit)) (now (depths .exit)) (now (edges .exit)) in
+        ⌜ record { result = r; own = now (own .exit); left = a′ } ≡ strickenResult (measureOf measure) c a line ⌝ }
 {
     let choice = refusal::measure_numbered(measure);
     match choice {
@@ -111,8 +120,12 @@ pub extern "C" fn harness_entry(
     vertex: u64,
     room: &mut [u64],
 ) -> u64
-    ensures number { λ r. ⌜ r ≡ stateNumber (entryOf (labels (answers (now (weights .entry)) (now (depths .entry)) (now (edges .entry))) vertex) .state) ⌝ }
-    ensures written { λ r. ⌜ now (room .exit) ≡ entryWritten (entryOf (labels (answers (now (weights .entry)) (now (depths .entry)) (now (edges .entry))) vertex)) (now (room .entry)) ⌝ }
+    ensures number { λ r.
+        let a = answers (now (weights .entry)) (now (depths .entry)) (now (edges .entry)) in
+        ⌜ r ≡ stateNumber (entryOf (labels a vertex) .state) ⌝ }
+    ensures written { λ r.
+        let a = answers (now (weights .entry)) (now (depths .entry)) (now (edges .entry)) in
+        ⌜ now (room .exit) ≡ entryWritten (entryOf (labels a vertex)) (now (room .entry)) ⌝ }
 {
     let e = settle::entry(weights, depths, edges, Vertex(vertex));
     let state = e.state;
@@ -183,7 +196,9 @@ pub extern "C" fn harness_write_table(
     tails: &[u64],
     room: &mut [u8],
 ) -> u64
-    ensures { λ r. ⌜ record { result = r; left = now (room .exit) } ≡ writtenResult (measureOf measure) (columns n (now (heads .entry)) (now (own .entry)) (now (spans .entry)) (now (tails .entry))) (now (room .entry)) ⌝ }
+    ensures { λ r.
+        let c = columns n (now (heads .entry)) (now (own .entry)) (now (spans .entry)) (now (tails .entry)) in
+        ⌜ record { result = r; left = now (room .exit) } ≡ writtenResult (measureOf measure) c (now (room .entry)) ⌝ }
 {
     let choice = refusal::measure_numbered(measure);
     match choice {

@@ -70,7 +70,9 @@ fn put_row(room: &mut [u8], v: Vertex, entry: Entry) -> usize
 // The lines of all parts.
 fn put_rows(room: &mut [u8], weights: &[u64], depths: &[u64], edges: &[u64]) -> usize
     requires { ⌜ length (rows (answers (now weights) (now depths) (now edges)) (length (now depths))) ≤ length (now room) ⌝ }
-    ensures { λ r. ⌜ Written (rows (answers (now (weights .entry)) (now (depths .entry)) (now (edges .entry))) (length (now (depths .entry)))) (now (room .entry)) r (now (room .exit)) ⌝ }
+    ensures { λ r.
+        let a = answers (now (weights .entry)) (now (depths .entry)) (now (edges .entry)) in
+        ⌜ Written (rows a (length (now (depths .entry)))) (now (room .entry)) r (now (room .exit)) ⌝ }
 {
     let mut at: usize = 0;
     let mut i = 0;
@@ -86,7 +88,9 @@ fn put_rows(room: &mut [u8], weights: &[u64], depths: &[u64], edges: &[u64]) -> 
 // The lines of all parts under the line of names.
 fn put_list(room: &mut [u8], weights: &[u64], depths: &[u64], edges: &[u64]) -> usize
     requires { ⌜ length (list (answers (now weights) (now depths) (now edges)) (length (now depths))) ≤ length (now room) ⌝ }
-    ensures { λ r. ⌜ Written (list (answers (now (weights .entry)) (now (depths .entry)) (now (edges .entry))) (length (now (depths .entry)))) (now (room .entry)) r (now (room .exit)) ⌝ }
+    ensures { λ r.
+        let a = answers (now (weights .entry)) (now (depths .entry)) (now (edges .entry)) in
+        ⌜ Written (list a (length (now (depths .entry)))) (now (room .entry)) r (now (room .exit)) ⌝ }
 {
     let at = put_bytes(room, b"part state figure depth line\n");
     let width = put_rows(&mut room[at..], weights, depths, edges);
@@ -119,8 +123,13 @@ fn put_priced(
     depths: &mut [u64],
     edges: &mut [u64],
 ) -> usize
-    requires { ⌜ length (priced n (settled measure (columns n (now heads) (now own) (now spans) (now tails)) (answers (now weights) (now depths) (now edges)))) ≤ length (now room) ⌝ }
-    ensures { λ r. ⌜ Written (priced n (settled measure (columns n (now (heads .entry)) (now (own .entry)) (now (spans .entry)) (now (tails .entry))) (answers (now (weights .entry)) (now (depths .entry)) (now (edges .entry))))) (now (room .entry)) r (now (room .exit)) ⌝ }
+    requires { let c = columns n (now heads) (now own) (now spans) (now tails) in
+        let a = answers (now weights) (now depths) (now edges) in
+        ⌜ length (priced n (settled measure c a)) ≤ length (now room) ⌝ }
+    ensures { λ r.
+        let c = columns n (now (heads .entry)) (now (own .entry)) (now (spans .entry)) (now (tails .entry)) in
+        let a = answers (now (weights .entry)) (now (depths .entry)) (now (edges .entry)) in
+        ⌜ Written (priced n (settled measure c a)) (now (room .entry)) r (now (room .exit)) ⌝ }
 {
     let answer = settle::settle(measure, n, heads, own, spans, tails, weights, depths, edges);
     match answer {

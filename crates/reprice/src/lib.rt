@@ -21,7 +21,10 @@ fn check_line(
     edges: &[u64],
     line: Hyperedge,
 ) -> Acceptance
-    ensures { λ r. ⌜ r ≡ lineAcceptance (columns n (now (heads .entry)) (now (own .entry)) (now (spans .entry)) (now (tails .entry))) (answers (now (weights .entry)) (now (depths .entry)) (now (edges .entry))) (line .0) ⌝ }
+    ensures { λ r.
+        let c = columns n (now (heads .entry)) (now (own .entry)) (now (spans .entry)) (now (tails .entry)) in
+        let a = answers (now (weights .entry)) (now (depths .entry)) (now (edges .entry)) in
+        ⌜ r ≡ lineAcceptance c a (line .0) ⌝ }
 {
     let a = columns::check_lent(n, heads, own, spans, tails, weights, depths, edges);
     match a {
@@ -55,8 +58,14 @@ fn change(
     line: Hyperedge,
     figure: Weight,
 ) -> Acceptance
-    requires { ⌜ Changeable (columns n (now heads) (now own) (now spans) (now tails)) (answers (now weights) (now depths) (now edges)) (line .0) (figure .0) ⌝ }
-    ensures { λ r. ⌜ record { result = r; own = now (own .exit); left = answers (now (weights .exit)) (now (depths .exit)) (now (edges .exit)) } ≡ changed measure (columns n (now (heads .entry)) (now (own .entry)) (now (spans .entry)) (now (tails .entry))) (answers (now (weights .entry)) (now (depths .entry)) (now (edges .entry))) (line .0) (figure .0) (answersAcceptance measure (columns n (now (heads .entry)) (now (own .entry)) (now (spans .entry)) (now (tails .entry))) (answers (now (weights .entry)) (now (depths .entry)) (now (edges .entry)))) ⌝ }
+    requires { let c = columns n (now heads) (now own) (now spans) (now tails) in
+        let a = answers (now weights) (now depths) (now edges) in
+        ⌜ Changeable c a (line .0) (figure .0) ⌝ }
+    ensures { λ r.
+        let c = columns n (now (heads .entry)) (now (own .entry)) (now (spans .entry)) (now (tails .entry)) in
+        let a = answers (now (weights .entry)) (now (depths .entry)) (now (edges .entry)) in
+        let a′ = answers (now (weights .exit)) (now (depths .exit)) (now (edges .exit)) in
+        ⌜ record { result = r; own = now (own .exit); left = a′ } ≡ changed measure c a (line .0) (figure .0) (answersAcceptance measure c a) ⌝ }
 {
     if !settle::answers_right(measure, n, heads, own, spans, tails, weights, depths, edges) {
         return Acceptance::Refused(Refusal::WrongAnswers);
@@ -82,7 +91,11 @@ pub fn reprice(
     line: Hyperedge,
     figure: Weight,
 ) -> Acceptance
-    ensures { λ r. ⌜ record { result = r; own = now (own .exit); left = answers (now (weights .exit)) (now (depths .exit)) (now (edges .exit)) } ≡ repriced measure (columns n (now (heads .entry)) (now (own .entry)) (now (spans .entry)) (now (tails .entry))) (answers (now (weights .entry)) (now (depths .entry)) (now (edges .entry))) (line .0) (figure .0) ⌝ }
+    ensures { λ r.
+        let c = columns n (now (heads .entry)) (now (own .entry)) (now (spans .entry)) (now (tails .entry)) in
+        let a = answers (now (weights .entry)) (now (depths .entry)) (now (edges .entry)) in
+        let a′ = answers (now (weights .exit)) (now (depths .exit)) (now (edges .exit)) in
+        ⌜ record { result = r; own = now (own .exit); left = a′ } ≡ repriced measure c a (line .0) (figure .0) ⌝ }
 {
     let a = check_line(n, heads, own, spans, tails, weights, depths, edges, line);
     match a {
@@ -121,7 +134,11 @@ pub fn strike(
     edges: &mut [u64],
     line: Hyperedge,
 ) -> Acceptance
-    ensures { λ r. ⌜ record { result = r; own = now (own .exit); left = answers (now (weights .exit)) (now (depths .exit)) (now (edges .exit)) } ≡ stricken measure (columns n (now (heads .entry)) (now (own .entry)) (now (spans .entry)) (now (tails .entry))) (answers (now (weights .entry)) (now (depths .entry)) (now (edges .entry))) (line .0) ⌝ }
+    ensures { λ r.
+        let c = columns n (now (heads .entry)) (now (own .entry)) (now (spans .entry)) (now (tails .entry)) in
+        let a = answers (now (weights .entry)) (now (depths .entry)) (now (edges .entry)) in
+        let a′ = answers (now (weights .exit)) (now (depths .exit)) (now (edges .exit)) in
+        ⌜ record { result = r; own = now (own .exit); left = a′ } ≡ stricken measure c a (line .0) ⌝ }
 {
     let a = check_line(n, heads, own, spans, tails, weights, depths, edges, line);
     match a {

@@ -57,7 +57,6 @@ pub sum-partial : (S : Semiring) (a : ℕ → S .Carrier) (x : S .Carrier) → S
 sum-partial S a x = (
   sum-bounds S (partial S a) a (λ y. (bounds-members S a y, bounds-partial S a y)) x,
   sum-bounds S a (partial S a) (λ y. (bounds-partial S a y, bounds-members S a y)) x,
-
 )
 
 pub product-append : (S : Semiring) (xs ys : List (S .Carrier)) → product S (xs ++ ys) ≡ S .times (product S xs) (product S ys)

@@ -36,8 +36,13 @@ pub fn label(
     depths: &mut [u64],
     edges: &mut [u64],
 )
-    requires { ⌜ AcceptedColumns (lent (now heads) (now own) (now spans) (now tails) (now depths)) (answers (now weights) (now depths) (now edges)) ⌝ }
-    ensures { λ r. ⌜ answers (now (weights .exit)) (now (depths .exit)) (now (edges .exit)) ≡ answersOf measure (lent (now (heads .entry)) (now (own .entry)) (now (spans .entry)) (now (tails .entry)) (now (depths .entry))) ⌝ }
+    requires { let c = lent (now heads) (now own) (now spans) (now tails) (now depths) in
+        let a = answers (now weights) (now depths) (now edges) in
+        ⌜ AcceptedColumns c a ⌝ }
+    ensures { λ r.
+        let c = lent (now (heads .entry)) (now (own .entry)) (now (spans .entry)) (now (tails .entry)) (now (depths .entry)) in
+        let a′ = answers (now (weights .exit)) (now (depths .exit)) (now (edges .exit)) in
+        ⌜ a′ ≡ answersOf measure c ⌝ }
 {
     columns::set_all(weights, 0);
     columns::set_all(depths, 0);
@@ -57,7 +62,11 @@ pub fn settle(
     depths: &mut [u64],
     edges: &mut [u64],
 ) -> Acceptance
-    ensures { λ r. ⌜ record { result = r; left = answers (now (weights .exit)) (now (depths .exit)) (now (edges .exit)) } ≡ settled measure (columns n (now (heads .entry)) (now (own .entry)) (now (spans .entry)) (now (tails .entry))) (answers (now (weights .entry)) (now (depths .entry)) (now (edges .entry))) ⌝ }
+    ensures { λ r.
+        let c = columns n (now (heads .entry)) (now (own .entry)) (now (spans .entry)) (now (tails .entry)) in
+        let a = answers (now (weights .entry)) (now (depths .entry)) (now (edges .entry)) in
+        let a′ = answers (now (weights .exit)) (now (depths .exit)) (now (edges .exit)) in
+        ⌜ record { result = r; left = a′ } ≡ settled measure c a ⌝ }
 {
     let a = columns::check_lent(n, heads, own, spans, tails, weights, depths, edges);
     match a {
@@ -107,8 +116,13 @@ fn vertex_right(
     depths: &[u64],
     edges: &[u64],
 ) -> bool
-    requires { ⌜ (Turning (lent (now heads) (now own) (now spans) (now tails) (now depths)) (answers (now weights) (now depths) (now edges))) × (v .0 < length (now depths)) ⌝ }
-    ensures { λ r. ⌜ r ≡ vertexRight (algebra measure) (hypergraph (lent (now (heads .entry)) (now (own .entry)) (now (spans .entry)) (now (tails .entry)) (now (depths .entry)))) (cell (now (own .entry))) (labels (answers (now (weights .entry)) (now (depths .entry)) (now (edges .entry)))) (v .0) ⌝ }
+    requires { let c = lent (now heads) (now own) (now spans) (now tails) (now depths) in
+        let a = answers (now weights) (now depths) (now edges) in
+        ⌜ (Turning c a) × (v .0 < length (now depths)) ⌝ }
+    ensures { λ r.
+        let c = lent (now (heads .entry)) (now (own .entry)) (now (spans .entry)) (now (tails .entry)) (now (depths .entry)) in
+        let a = answers (now (weights .entry)) (now (depths .entry)) (now (edges .entry)) in
+        ⌜ r ≡ vertexRight (algebra measure) (hypergraph c) (cell (now (own .entry))) (labels a) (v .0) ⌝ }
 {
     let i = v.0 as usize;
     let w = weights[i];
@@ -143,8 +157,13 @@ fn edge_right(
     depths: &[u64],
     edges: &[u64],
 ) -> bool
-    requires { ⌜ (Turning (lent (now heads) (now own) (now spans) (now tails) (now depths)) (answers (now weights) (now depths) (now edges))) × (e .0 < length (now heads)) ⌝ }
-    ensures { λ r. ⌜ r ≡ edgeRight (algebra measure) (hypergraph (lent (now (heads .entry)) (now (own .entry)) (now (spans .entry)) (now (tails .entry)) (now (depths .entry)))) (cell (now (own .entry))) (labels (answers (now (weights .entry)) (now (depths .entry)) (now (edges .entry)))) (e .0) ⌝ }
+    requires { let c = lent (now heads) (now own) (now spans) (now tails) (now depths) in
+        let a = answers (now weights) (now depths) (now edges) in
+        ⌜ (Turning c a) × (e .0 < length (now heads)) ⌝ }
+    ensures { λ r.
+        let c = lent (now (heads .entry)) (now (own .entry)) (now (spans .entry)) (now (tails .entry)) (now (depths .entry)) in
+        let a = answers (now (weights .entry)) (now (depths .entry)) (now (edges .entry)) in
+        ⌜ r ≡ edgeRight (algebra measure) (hypergraph c) (cell (now (own .entry))) (labels a) (e .0) ⌝ }
 {
     let i = e.0 as usize;
     let v = heads[i] as usize;
@@ -172,7 +191,10 @@ fn vertices_right(
     edges: &[u64],
 ) -> bool
     requires { ⌜ Turning (lent (now heads) (now own) (now spans) (now tails) (now depths)) (answers (now weights) (now depths) (now edges)) ⌝ }
-    ensures { λ r. ⌜ r ≡ every (vertexRight (algebra measure) (hypergraph (lent (now (heads .entry)) (now (own .entry)) (now (spans .entry)) (now (tails .entry)) (now (depths .entry)))) (cell (now (own .entry))) (labels (answers (now (weights .entry)) (now (depths .entry)) (now (edges .entry))))) (length (now (depths .entry))) ⌝ }
+    ensures { λ r.
+        let c = lent (now (heads .entry)) (now (own .entry)) (now (spans .entry)) (now (tails .entry)) (now (depths .entry)) in
+        let a = answers (now (weights .entry)) (now (depths .entry)) (now (edges .entry)) in
+        ⌜ r ≡ every (vertexRight (algebra measure) (hypergraph c) (cell (now (own .entry))) (labels a)) (length (now (depths .entry))) ⌝ }
 {
     let mut i = 0;
     while i < depths.len() {
@@ -197,7 +219,10 @@ fn edges_right(
     edges: &[u64],
 ) -> bool
     requires { ⌜ Turning (lent (now heads) (now own) (now spans) (now tails) (now depths)) (answers (now weights) (now depths) (now edges)) ⌝ }
-    ensures { λ r. ⌜ r ≡ every (edgeRight (algebra measure) (hypergraph (lent (now (heads .entry)) (now (own .entry)) (now (spans .entry)) (now (tails .entry)) (now (depths .entry)))) (cell (now (own .entry))) (labels (answers (now (weights .entry)) (now (depths .entry)) (now (edges .entry))))) (length (now (heads .entry))) ⌝ }
+    ensures { λ r.
+        let c = lent (now (heads .entry)) (now (own .entry)) (now (spans .entry)) (now (tails .entry)) (now (depths .entry)) in
+        let a = answers (now (weights .entry)) (now (depths .entry)) (now (edges .entry)) in
+        ⌜ r ≡ every (edgeRight (algebra measure) (hypergraph c) (cell (now (own .entry))) (labels a)) (length (now (heads .entry))) ⌝ }
 {
     let mut i = 0;
     while i < heads.len() {
@@ -224,7 +249,10 @@ pub fn answers_right(
     edges: &[u64],
 ) -> bool
     requires { ⌜ AcceptedColumns (columns n (now heads) (now own) (now spans) (now tails)) (answers (now weights) (now depths) (now edges)) ⌝ }
-    ensures { λ r. ⌜ r ≡ sameAnswers (answers (now (weights .entry)) (now (depths .entry)) (now (edges .entry))) (answersOf measure (columns n (now (heads .entry)) (now (own .entry)) (now (spans .entry)) (now (tails .entry)))) ⌝ }
+    ensures { λ r.
+        let c = columns n (now (heads .entry)) (now (own .entry)) (now (spans .entry)) (now (tails .entry)) in
+        let a = answers (now (weights .entry)) (now (depths .entry)) (now (edges .entry)) in
+        ⌜ r ≡ sameAnswers a (answersOf measure c) ⌝ }
 {
     if !columns::all_below(n + 1, depths) {
         return false;
@@ -247,7 +275,10 @@ pub fn check_answers(
     depths: &[u64],
     edges: &[u64],
 ) -> Verdict
-    ensures { λ r. ⌜ r ≡ checked measure (columns n (now (heads .entry)) (now (own .entry)) (now (spans .entry)) (now (tails .entry))) (answers (now (weights .entry)) (now (depths .entry)) (now (edges .entry))) ⌝ }
+    ensures { λ r.
+        let c = columns n (now (heads .entry)) (now (own .entry)) (now (spans .entry)) (now (tails .entry)) in
+        let a = answers (now (weights .entry)) (now (depths .entry)) (now (edges .entry)) in
+        ⌜ r ≡ checked measure c a ⌝ }
 {
     let a = columns::check_lent(n, heads, own, spans, tails, weights, depths, edges);
     match a {

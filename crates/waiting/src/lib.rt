@@ -80,7 +80,10 @@ fn wait(
     deepest: &mut [u16],
 )
     requires { ⌜ Pushable (lines (now first) (now next) (now at) (now joined) (now deepest)) v (e .0) (to .at) (to .deepest) ⌝ }
-    ensures { λ r. ⌜ lines (now (first .exit)) (now (next .exit)) (now (at .exit)) (now (joined .exit)) (now (deepest .exit)) ≡ pushed (lines (now (first .entry)) (now (next .entry)) (now (at .entry)) (now (joined .entry)) (now (deepest .entry))) v (e .0) (to .at) (to .joined .0) (to .deepest) ⌝ }
+    ensures { λ r.
+        let s = lines (now (first .entry)) (now (next .entry)) (now (at .entry)) (now (joined .entry)) (now (deepest .entry)) in
+        let s′ = lines (now (first .exit)) (now (next .exit)) (now (at .exit)) (now (joined .exit)) (now (deepest .exit)) in
+        ⌜ s′ ≡ pushed s v (e .0) (to .at) (to .joined .0) (to .deepest) ⌝ }
 {
     let i = e.0 as usize;
     let weight = to.joined;
@@ -110,8 +113,14 @@ fn advance(
     deepest: &mut [u16],
     queue: &mut [u64],
 )
-    requires { ⌜ (Offerable (lent (now heads) (now own) (now spans) (now tails) (now depths)) (now weights) (now depths) (now queue)) × Going measure (lent (now heads) (now own) (now spans) (now tails) (now depths)) (now weights) (now depths) (lines (now first) (now next) (now at) (now joined) (now deepest)) (e .0) (from .at) (from .joined .0) (from .deepest) ⌝ }
-    ensures { λ r. ⌜ Went (algebra measure) (lent (now (heads .entry)) (now (own .entry)) (now (spans .entry)) (now (tails .entry)) (now (depths .entry))) (cell (now (weights .entry))) (cell (now (depths .entry))) (e .0) (lines (now (first .entry)) (now (next .entry)) (now (at .entry)) (now (joined .entry)) (now (deepest .entry))) (lines (now (first .exit)) (now (next .exit)) (now (at .exit)) (now (joined .exit)) (now (deepest .exit))) (now (queue .entry)) (now (queue .exit)) ⌝ }
+    requires { let c = lent (now heads) (now own) (now spans) (now tails) (now depths) in
+        let s = lines (now first) (now next) (now at) (now joined) (now deepest) in
+        ⌜ (Offerable c (now weights) (now depths) (now queue)) × Going measure c (now weights) (now depths) s (e .0) (from .at) (from .joined .0) (from .deepest) ⌝ }
+    ensures { λ r.
+        let c = lent (now (heads .entry)) (now (own .entry)) (now (spans .entry)) (now (tails .entry)) (now (depths .entry)) in
+        let s = lines (now (first .entry)) (now (next .entry)) (now (at .entry)) (now (joined .entry)) (now (deepest .entry)) in
+        let s′ = lines (now (first .exit)) (now (next .exit)) (now (at .exit)) (now (joined .exit)) (now (deepest .exit)) in
+        ⌜ Went (algebra measure) c (cell (now (weights .entry))) (cell (now (depths .entry))) (e .0) s s′ (now (queue .entry)) (now (queue .exit)) ⌝ }
 {
     let i = e.0 as usize;
     let offset = spans[2 * i] as usize;
@@ -155,8 +164,14 @@ fn wake(
     deepest: &mut [u16],
     queue: &mut [u64],
 )
-    requires { ⌜ (Offerable (lent (now heads) (now own) (now spans) (now tails) (now depths)) (now weights) (now depths) (now queue)) × Wakeful measure (lent (now heads) (now own) (now spans) (now tails) (now depths)) (now weights) (now depths) (lines (now first) (now next) (now at) (now joined) (now deepest)) (e .0) ⌝ }
-    ensures { λ r. ⌜ Went (algebra measure) (lent (now (heads .entry)) (now (own .entry)) (now (spans .entry)) (now (tails .entry)) (now (depths .entry))) (cell (now (weights .entry))) (cell (now (depths .entry))) (e .0) (lines (now (first .entry)) (now (next .entry)) (now (at .entry)) (now (joined .entry)) (now (deepest .entry))) (lines (now (first .exit)) (now (next .exit)) (now (at .exit)) (now (joined .exit)) (now (deepest .exit))) (now (queue .entry)) (now (queue .exit)) ⌝ }
+    requires { let c = lent (now heads) (now own) (now spans) (now tails) (now depths) in
+        let s = lines (now first) (now next) (now at) (now joined) (now deepest) in
+        ⌜ (Offerable c (now weights) (now depths) (now queue)) × Wakeful measure c (now weights) (now depths) s (e .0) ⌝ }
+    ensures { λ r.
+        let c = lent (now (heads .entry)) (now (own .entry)) (now (spans .entry)) (now (tails .entry)) (now (depths .entry)) in
+        let s = lines (now (first .entry)) (now (next .entry)) (now (at .entry)) (now (joined .entry)) (now (deepest .entry)) in
+        let s′ = lines (now (first .exit)) (now (next .exit)) (now (at .exit)) (now (joined .exit)) (now (deepest .exit)) in
+        ⌜ Went (algebra measure) c (cell (now (weights .entry))) (cell (now (depths .entry))) (e .0) s s′ (now (queue .entry)) (now (queue .exit)) ⌝ }
 {
     let i = e.0 as usize;
     let h = heads[i] as usize;
@@ -207,8 +222,13 @@ pub fn wake_all(
     deepest: &mut [u16],
     queue: &mut [u64],
 )
-    requires { ⌜ (Offerable (lent (now heads) (now own) (now spans) (now tails) (now depths)) (now weights) (now depths) (now queue)) × ((v < length (now depths)) × Waking measure (lent (now heads) (now own) (now spans) (now tails) (now depths)) (now weights) (now depths) (lines (now first) (now next) (now at) (now joined) (now deepest)) (now queue) v (cell (now first) v)) ⌝ }
-    ensures { λ r. ⌜ Rested measure (lent (now (heads .entry)) (now (own .entry)) (now (spans .entry)) (now (tails .entry)) (now (depths .entry))) (now (weights .entry)) (now (depths .entry)) (lines (now (first .exit)) (now (next .exit)) (now (at .exit)) (now (joined .exit)) (now (deepest .exit))) (now (queue .exit)) ⌝ }
+    requires { let c = lent (now heads) (now own) (now spans) (now tails) (now depths) in
+        let s = lines (now first) (now next) (now at) (now joined) (now deepest) in
+        ⌜ (Offerable c (now weights) (now depths) (now queue)) × ((v < length (now depths)) × Waking measure c (now weights) (now depths) s (now queue) v (cell (now first) v)) ⌝ }
+    ensures { λ r.
+        let c = lent (now (heads .entry)) (now (own .entry)) (now (spans .entry)) (now (tails .entry)) (now (depths .entry)) in
+        let s′ = lines (now (first .exit)) (now (next .exit)) (now (at .exit)) (now (joined .exit)) (now (deepest .exit)) in
+        ⌜ Rested measure c (now (weights .entry)) (now (depths .entry)) s′ (now (queue .exit)) ⌝ }
 {
     let mut l = first[v];
     while l != END {
@@ -253,8 +273,13 @@ fn begin(
     deepest: &mut [u16],
     queue: &mut [u64],
 )
-    requires { ⌜ (Offerable (lent (now heads) (now own) (now spans) (now tails) (now depths)) (now weights) (now depths) (now queue)) × ((e .0 < length (now heads)) × Starting measure (lent (now heads) (now own) (now spans) (now tails) (now depths)) (now weights) (now depths) (lines (now first) (now next) (now at) (now joined) (now deepest)) (now queue) (e .0)) ⌝ }
-    ensures { λ r. ⌜ Starting measure (lent (now (heads .entry)) (now (own .entry)) (now (spans .entry)) (now (tails .entry)) (now (depths .entry))) (now (weights .entry)) (now (depths .entry)) (lines (now (first .exit)) (now (next .exit)) (now (at .exit)) (now (joined .exit)) (now (deepest .exit))) (now (queue .exit)) (e .0 + 1) ⌝ }
+    requires { let c = lent (now heads) (now own) (now spans) (now tails) (now depths) in
+        let s = lines (now first) (now next) (now at) (now joined) (now deepest) in
+        ⌜ (Offerable c (now weights) (now depths) (now queue)) × ((e .0 < length (now heads)) × Starting measure c (now weights) (now depths) s (now queue) (e .0)) ⌝ }
+    ensures { λ r.
+        let c = lent (now (heads .entry)) (now (own .entry)) (now (spans .entry)) (now (tails .entry)) (now (depths .entry)) in
+        let s′ = lines (now (first .exit)) (now (next .exit)) (now (at .exit)) (now (joined .exit)) (now (deepest .exit)) in
+        ⌜ Starting measure c (now (weights .entry)) (now (depths .entry)) s′ (now (queue .exit)) (e .0 + 1) ⌝ }
 {
     let i = e.0 as usize;
     let figure = own[i];
@@ -310,8 +335,13 @@ pub fn start(
     deepest: &mut [u16],
     queue: &mut [u64],
 )
-    requires { ⌜ (Offerable (lent (now heads) (now own) (now spans) (now tails) (now depths)) (now weights) (now depths) (now queue)) × Empty (lent (now heads) (now own) (now spans) (now tails) (now depths)) (now depths) (lines (now first) (now next) (now at) (now joined) (now deepest)) (now queue) ⌝ }
-    ensures { λ r. ⌜ Rested measure (lent (now (heads .entry)) (now (own .entry)) (now (spans .entry)) (now (tails .entry)) (now (depths .entry))) (now (weights .entry)) (now (depths .entry)) (lines (now (first .exit)) (now (next .exit)) (now (at .exit)) (now (joined .exit)) (now (deepest .exit))) (now (queue .exit)) ⌝ }
+    requires { let c = lent (now heads) (now own) (now spans) (now tails) (now depths) in
+        let s = lines (now first) (now next) (now at) (now joined) (now deepest) in
+        ⌜ (Offerable c (now weights) (now depths) (now queue)) × Empty c (now depths) s (now queue) ⌝ }
+    ensures { λ r.
+        let c = lent (now (heads .entry)) (now (own .entry)) (now (spans .entry)) (now (tails .entry)) (now (depths .entry)) in
+        let s′ = lines (now (first .exit)) (now (next .exit)) (now (at .exit)) (now (joined .exit)) (now (deepest .exit)) in
+        ⌜ Rested measure c (now (weights .entry)) (now (depths .entry)) s′ (now (queue .exit)) ⌝ }
 {
     let mut i = 0;
     while i < heads.len() {

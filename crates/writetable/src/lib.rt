@@ -55,7 +55,9 @@ fn put_text(
     room: &mut [u8],
 )
     requires { ⌜ Writable measure (columns n (now heads) (now own) (now spans) (now tails)) (length (now room)) ⌝ }
-    ensures { λ r. ⌜ Written (render measure (columns n (now (heads .entry)) (now (own .entry)) (now (spans .entry)) (now (tails .entry)))) (now (room .entry)) (length (render measure (columns n (now (heads .entry)) (now (own .entry)) (now (spans .entry)) (now (tails .entry))))) (now (room .exit)) ⌝ }
+    ensures { λ r.
+        let c = columns n (now (heads .entry)) (now (own .entry)) (now (spans .entry)) (now (tails .entry)) in
+        ⌜ Written (render measure c) (now (room .entry)) (length (render measure c)) (now (room .exit)) ⌝ }
 {
     let mut at = put_header(room, n, measure);
     let mut i = 0;
@@ -80,7 +82,9 @@ pub fn write_table(
     tails: &[u64],
     room: &mut [u8],
 ) -> Extent
-    ensures { λ r. ⌜ writeOutcome r (now (room .exit)) ≡ writeTable measure (columns n (now (heads .entry)) (now (own .entry)) (now (spans .entry)) (now (tails .entry))) (now (room .entry)) ⌝ }
+    ensures { λ r.
+        let c = columns n (now (heads .entry)) (now (own .entry)) (now (spans .entry)) (now (tails .entry)) in
+        ⌜ writeOutcome r (now (room .exit)) ≡ writeTable measure c (now (room .entry)) ⌝ }
 {
     let checked = check_table(n, heads, own, spans, tails);
     if let Acceptance::Refused(r) = checked {
