@@ -13,7 +13,8 @@ use Rattle.columns.specs.Acceptance.{longestTail}
 use Rattle.columns.specs.Columns.{tailOf}
 use Rattle.bill.specs.declared.Budget.{Budget}
 use Rattle.bill.specs.declared.Budget.the-variants.{Left, Spent}
-use Rattle.bill.specs.Walk.{vertexBill, tailBill, Placed, Each, Grounded, AllGrounded, spend}
+use Rattle.columns.specs.Lent.{Placed}
+use Rattle.bill.specs.Walk.{vertexBill, tailBill, Each, Grounded, AllGrounded, spend}
 
 -- the measure: depth, then the listed parts left; a list of 16 parts and its end are fewer than 18
 abbrev pub μ : (depth left : ℕ) → ℕ

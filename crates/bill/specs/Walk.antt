@@ -2,7 +2,7 @@
 -- that is written from a place on; a budget. Assumes nothing: these are definitions.
 use mathlib.Core.Path.{_≡_}
 use mathlib.Core.List.{List, [], _∷_, _++_}
-use Prim.Native.Nat.{ℕ, zero, suc, _+_, _-_, _*_, _≤_, _<_}
+use Prim.Native.Nat.{ℕ, zero, suc, _+_, _-_, _≤_, _<_}
 use lib.ListN.{length, getD, take, drop}
 use lib.Dec.{leb}
 use Rattle.weights.specs.declared.Label.{Label}
@@ -10,9 +10,9 @@ use Rattle.weights.specs.Choice.{pick}
 use Rattle.provenance.specs.Hypergraph.{Hypergraph}
 use Rattle.provenance.specs.BestFirst.{labels}
 use Rattle.provenance.specs.Support.{bills, bill}
+use Rattle.columns.specs.Lent.{Placed}
 use Rattle.columns.specs.Columns.{columns, answers, tailOf}
 use Rattle.tables.specs.Table.{hypergraph}
-use Rattle.columns.specs.Acceptance.{longestTail}
 use Rattle.bill.specs.declared.Budget.{Budget}
 use Rattle.bill.specs.declared.Budget.the-variants.{Left, Spent}
 
@@ -29,12 +29,6 @@ vertexBill spans tails edges depth = bill (lists spans tails) (choices edges) de
 
 abbrev pub tailBill : (spans tails edges : List ℕ) → (depth : ℕ) → List ℕ → List ℕ
 tailBill spans tails edges depth vs = bills (vertexBill spans tails edges depth) vs
-
--- line e has its span, which is short, and the span its places
-pub record Placed (spans tails : List ℕ) (e : ℕ) : Type 0 where
-  pub span : 2 * e + 1 < length spans
-  pub short : getD spans (2 * e + 1) 0 ≤ longestTail
-  pub within : getD spans (2 * e) 0 + getD spans (2 * e + 1) 0 ≤ length tails
 
 -- P holds of every number of a list
 unfoldable pub Each : (ℕ → Type 0) → List ℕ → Type 0

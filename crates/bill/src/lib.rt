@@ -8,25 +8,14 @@ use weights::Measure;
 use weights::Vertex;
 ghost use mathlib.Core.Path.{_≡_};
 ghost use lib.ListN.{length};
-ghost use Rattle.columns.specs.Columns.{columns, answers, tailOf};
+ghost use Rattle.columns.specs.Columns.{columns, answers};
 ghost use Rattle.bill.specs.Billing.{partAcceptance, printed, billed};
-ghost use Rattle.bill.specs.Walk.{vertexBill, tailBill, Placed, Grounded, AllGrounded, VertexFits, TailFits, WrittenFrom, spend};
+ghost use Rattle.bill.specs.Walk.{vertexBill, tailBill, Grounded, AllGrounded, VertexFits, TailFits, WrittenFrom, spend};
 
 // What is left of the room that a bill may take.
 enum Budget {
     Left(usize),
     Spent,
-}
-
-// The tail of a hyperedge.
-fn tail_of<'a>(e: Hyperedge, spans: &[u64], tails: &'a [u64]) -> &'a [u64]
-    requires { ⌜ Placed (now spans) (now tails) (e .0) ⌝ }
-    ensures { λ r. ⌜ now r ≡ tailOf (now (spans .entry)) (now (tails .entry)) (e .0) ⌝ }
-{
-    let i = e.0 as usize;
-    let from = spans[2 * i] as usize;
-    let to = from + spans[2 * i + 1] as usize;
-    &tails[from..to]
 }
 
 // What the bill of v leaves of a budget. It is at most `depth` deep, and no more of it is looked at
@@ -47,7 +36,7 @@ fn vertex_spend(
     }
     let i = v.0 as usize;
     let root = edges[i];
-    let tail = tail_of(Hyperedge(root), spans, tails);
+    let tail = columns::tail_of(Hyperedge(root), spans, tails);
     tail_spend(depth - 1, tail, spans, tails, edges, budget - 1)
 }
 
@@ -90,7 +79,7 @@ fn vertex_bill(
     let i = v.0 as usize;
     let root = edges[i];
     room[0] = root;
-    let tail = tail_of(Hyperedge(root), spans, tails);
+    let tail = columns::tail_of(Hyperedge(root), spans, tails);
     tail_bill(depth - 1, tail, spans, tails, edges, room, 1)
 }
 

@@ -20,8 +20,7 @@ module _ {c : Columns} {ws ds : List ℕ} (u : Usable c ws ds) (e : ℕ) (h : e 
       let g = z .each e h .1 in
       record {
         own = omega (arith, z .own);
-        span = omega (arith, z .spans);
-        within = g .within;
+        placed = record { span = omega (arith, z .spans); short = g .short; within = g .within };
         legible = record { level = u .level; inside = λ k l. omega (arith, u .vertices, below-at _ _ (g .listed) k l); shallow = u .shallow };
       }
 

@@ -6,11 +6,17 @@ use mathlib.Core.List.{List}
 use lib.ListN.{length}
 use Rattle.refusal.specs.declared.Acceptance.the-variants.{Accepted}
 use Rattle.columns.specs.Columns.{Answers, Columns, columns, cell, tailOf}
-use Rattle.columns.specs.Acceptance.{mostVertices, acceptance}
+use Rattle.columns.specs.Acceptance.{mostVertices, longestTail, acceptance}
 
 -- a table of as many vertices as the column of depths has places
 abbrev pub lent : (heads own spans tails depths : List ℕ) → Columns
 lent heads own spans tails depths = columns (length depths) heads own spans tails
+
+-- the span of hyperedge e lies within the columns
+pub record Placed (spans tails : List ℕ) (e : ℕ) : Type 0 where
+  pub span : 2 * e + 1 < length spans
+  pub short : cell spans (2 * e + 1) ≤ longestTail
+  pub within : cell spans (2 * e) + cell spans (2 * e + 1) ≤ length tails
 
 -- a tail can be read: its vertices have their places, and one more than a depth does not wrap
 pub record Legible (tail ws ds : List ℕ) : Type 0 where
@@ -21,8 +27,7 @@ pub record Legible (tail ws ds : List ℕ) : Type 0 where
 -- so can hyperedge e
 pub record EdgeIn (e : ℕ) (os ss ts ws ds : List ℕ) : Type 0 where
   pub own : e < length os
-  pub span : 2 * e + 1 < length ss
-  pub within : cell ss (2 * e) + cell ss (2 * e + 1) ≤ length ts
+  pub placed : Placed ss ts e
   pub legible : Legible (tailOf ss ts e) ws ds
 
 -- an accepted table with columns of its length

@@ -9,7 +9,8 @@ use weights::Weight;
 ghost use mathlib.Core.Path.{_≡_};
 ghost use Prim.Native.Nat.{_*_};
 ghost use lib.ListN.{length, replicate};
-ghost use Rattle.columns.specs.Columns.{columns, answers};
+ghost use Rattle.columns.specs.Columns.{columns, answers, tailOf};
+ghost use Rattle.columns.specs.Lent.{Placed};
 ghost use Rattle.columns.specs.Acceptance.{allBelow, edgeAcceptance, edgesAcceptance, acceptance, lentAcceptance};
 
 // The greatest numbers of vertices, of hyperedges, of listed vertices in all and of one hyperedge.
@@ -165,6 +166,17 @@ pub fn check_lent(
         return Acceptance::Refused(Refusal::AnswerLength);
     }
     Acceptance::Accepted
+}
+
+// The tail of a hyperedge.
+pub fn tail_of<'a>(e: Hyperedge, spans: &[u64], tails: &'a [u64]) -> &'a [u64]
+    requires { ⌜ Placed (now spans) (now tails) (e .0) ⌝ }
+    ensures { λ r. ⌜ now r ≡ tailOf (now (spans .entry)) (now (tails .entry)) (e .0) ⌝ }
+{
+    let i = e.0 as usize;
+    let from = spans[2 * i] as usize;
+    let to = from + spans[2 * i + 1] as usize;
+    &tails[from..to]
 }
 
 // Every place of a lent column becomes x.

@@ -76,15 +76,7 @@ pub fn offer(
     ensures { λ r. ⌜ r ≡ offerOf (algebra measure) (not (isStruck (cell (now (own .entry)) (e .0)))) (cell (now (own .entry)) (e .0)) (tailOf (now (spans .entry)) (now (tails .entry)) (e .0)) (cell (now (weights .entry))) (cell (now (depths .entry))) (e .0) ⌝ }
 {
     let i = e.0 as usize;
-    let from = spans[2 * i] as usize;
-    let to = from + spans[2 * i + 1] as usize;
     let weight = own[i];
-    candidate(
-        measure,
-        e,
-        Weight(weight),
-        &tails[from..to],
-        weights,
-        depths,
-    )
+    let tail = columns::tail_of(e, spans, tails);
+    candidate(measure, e, Weight(weight), tail, weights, depths)
 }

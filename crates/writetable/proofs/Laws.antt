@@ -13,6 +13,7 @@ use Rattle.refusal.specs.declared.Refusal.{Refusal}
 use Rattle.refusal.specs.declared.Acceptance.{Acceptance}
 use Rattle.refusal.specs.declared.Acceptance.the-variants.{Accepted, Refused}
 use Rattle.refusal.specs.declared.Extent.the-variants as extent
+use Rattle.columns.specs.Lent.{Placed}
 use Rattle.columns.specs.Columns.{Columns, headAt, ownAt, offsetAt, lengthAt, tailAt}
 use Rattle.columns.specs.Acceptance.{mostVertices, mostEdges, mostListed, allBelow, acceptance}
 use Rattle.columns.proofs.Accepted.{table-accepted, below-at}
@@ -39,7 +40,7 @@ pub record EdgeHere (c : Columns) (i : ℕ) : Type 0 where
   pub spans : length (c .spans) ≡ 2 * length (c .heads)
   pub edges : length (c .heads) ≤ mostEdges
   pub listed : length (c .tails) ≤ mostListed
-  pub span : offsetAt c i + lengthAt c i ≤ length (c .tails)
+  pub placed : Placed (c .spans) (c .tails) i
   pub fits : EdgeFits mostVertices (edge (headAt c i) (ownAt c i) (tailAt c i))
 
 pub edge-here : (c : Columns) (i : ℕ) → acceptance c ≡ Accepted → i < length (c .heads) → EdgeHere c i
@@ -55,13 +56,9 @@ edge-here c i p h =
       spans = t .spans;
       edges = t .edges;
       listed = t .tails;
-      span = a .within;
+      placed = record { span = omega arith; short = s; within = a .within };
       fits = record { head = omega arith; own = a .own; short = omega arith; tail = below-wider (c .vertices) mostVertices (tailAt c i) f (a .listed) };
     }
-
--- the part of the column from its start to its end
-pub tail-is : (c : Columns) (i : ℕ) → take (offsetAt c i + lengthAt c i - offsetAt c i) (drop (offsetAt c i) (c .tails)) ≡ tailAt c i
-tail-is c i = let e : offsetAt c i + lengthAt c i - offsetAt c i ≡ lengthAt c i = omega arith in ap (λ (k : ℕ). take k (drop (offsetAt c i) (c .tails))) e
 
 -- the line of a hyperedge
 abbrev pub lineOf : Columns → ℕ → List ℕ
@@ -170,15 +167,12 @@ putting-all m c start room₀ i at room old p h w f =
     let k = written-as old at room e g in
     record { count = refl; room-is = k .room-is; long = k .long }
 
--- the part of the column that the code takes is the hyperedge's tail
-abbrev pub sliced : Columns → ℕ → List ℕ
-sliced c i = take (offsetAt c i + lengthAt c i - offsetAt c i) (drop (offsetAt c i) (c .tails))
+-- what the code takes for the tail is the hyperedge's
+pub tail-fits : (c : Columns) (i : ℕ) {vs : List ℕ} → vs ≡ tailAt c i → EdgeHere c i → EdgeFits mostVertices (edge (headAt c i) (ownAt c i) vs)
+tail-fits c i e h = subst (λ (vs : List ℕ). EdgeFits mostVertices (edge (headAt c i) (ownAt c i) vs)) (sym e) (h .fits)
 
-pub sliced-fits : (c : Columns) (i : ℕ) → EdgeHere c i → EdgeFits mostVertices (edge (headAt c i) (ownAt c i) (sliced c i))
-sliced-fits c i h = subst (λ (vs : List ℕ). EdgeFits mostVertices (edge (headAt c i) (ownAt c i) vs)) (sym (tail-is c i)) (h .fits)
-
-pub sliced-line : (c : Columns) (i : ℕ) → edgeText (edge (headAt c i) (ownAt c i) (sliced c i)) ++ 10 ∷ [] ≡ lineOf c i
-sliced-line c i = ap (λ (vs : List ℕ). edgeText (edge (headAt c i) (ownAt c i) vs) ++ 10 ∷ []) (tail-is c i)
+pub tail-line : (c : Columns) (i : ℕ) {vs : List ℕ} → vs ≡ tailAt c i → edgeText (edge (headAt c i) (ownAt c i) vs) ++ 10 ∷ [] ≡ lineOf c i
+tail-line c i e = ap (λ (vs : List ℕ). edgeText (edge (headAt c i) (ownAt c i) vs) ++ 10 ∷ []) e
 
 -- Room for the next line, and for all
 module _ (m : Measure) (c : Columns) (start : ℕ) (room₀ : List ℕ) (i at : ℕ) (room old : List ℕ) (p : Putting c start room₀ i at room) (w : Written (header (c .vertices) m) old start room₀)
@@ -198,11 +192,12 @@ module _ (m : Measure) (c : Columns) (start : ℕ) (room₀ : List ℕ) (i at : 
       let r = render-length m c in
       omega arith
 
-  pub next-room : i < length (c .heads) → (at ≤ length room) × (length (edgeText (edge (headAt c i) (ownAt c i) (sliced c i)) ++ 10 ∷ []) ≤ length (take (length room - at) (drop at room)))
+  pub next-room : i < length (c .heads) → {vs : List ℕ} → vs ≡ tailAt c i
+      → (at ≤ length room) × (length (edgeText (edge (headAt c i) (ownAt c i) vs) ++ 10 ∷ []) ≤ length (take (length room - at) (drop at room)))
   unfolding tableText
-  next-room l =
+  next-room l e =
       let g = line-fits c start room₀ i at room p (header (c .vertices) m) old w f l in
-      let q = ap length (sliced-line c i) in
+      let q = ap length (tail-line c i e) in
       let z = lent-room (header (c .vertices) m ++ p .bytes) old at room stand (lineOf c i) g in
       (within (header (c .vertices) m ++ p .bytes) old at room stand (lineOf c i) g, omega arith)
 

@@ -3,6 +3,7 @@ use columns::check_table;
 use refusal::Acceptance;
 use refusal::Extent;
 use refusal::Refusal;
+use weights::Hyperedge;
 use weights::Measure;
 use weights::Vertex;
 use weights::Weight;
@@ -36,9 +37,8 @@ fn text_width(
     while i < heads.len() {
         let head = Vertex(heads[i]);
         let weight = Weight(own[i]);
-        let from = spans[2 * i] as usize;
-        let to = from + spans[2 * i + 1] as usize;
-        width += edge_width(head, weight, &tails[from..to]);
+        let tail = columns::tail_of(Hyperedge(i as u64), spans, tails);
+        width += edge_width(head, weight, tail);
         i += 1;
     }
     width
@@ -64,9 +64,8 @@ fn put_text(
     while i < heads.len() {
         let head = Vertex(heads[i]);
         let weight = Weight(own[i]);
-        let from = spans[2 * i] as usize;
-        let to = from + spans[2 * i + 1] as usize;
-        at += put_edge(&mut room[at..], head, weight, &tails[from..to]);
+        let tail = columns::tail_of(Hyperedge(i as u64), spans, tails);
+        at += put_edge(&mut room[at..], head, weight, tail);
         i += 1;
     }
 }

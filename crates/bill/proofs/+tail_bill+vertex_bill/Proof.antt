@@ -16,7 +16,7 @@ use Rattle.bill.proofs.+tail_bill+vertex_bill.Lts-tail_bill as tail-lts
 use Rattle.bill.proofs.vertex_bill.Reads as vertex
 use Rattle.bill.proofs.vertex_bill.Kinds as vertex-kinds
 use Rattle.bill.proofs.+tail_bill+vertex_bill.Lts-vertex_bill as vertex-lts
-use Rattle.bill.proofs.tail_of.Reads as tail-of
+use Rattle.columns.proofs.tail_of.Reads as tail-of
 use Rattle.bill.proofs.+tail_bill+vertex_bill.{statement}
 use Rattle.bill.proofs.+tail_bill+vertex_bill.Tie.{close}
 

@@ -17,7 +17,7 @@ use Rattle.bill.proofs.+tail_spend+vertex_spend.Lts-tail_spend as tail-
 use Rattle.bill.proofs.vertex_spend.Reads as vertex
 use Rattle.bill.proofs.vertex_spend.Kinds as vertex-kinds
 use Rattle.bill.proofs.+tail_spend+vertex_spend.Lts-vertex_spend as vertex-lts
-use Rattle.bill.proofs.tail_of.Reads as tail-of
+use Rattle.columns.proofs.tail_of.Reads as tail-of
 use Rattle.bill.proofs.+tail_spend+vertex_spend.{statement}
 use Rattle.bill.proofs.+tail_spend+vertex_spend.Tie.{close}
 

@@ -1,38 +1,28 @@
--- `offers::offer` meets its contract: the part of the column that is lent is the tail of the hyperedge. Assumes nothing.
-use mathlib.Core.Path.{_≡_}
-use Prim.Native.Nat.{ℕ, _+_, _-_}
-use native.Mathlib.Omega.{arith}
+-- `offers::offer` meets its contract: the tail is read as the span says. Assumes nothing.
+use mathlib.Core.Path.{sym, _∙_, ap, subst}
+use mathlib.Core.Bool.{not}
+use mathlib.Core.List.{List}
+use Prim.Native.Nat.{ℕ}
 use borrow.Author.Needs.{needs}
+use Rattle.weights.specs.Figures.{isStruck}
+use Rattle.weights.specs.Measures.{algebra}
+use Rattle.provenance.specs.Labelling.{offerOf}
+use Rattle.columns.specs.Columns.{cell}
+use Rattle.columns.specs.Lent.{Legible}
 use Rattle.offers.proofs.offer.Statement.{statement}
 use Rattle.offers.proofs.offer.Tie as tie
 
--- the part that is lent is as long as the span says
-span-length : (off len : ℕ) → off + len - off ≡ len
-span-length off len = omega arith
-
 candidate-requires : tie.Need-candidate-requires
-candidate-requires c κs = rw span-length (c .before .before .before .before .before .before .before .before .before .pre .legible)
+candidate-requires c κs =
+    let entry = c .before .before .before .before .before .before .before in
+    subst (λ (t : List ℕ). Legible t (entry .args .weights .now) (entry .args .depths .now)) (sym (c .tail-of .ensures)) (entry .pre .legible)
 
 returns : tie.Need-returns
-returns c = rw span-length at (c .candidate .ensures)
+returns c =
+    let a = c .before .before .before .before .before .before .before .before .args in
+    let own = cell (a .own .now) (a .e .0) in
+    c .candidate .ensures
+    ∙ ap (λ (t : List ℕ). offerOf (algebra (a .measure)) (not (isStruck own)) own t (cell (a .weights .now)) (cell (a .depths .now)) (a .e .0)) (c .before .tail-of .ensures)
 
 pub offer-spec : {M : Type 1} → statement M
-offer-spec =
-    tie.close
-    (tie.spec
-    (λ c. search needs)
-    (λ c. search needs)
-    (λ c. search needs)
-    (λ c. search needs)
-    (λ c. search needs)
-    (λ c. search needs)
-    (λ c. search needs)
-    (λ c. search needs)
-    (λ c. search needs)
-    (λ c. search needs)
-    (λ c. search needs)
-    (λ c. search needs)
-    (λ c. search needs)
-    (λ c. search needs)
-    candidate-requires
-    returns)
+offer-spec = tie.close (tie.spec (λ c. search needs) (λ c. search needs) (λ c κs. search needs) candidate-requires returns)

@@ -46,27 +46,27 @@ is-open c =
 shared-slice-read-offset : tie.Need-shared-slice-read-offset
 shared-slice-read-offset c =
     let p = c .before .before .before .before .before .before .before .before .before .before .before .before .before in
-    omega (arith, edge-in (p .pre .0 .usable) (p .args .e .0) (p .pre .1 .numbered) .span)
+    omega (arith, edge-in (p .pre .0 .usable) (p .args .e .0) (p .pre .1 .numbered) .placed .span)
 
 shared-slice-read-size : tie.Need-shared-slice-read-size
 shared-slice-read-size c =
     let p = c .before .before .before .before .before .before .before .before .before .before .before .before .before .before in
-    omega (arith, edge-in (p .pre .0 .usable) (p .args .e .0) (p .pre .1 .numbered) .span)
+    omega (arith, edge-in (p .pre .0 .usable) (p .args .e .0) (p .pre .1 .numbered) .placed .span)
 
 add-stop : tie.Need-add-stop
 add-stop c =
     let p = c .before .before .before .before .before .before .before .before .before .before .before .before .before .before in
-    omega (arith, edge-in (p .pre .0 .usable) (p .args .e .0) (p .pre .1 .numbered) .within)
+    omega (arith, edge-in (p .pre .0 .usable) (p .args .e .0) (p .pre .1 .numbered) .placed .within)
 
 mul-go-on : tie.Need-mul-go-on
 mul-go-on c =
     let p = c .before .before .before .before .before .before .before .before .before .before .before .before .before .before in
-    omega (arith, edge-in (p .pre .0 .usable) (p .args .e .0) (p .pre .1 .numbered) .within)
+    omega (arith, edge-in (p .pre .0 .usable) (p .args .e .0) (p .pre .1 .numbered) .placed .within)
 
 part-go-on-end : tie.Need-part-go-on-end
 part-go-on-end c =
     let p = c .before .before .before .before .before .before .before .before .before .before .before .before .before .before in
-    omega (arith, edge-in (p .pre .0 .usable) (p .args .e .0) (p .pre .1 .numbered) .within)
+    omega (arith, edge-in (p .pre .0 .usable) (p .args .e .0) (p .pre .1 .numbered) .placed .within)
 
 go-on-requires : tie.Need-go-on-requires
 go-on-requires c κs =
@@ -76,17 +76,17 @@ go-on-requires c κs =
 add-v : tie.Need-add-v
 add-v c =
     let p = c .before .before .before .before .before .before .before .before .before .before .before .before .before .before .before .before .before in
-    omega (arith, edge-in (p .pre .0 .usable) (p .args .e .0) (p .pre .1 .numbered) .within, c .if1 .taken, tails-few (p .pre .0) (p .args .e .0) (p .pre .1 .numbered))
+    omega (arith, edge-in (p .pre .0 .usable) (p .args .e .0) (p .pre .1 .numbered) .placed .within, c .if1 .taken, tails-few (p .pre .0) (p .args .e .0) (p .pre .1 .numbered))
 
 mul-v : tie.Need-mul-v
 mul-v c =
     let p = c .before .before .before .before .before .before .before .before .before .before .before .before .before .before .before .before .before in
-    omega (arith, edge-in (p .pre .0 .usable) (p .args .e .0) (p .pre .1 .numbered) .within, c .if1 .taken, tails-few (p .pre .0) (p .args .e .0) (p .pre .1 .numbered))
+    omega (arith, edge-in (p .pre .0 .usable) (p .args .e .0) (p .pre .1 .numbered) .placed .within, c .if1 .taken, tails-few (p .pre .0) (p .args .e .0) (p .pre .1 .numbered))
 
 shared-slice-read-v : tie.Need-shared-slice-read-v
 shared-slice-read-v c =
     let p = c .before .before .before .before .before .before .before .before .before .before .before .before .before .before .before .before .before .before in
-    omega (arith, edge-in (p .pre .0 .usable) (p .args .e .0) (p .pre .1 .numbered) .within, c .before .if1 .taken)
+    omega (arith, edge-in (p .pre .0 .usable) (p .args .e .0) (p .pre .1 .numbered) .placed .within, c .before .if1 .taken)
 
 wait-requires : tie.Need-wait-requires
 wait-requires c κs =

@@ -27,22 +27,22 @@ returns c = struck-next (c .before .before .before .before .before .before .befo
 shared-slice-read-offset : tie.Need-shared-slice-read-offset
 shared-slice-read-offset c =
     let p = c .before .before .before .before .before .before .before .before .before .before .before .before .before .before .before .before .before in
-    omega (arith, edge-in (p .pre .0 .usable) (p .args .e .0) (p .pre .1 .0) .span)
+    omega (arith, edge-in (p .pre .0 .usable) (p .args .e .0) (p .pre .1 .0) .placed .span)
 
 shared-slice-read-size : tie.Need-shared-slice-read-size
 shared-slice-read-size c =
     let p = c .before .before .before .before .before .before .before .before .before .before .before .before .before .before .before .before .before .before in
-    omega (arith, edge-in (p .pre .0 .usable) (p .args .e .0) (p .pre .1 .0) .span)
+    omega (arith, edge-in (p .pre .0 .usable) (p .args .e .0) (p .pre .1 .0) .placed .span)
 
 mul-v : tie.Need-mul-v
 mul-v c =
     let p = c .before .before .before .before .before .before .before .before .before .before .before .before .before .before .before .before .before .before .before in
-    omega (arith, edge-in (p .pre .0 .usable) (p .args .e .0) (p .pre .1 .0) .within, c .if2 .taken, tails-few (p .pre .0) (p .args .e .0) (p .pre .1 .0))
+    omega (arith, edge-in (p .pre .0 .usable) (p .args .e .0) (p .pre .1 .0) .placed .within, c .if2 .taken, tails-few (p .pre .0) (p .args .e .0) (p .pre .1 .0))
 
 shared-slice-read-v : tie.Need-shared-slice-read-v
 shared-slice-read-v c =
     let p = c .before .before .before .before .before .before .before .before .before .before .before .before .before .before .before .before .before .before .before .before in
-    omega (arith, edge-in (p .pre .0 .usable) (p .args .e .0) (p .pre .1 .0) .within, c .before .if2 .taken)
+    omega (arith, edge-in (p .pre .0 .usable) (p .args .e .0) (p .pre .1 .0) .placed .within, c .before .if2 .taken)
 
 wait-requires : tie.Need-wait-requires
 wait-requires c κs =

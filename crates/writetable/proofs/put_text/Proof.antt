@@ -5,7 +5,7 @@ use borrow.Author.Needs.{needs}
 use lib.ListN.{length}
 use Rattle.columns.specs.Columns.{Columns, columns}
 use Rattle.writing.proofs.Written.{written-as}
-use Rattle.writetable.proofs.Laws.{EdgeHere, edge-here, sliced-line, render-length, Putting, putting-none, putting-next, putting-all, place, next-room}
+use Rattle.writetable.proofs.Laws.{EdgeHere, edge-here, tail-line, render-length, Putting, putting-none, putting-next, putting-all, place, next-room}
 use Rattle.writetable.proofs.put_text.Statement.{statement}
 use Rattle.writetable.proofs.put_text.Tie as tie
 
@@ -34,60 +34,40 @@ start l = l .before .before .before .before .before .before .before .before .bef
 here : (l : tie.In-loop Inv-loop μ-loop) → EdgeHere (table (start l)) (l .before .loop .i)
 here l = edge-here _ _ (start l .pre .accepted) (l .loop-test .taken)
 
-mul-from-2 : tie.Need-mul-from-2 Inv-loop μ-loop
-mul-from-2 c = let e = here (c .before) in omega arith
+mul-t15-2 : tie.Need-mul-t15-2 Inv-loop μ-loop
+mul-t15-2 c = let e = here (c .before) in omega arith
 
-shared-slice-read-from-2 : tie.Need-shared-slice-read-from-2 Inv-loop μ-loop
-shared-slice-read-from-2 c = let e = here (c .before .before) in omega arith
+shared-slice-read-t18-2 : tie.Need-shared-slice-read-t18-2 Inv-loop μ-loop
+shared-slice-read-t18-2 c = let e = here (c .before .before) in omega arith
 
-mul-from-3 : tie.Need-mul-from-3 Inv-loop μ-loop
-mul-from-3 c = let e = here (c .before .before) in omega arith
-
-mul-from-4 : tie.Need-mul-from-4 Inv-loop μ-loop
-mul-from-4 c = let e = here (c .before .before) in omega arith
-
-shared-slice-read-from-3 : tie.Need-shared-slice-read-from-3 Inv-loop μ-loop
-shared-slice-read-from-3 c = let e = here (c .before .before .before) in omega arith
-
-mul-to : tie.Need-mul-to Inv-loop μ-loop
-mul-to c = let e = here (c .before .before .before) in omega arith
-
-add-to : tie.Need-add-to Inv-loop μ-loop
-add-to c = let e = here (c .before .before .before) in omega arith
-
-mul-to-2 : tie.Need-mul-to-2 Inv-loop μ-loop
-mul-to-2 c = let e = here (c .before .before .before) in omega arith
-
-shared-slice-read-to : tie.Need-shared-slice-read-to Inv-loop μ-loop
-shared-slice-read-to c = let e = here (c .before .before .before .before) in omega arith
-
-add-to-2 : tie.Need-add-to-2 Inv-loop μ-loop
-add-to-2 c = let e = here (c .before .before .before .before) in omega arith
+tail-of-requires : tie.Need-tail-of-requires Inv-loop μ-loop
+tail-of-requires c κs = here (c .before .before) .placed
 
 sub-put-edge : tie.Need-sub-put-edge Inv-loop μ-loop
-sub-put-edge c = let l = c .before .before .before .before in next-room _ _ _ _ _ _ _ _ (l .before .loop .inv) (l .before .before .before .before .put-header .ensures) (start l .pre .fits) (l .loop-test .taken) .0
+sub-put-edge c =
+    let l = c .before .before .before in
+    next-room _ _ _ _ _ _ _ _ (l .before .loop .inv) (l .before .before .before .before .put-header .ensures) (start l .pre .fits) (l .loop-test .taken) (c .tail-of .ensures) .0
 
 part-put-edge-start : tie.Need-part-put-edge-start Inv-loop μ-loop
 part-put-edge-start c = let r = sub-put-edge c in search (needs, r)
 
-mul-put-edge : tie.Need-mul-put-edge Inv-loop μ-loop
-mul-put-edge c = let e = here (c .before .before .before .before .before) in omega arith
-
-part-put-edge-end-2 : tie.Need-part-put-edge-end-2 Inv-loop μ-loop
-part-put-edge-end-2 c = let e = here (c .before .before .before .before .before) .span in search (needs, e)
-
 put-edge-requires : tie.Need-put-edge-requires Inv-loop μ-loop
-put-edge-requires c κs = let l = c .before .before .before .before .before .before in next-room _ _ _ _ _ _ _ _ (l .before .loop .inv) (l .before .before .before .before .put-header .ensures) (start l .pre .fits) (l .loop-test .taken) .1
+put-edge-requires c κs =
+    let t = c .before in
+    let l = t .before .before .before in
+    next-room _ _ _ _ _ _ _ _ (l .before .loop .inv) (l .before .before .before .before .put-header .ensures) (start l .pre .fits) (l .loop-test .taken) (t .tail-of .ensures) .1
 
 loop-again : tie.Need-loop-again Inv-loop μ-loop
 loop-again c =
     let p = c .before .before in
-    let l = p .before .before .before .before .before .before .before in
-    putting-next _ _ _ _ _ _ (l .before .loop .inv) _ _ (l .loop-test .taken) (written-as _ _ _ (sliced-line (table (start l)) (l .before .loop .i)) (p .put-edge .ensures))
+    let t = p .before .before in
+    let l = t .before .before .before in
+    let e = tail-line (table (start l)) (l .before .loop .i) (t .tail-of .ensures) in
+    putting-next _ _ _ _ _ _ (l .before .loop .inv) _ _ (l .loop-test .taken) (written-as _ _ _ e (p .put-edge .ensures))
 
 add-at : tie.Need-add-at Inv-loop μ-loop
 add-at c =
-    let l = c .before .before .before .before .before .before .before .before .before in
+    let l = c .before .before .before .before .before .before .before in
     let a = place _ _ _ _ _ _ _ _ (loop-again c) (l .before .before .before .before .put-header .ensures) (start l .pre .fits) in
     omega (arith, start l .good)
 
@@ -109,23 +89,12 @@ put-text-spec =
     loop-holds
     (λ c. search needs)
     (λ c. search needs)
-    mul-from-2
-    shared-slice-read-from-2
-    mul-from-3
-    mul-from-4
-    shared-slice-read-from-3
-    mul-to
-    add-to
-    mul-to-2
-    shared-slice-read-to
-    add-to-2
+    mul-t15-2
+    shared-slice-read-t18-2
+    tail-of-requires
     sub-put-edge
     part-put-edge-start
     (λ c. search needs)
-    mul-put-edge
-    (λ c. search needs)
-    (λ c. search needs)
-    part-put-edge-end-2
     put-edge-requires
     add-at
     (λ c. search needs)

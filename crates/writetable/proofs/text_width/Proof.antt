@@ -7,7 +7,7 @@ use lib.ListN.{length}
 use Rattle.columns.specs.Columns.{Columns, columns}
 use Rattle.columns.proofs.Accepted.{table-accepted}
 use Rattle.writing.proofs.Widths.{header-most}
-use Rattle.writetable.proofs.Laws.{EdgeHere, edge-here, sliced-fits, sliced-line, Measured, measured-none, measured-next, measured-all}
+use Rattle.writetable.proofs.Laws.{EdgeHere, edge-here, tail-fits, tail-line, Measured, measured-none, measured-next, measured-all}
 use Rattle.writetable.proofs.text_width.Statement.{statement}
 use Rattle.writetable.proofs.text_width.Tie as tie
 
@@ -36,50 +36,26 @@ start l = l .before .before .before .before .before .before .before
 here : (l : tie.In-loop Inv-loop μ-loop) → EdgeHere (table (start l)) (l .before .loop .i)
 here l = edge-here _ _ (start l .pre) (l .loop-test .taken)
 
-mul-from-2 : tie.Need-mul-from-2 Inv-loop μ-loop
-mul-from-2 c = let e = here (c .before) in omega arith
+mul-t12-2 : tie.Need-mul-t12-2 Inv-loop μ-loop
+mul-t12-2 c = let e = here (c .before) in omega arith
 
-shared-slice-read-from-2 : tie.Need-shared-slice-read-from-2 Inv-loop μ-loop
-shared-slice-read-from-2 c = let e = here (c .before .before) in omega arith
+shared-slice-read-t15-2 : tie.Need-shared-slice-read-t15-2 Inv-loop μ-loop
+shared-slice-read-t15-2 c = let e = here (c .before .before) in omega arith
 
-mul-from-3 : tie.Need-mul-from-3 Inv-loop μ-loop
-mul-from-3 c = let e = here (c .before .before) in omega arith
-
-mul-from-4 : tie.Need-mul-from-4 Inv-loop μ-loop
-mul-from-4 c = let e = here (c .before .before) in omega arith
-
-shared-slice-read-from-3 : tie.Need-shared-slice-read-from-3 Inv-loop μ-loop
-shared-slice-read-from-3 c = let e = here (c .before .before .before) in omega arith
-
-mul-to : tie.Need-mul-to Inv-loop μ-loop
-mul-to c = let e = here (c .before .before .before) in omega arith
-
-add-to : tie.Need-add-to Inv-loop μ-loop
-add-to c = let e = here (c .before .before .before) in omega arith
-
-mul-to-2 : tie.Need-mul-to-2 Inv-loop μ-loop
-mul-to-2 c = let e = here (c .before .before .before) in omega arith
-
-shared-slice-read-to : tie.Need-shared-slice-read-to Inv-loop μ-loop
-shared-slice-read-to c = let e = here (c .before .before .before .before) in omega arith
-
-add-to-2 : tie.Need-add-to-2 Inv-loop μ-loop
-add-to-2 c = let e = here (c .before .before .before .before) in omega arith
-
-mul-edge-width : tie.Need-mul-edge-width Inv-loop μ-loop
-mul-edge-width c = let e = here (c .before .before .before .before) in omega arith
-
-part-edge-width-end : tie.Need-part-edge-width-end Inv-loop μ-loop
-part-edge-width-end c = let e = here (c .before .before .before .before) .span in search (needs, e)
+tail-of-requires : tie.Need-tail-of-requires Inv-loop μ-loop
+tail-of-requires c κs = here (c .before .before) .placed
 
 edge-width-requires : tie.Need-edge-width-requires Inv-loop μ-loop
-edge-width-requires c κs = sliced-fits _ _ (here (c .before .before .before .before .before))
+edge-width-requires c κs = tail-fits _ _ (c .tail-of .ensures) (here (c .before .before .before))
 
 loop-again : tie.Need-loop-again Inv-loop μ-loop
-loop-again c = let l = c .before .before .before .before .before .before in measured-next _ _ _ _ _ (start l .pre) (l .loop-test .taken) (c .edge-width .ensures ∙ ap length (sliced-line (table (start l)) (l .before .loop .i))) (l .before .loop .inv)
+loop-again c =
+    let l = c .before .before .before .before in
+    let e = c .edge-width .ensures ∙ ap length (tail-line (table (start l)) (l .before .loop .i) (c .before .tail-of .ensures)) in
+    measured-next _ _ _ _ _ (start l .pre) (l .loop-test .taken) e (l .before .loop .inv)
 
 add-width : tie.Need-add-width Inv-loop μ-loop
-add-width c = let m = loop-again c in let e = here (c .before .before .before .before .before .before) in omega arith
+add-width c = let m = loop-again c in let e = here (c .before .before .before .before) in omega arith
 
 returns : tie.Need-returns Inv-loop μ-loop
 returns c = measured-all _ _ _ _ _ (c .before .before .header-width .ensures) (c .loop-test .left) (c .before .loop .inv)
@@ -94,20 +70,9 @@ text-width-spec =
     loop-holds
     (λ c. search needs)
     (λ c. search needs)
-    mul-from-2
-    shared-slice-read-from-2
-    mul-from-3
-    mul-from-4
-    shared-slice-read-from-3
-    mul-to
-    add-to
-    mul-to-2
-    shared-slice-read-to
-    add-to-2
-    mul-edge-width
-    (λ c. search needs)
-    (λ c. search needs)
-    part-edge-width-end
+    mul-t12-2
+    shared-slice-read-t15-2
+    tail-of-requires
     edge-width-requires
     add-width
     (λ c. search needs)

@@ -1,12 +1,12 @@
--- `bill::tail_of` meets its contract: the part from `from` to `to` is the span's. Assumes nothing.
+-- `columns::tail_of` meets its contract: the part from `from` to `to` is the span's. Assumes nothing.
 use mathlib.Core.Path.{_≡_, ap}
 use Prim.Native.Nat.{ℕ, _+_, _-_, _*_}
 use native.Mathlib.Omega.{arith}
 use lib.ListN.{getD}
 use borrow.Author.Needs.{needs}
 use Rattle.columns.specs.Columns.{part}
-use Rattle.bill.proofs.tail_of.Statement.{statement}
-use Rattle.bill.proofs.tail_of.Tie as tie
+use Rattle.columns.proofs.tail_of.Statement.{statement}
+use Rattle.columns.proofs.tail_of.Tie as tie
 
 returns : tie.Need-returns
 returns c =
