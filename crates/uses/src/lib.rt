@@ -1,5 +1,6 @@
 // The index of uses: which hyperedges list a vertex. Two passes over the tails, counting and then
 // filling; no tail is searched for a vertex that it lists twice.
+use weights::Hyperedge;
 ghost use mathlib.Core.Path.{_≡_};
 ghost use Prim.Native.Nat.{_+_, _*_, _≤_};
 ghost use lib.ListN.{length};
@@ -9,20 +10,21 @@ ghost use Rattle.uses.specs.Indexable.{Readable, Indexable, counted, Cou
 
 // Counts hyperedge e as a use of each vertex that it lists. The first place of a vertex is a mark
 // meanwhile: the last hyperedge counted there, and 1 more.
-fn count_edge(e: u64, spans: &[u64], tails: &[u64], index: &mut [u64])
-    requires { ⌜ Counting e (now spans) (now tails) (now index) ⌝ }
-    ensures { λ r. ⌜ now (index .exit) ≡ counted (tailOf (now (spans .entry)) (now (tails .entry))) (e + 1) (pairsIn (now (index .entry))) ⌝ }
+fn count_edge(e: Hyperedge, spans: &[u64], tails: &[u64], index: &mut [u64])
+    requires { ⌜ Counting (e .0) (now spans) (now tails) (now index) ⌝ }
+    ensures { λ r. ⌜ now (index .exit) ≡ counted (tailOf (now (spans .entry)) (now (tails .entry))) (e .0 + 1) (pairsIn (now (index .entry))) ⌝ }
 {
-    let line = e as usize;
+    let number = e.0;
+    let line = number as usize;
     let from = spans[2 * line] as usize;
     let size = spans[2 * line + 1] as usize;
     let mut i = 0;
     while i < size {
         let v = tails[from + i] as usize;
         let mark = index[2 * v];
-        if mark != e + 1 {
+        if mark != number + 1 {
             let count = index[2 * v + 1];
-            index[2 * v] = e + 1;
+            index[2 * v] = number + 1;
             index[2 * v + 1] = count + 1;
         }
         i += 1;
@@ -38,7 +40,7 @@ fn count(spans: &[u64], tails: &[u64], index: &mut [u64])
     let m = spans.len() / 2;
     let mut i = 0;
     while i < m {
-        count_edge(i as u64, spans, tails, index);
+        count_edge(Hyperedge(i as u64), spans, tails, index);
         i += 1;
     }
 }
@@ -62,23 +64,24 @@ fn place(index: &mut [u64]) -> u64
 }
 
 // Whether e is the last of the k hyperedges from a place on.
-fn ends_in(list: &[u64], from: usize, k: usize, e: u64) -> bool
+fn ends_in(list: &[u64], from: usize, k: usize, e: Hyperedge) -> bool
     requires { ⌜ from + k ≤ length (now list) ⌝ }
-    ensures { λ r. ⌜ r ≡ endsIn (now (list .entry)) from k e ⌝ }
+    ensures { λ r. ⌜ r ≡ endsIn (now (list .entry)) from k (e .0) ⌝ }
 {
     if k == 0 {
         return false;
     }
     let last = list[from + k - 1];
-    last == e
+    last == e.0
 }
 
 // Puts hyperedge e behind the uses of each vertex that it lists, once.
-fn fill_edge(e: u64, spans: &[u64], tails: &[u64], index: &mut [u64], list: &mut [u64])
-    requires { ⌜ Filling e (now spans) (now tails) (now index) (now list) ⌝ }
-    ensures { λ r. ⌜ FilledTo (tailOf (now (spans .entry)) (now (tails .entry))) (pairsIn (now (spans .entry))) (pairsIn (now (index .entry))) (e + 1) (now (index .exit)) (now (list .exit)) (now (list .entry)) ⌝ }
+fn fill_edge(e: Hyperedge, spans: &[u64], tails: &[u64], index: &mut [u64], list: &mut [u64])
+    requires { ⌜ Filling (e .0) (now spans) (now tails) (now index) (now list) ⌝ }
+    ensures { λ r. ⌜ FilledTo (tailOf (now (spans .entry)) (now (tails .entry))) (pairsIn (now (spans .entry))) (pairsIn (now (index .entry))) (e .0 + 1) (now (index .exit)) (now (list .exit)) (now (list .entry)) ⌝ }
 {
-    let line = e as usize;
+    let number = e.0;
+    let line = number as usize;
     let from = spans[2 * line] as usize;
     let size = spans[2 * line + 1] as usize;
     let mut i = 0;
@@ -87,7 +90,7 @@ fn fill_edge(e: u64, spans: &[u64], tails: &[u64], index: &mut [u64], list: &mut
         let start = index[2 * v] as usize;
         let k = index[2 * v + 1] as usize;
         if !ends_in(list, start, k, e) {
-            list[start + k] = e;
+            list[start + k] = number;
             index[2 * v + 1] = k as u64 + 1;
         }
         i += 1;
@@ -102,7 +105,7 @@ fn fill(spans: &[u64], tails: &[u64], index: &mut [u64], list: &mut [u64])
     let edges = spans.len() / 2;
     let mut i = 0;
     while i < edges {
-        fill_edge(i as u64, spans, tails, index, list);
+        fill_edge(Hyperedge(i as u64), spans, tails, index, list);
         i += 1;
     }
 }

@@ -16,21 +16,21 @@ use Rattle.uses.proofs.Seen.{seenIn, vertex-below, one-more, whole}
 use Rattle.uses.proofs.Counting.{countedBy, count-first, count-last, count-fits, count-again, count-new}
 
 abbrev Inv-loop : tie.InvT-loop
-Inv-loop e spans tails index₀ line from size i₀ index i =
-    (i ≤ size) × (index ≡ countedBy (tailOf spans tails) e (seenIn (take i (tailOf spans tails e))) (pairsIn index₀))
+Inv-loop spans tails index₀ number line from size i₀ index i =
+    (i ≤ size) × (index ≡ countedBy (tailOf spans tails) number (seenIn (take i (tailOf spans tails number))) (pairsIn index₀))
 
 abbrev μ-loop : tie.MeasureT-loop
-μ-loop e spans tails index₀ line from size i₀ index i = size - i
+μ-loop spans tails index₀ number line from size i₀ index i = size - i
 
 -- the tail can be read; its next vertex has its places, of which there are as many as there were
 abbrev entry : tie.In-loop Inv-loop μ-loop → tie.Start Inv-loop μ-loop
 entry c = c .before .before .before .before
 
-tail-in : (c : tie.In-loop Inv-loop μ-loop) → TailReadable (pairsIn (entry c .args .index .now)) (entry c .args .spans .now) (entry c .args .tails .now) (entry c .args .e)
-tail-in c = entry c .pre .readable .each (entry c .args .e) (entry c .pre .numbered)
+tail-in : (c : tie.In-loop Inv-loop μ-loop) → TailReadable (pairsIn (entry c .args .index .now)) (entry c .args .spans .now) (entry c .args .tails .now) (entry c .args .e .0)
+tail-in c = entry c .pre .readable .each (entry c .args .e .0) (entry c .pre .numbered)
 
 abbrev vertex : tie.In-loop Inv-loop μ-loop → ℕ
-vertex c = getD (entry c .args .tails .now) (getD (entry c .args .spans .now) (2 * entry c .args .e) 0 + c .before .loop .i) 0
+vertex c = getD (entry c .args .tails .now) (getD (entry c .args .spans .now) (2 * entry c .args .e .0) 0 + c .before .loop .i) 0
 
 below : (c : tie.In-loop Inv-loop μ-loop) → vertex c < pairsIn (entry c .args .index .now)
 below c = vertex-below (tail-in c) (c .before .loop .i) (c .loop-test .taken)
@@ -128,7 +128,7 @@ returns : tie.Need-returns Inv-loop μ-loop
 returns c =
     let s = c .before .before .before .before in
     c .before .loop .inv .1
-    ∙ ap (λ (vs : List ℕ). countedBy (tailOf (s .args .spans .now) (s .args .tails .now)) (s .args .e) (seenIn vs) (pairsIn (s .args .index .now))) (whole (s .pre .readable .each (s .args .e) (s .pre .numbered)) (c .before .loop .i) (c .loop-test .left))
+    ∙ ap (λ (vs : List ℕ). countedBy (tailOf (s .args .spans .now) (s .args .tails .now)) (s .args .e .0) (seenIn vs) (pairsIn (s .args .index .now))) (whole (s .pre .readable .each (s .args .e .0) (s .pre .numbered)) (c .before .loop .i) (c .loop-test .left))
     ∙ count-last _ _ _
 
 pub count-edge-spec : {M : Type 1} → statement M

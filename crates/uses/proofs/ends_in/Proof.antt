@@ -23,7 +23,7 @@ shared-slice-read-last c = search needs
 
 returns-2 : tie.Need-returns-2
 unfolding endsIn
-returns-2 c = rw (ne-eqb _ _ (c .before .if1 .left))
+returns-2 c = rw (ne-eqb _ _ (c .before .before .if1 .left))
 
 pub ends-in-spec : {M : Type 1} → statement M
 ends-in-spec =

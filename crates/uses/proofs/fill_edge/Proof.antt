@@ -20,30 +20,30 @@ use Rattle.uses.proofs.Seen.{seenIn, usesBy, vertex-below, vertex-liste
 use Rattle.uses.proofs.Filling.{FilledBy, fill-first, fill-last, start-is, size-is, end-within, ends-seen, fill-again, place-free, fill-new}
 
 abbrev Inv-loop : tie.InvT-loop
-Inv-loop e spans tails index₀ list₀ line from size i₀ index list i =
-    (i ≤ size) × FilledBy (tailOf spans tails) (pairsIn spans) (pairsIn index₀) e (seenIn (take i (tailOf spans tails e))) index list list₀
+Inv-loop e spans tails index₀ list₀ number line from size i₀ index list i =
+    (i ≤ size) × FilledBy (tailOf spans tails) (pairsIn spans) (pairsIn index₀) (e .0) (seenIn (take i (tailOf spans tails (e .0)))) index list list₀
 
 abbrev μ-loop : tie.MeasureT-loop
-μ-loop e spans tails index₀ list₀ line from size i₀ index list i = size - i
+μ-loop e spans tails index₀ list₀ number line from size i₀ index list i = size - i
 
 abbrev start : tie.At-loop Inv-loop μ-loop → tie.Start Inv-loop μ-loop
 start c = c .before .before .before .before .before .before .before
 
 -- the tail can be read; its next vertex has its places, of which there are as many as there were
-tail-in : (s : tie.Start Inv-loop μ-loop) → TailReadable (pairsIn (s .args .index .now)) (s .args .spans .now) (s .args .tails .now) (s .args .e)
-tail-in s = s .pre .readable .each (s .args .e) (s .pre .numbered)
+tail-in : (s : tie.Start Inv-loop μ-loop) → TailReadable (pairsIn (s .args .index .now)) (s .args .spans .now) (s .args .tails .now) (s .args .e .0)
+tail-in s = s .pre .readable .each (s .args .e .0) (s .pre .numbered)
 
 level : (c : tie.At-loop Inv-loop μ-loop) → length (c .loop .index) ≡ length (start c .args .index .now)
 level c = ap length (c .loop .inv .1 .lengths) ∙ length-pairs _ _ _ ∙ sym (ap length (start c .pre .so-far .lengths) ∙ length-pairs _ _ _)
 
 abbrev vertex : tie.At-loop Inv-loop μ-loop → ℕ
-vertex c = getD (start c .args .tails .now) (getD (start c .args .spans .now) (2 * start c .args .e) 0 + c .loop .i) 0
+vertex c = getD (start c .args .tails .now) (getD (start c .args .spans .now) (2 * start c .args .e .0) 0 + c .loop .i) 0
 
 abbrev tail : tie.At-loop Inv-loop μ-loop → ℕ → List ℕ
 tail l = tailOf (start l .args .spans .now) (start l .args .tails .now)
 
 abbrev passed : tie.At-loop Inv-loop μ-loop → List ℕ
-passed l = take (l .loop .i) (tail l (start l .args .e))
+passed l = take (l .loop .i) (tail l (start l .args .e .0))
 
 -- where the uses of the vertex start, and how many stand
 abbrev from : tie.At-loop Inv-loop μ-loop → ℕ
@@ -58,16 +58,16 @@ below c = vertex-below (tail-in (start (c .before))) (c .before .loop .i) (c .lo
 low : (c : tie.In-loop Inv-loop μ-loop) → 2 * vertex (c .before) + 1 < length (start (c .before) .args .index .now)
 low c = omega (arith, below c)
 
-listed : (c : tie.In-loop Inv-loop μ-loop) → member (vertex (c .before)) (tail (c .before) (start (c .before) .args .e)) ≡ true
+listed : (c : tie.In-loop Inv-loop μ-loop) → member (vertex (c .before)) (tail (c .before) (start (c .before) .args .e .0)) ≡ true
 listed c = vertex-listed (tail-in (start (c .before))) (c .before .loop .i) (c .loop-test .taken)
 
-among : (l : tie.At-loop Inv-loop μ-loop) (v : ℕ) → member v (passed l) ≡ true → member v (tail l (start l .args .e)) ≡ true
-among l v = member-take v (tail l (start l .args .e)) (l .loop .i)
+among : (l : tie.At-loop Inv-loop μ-loop) (v : ℕ) → member v (passed l) ≡ true → member v (tail l (start l .args .e .0)) ≡ true
+among l v = member-take v (tail l (start l .args .e .0)) (l .loop .i)
 
 starts : (c : tie.In-loop Inv-loop μ-loop) → from (c .before) ≡ useOffset (tail (c .before)) (pairsIn (start (c .before) .args .spans .now)) (vertex (c .before))
 starts c = let l = c .before in start-is _ _ _ _ (start l .pre .numbered) (passed l) (vertex l) (below c) (among l) (listed c) (l .loop .inv .1)
 
-sized : (c : tie.In-loop Inv-loop μ-loop) → many (c .before) ≡ length (usesBy (tail (c .before)) (start (c .before) .args .e) (seenIn (passed (c .before))) (vertex (c .before)))
+sized : (c : tie.In-loop Inv-loop μ-loop) → many (c .before) ≡ length (usesBy (tail (c .before)) (start (c .before) .args .e .0) (seenIn (passed (c .before))) (vertex (c .before)))
 sized c = let l = c .before in size-is _ _ _ _ (start l .pre .numbered) (passed l) (vertex l) (below c) (among l) (listed c) (l .loop .inv .1)
 
 ends : (c : tie.In-loop Inv-loop μ-loop) → from (c .before) + many (c .before) ≤ length (c .before .loop .list)
@@ -76,7 +76,7 @@ ends c =
     omega (arith, starts c, sized c, end-within _ _ _ _ (start l .pre .numbered) (passed l) (vertex l) (below c) (among l) (listed c) (l .loop .inv .1), start l .pre .room, l .loop .inv .1 .laid .level)
 
 -- whether the vertex was passed before
-seen : (c : tie.In-loop Inv-loop μ-loop) → endsIn (c .before .loop .list) (from (c .before)) (many (c .before)) (start (c .before) .args .e) ≡ member (vertex (c .before)) (passed (c .before))
+seen : (c : tie.In-loop Inv-loop μ-loop) → endsIn (c .before .loop .list) (from (c .before)) (many (c .before)) (start (c .before) .args .e .0) ≡ member (vertex (c .before)) (passed (c .before))
 seen c = let l = c .before in rw (starts c, sized c) (ends-seen _ _ _ _ (start l .pre .numbered) (passed l) (vertex l) (below c) (among l) (listed c) (l .loop .inv .1))
 
 told : (c : tie.After-ends-in Inv-loop μ-loop) → let l = c .before .before .before .before .before .before in c .ends-in .result ≡ member (vertex l) (passed l)
@@ -86,11 +86,11 @@ told c = c .ends-in .ensures ∙ seen (c .before .before .before .before .before
 kept : (c : tie.Joined1 Inv-loop μ-loop) {ix ls : List ℕ} → c .if1 .index ≡ ix → c .if1 .list ≡ ls →
     let l = c .before .before .before .before .before .before .before in
     let s = start l .args in
-    FilledBy (tail l) (pairsIn (s .spans .now)) (pairsIn (s .index .now)) (s .e) (seenIn (passed l ++ vertex l ∷ [])) ix ls (s .list .now) → FilledBy (tail l) (pairsIn (s .spans .now)) (pairsIn (s .index .now)) (s .e) (seenIn (passed l ++ vertex l ∷ [])) (c .if1 .index) (c .if1 .list) (s .list .now)
+    FilledBy (tail l) (pairsIn (s .spans .now)) (pairsIn (s .index .now)) (s .e .0) (seenIn (passed l ++ vertex l ∷ [])) ix ls (s .list .now) → FilledBy (tail l) (pairsIn (s .spans .now)) (pairsIn (s .index .now)) (s .e .0) (seenIn (passed l ++ vertex l ∷ [])) (c .if1 .index) (c .if1 .list) (s .list .now)
 kept c p q f =
     let l = c .before .before .before .before .before .before .before in
     let s = start l .args in
-    subst₂ (λ (ix ls : List ℕ). FilledBy (tail l) (pairsIn (s .spans .now)) (pairsIn (s .index .now)) (s .e) (seenIn (passed l ++ vertex l ∷ [])) ix ls (s .list .now)) (sym p) (sym q) f
+    subst₂ (λ (ix ls : List ℕ). FilledBy (tail l) (pairsIn (s .spans .now)) (pairsIn (s .index .now)) (s .e .0) (seenIn (passed l ++ vertex l ∷ [])) ix ls (s .list .now)) (sym p) (sym q) f
 
 free : (c : tie.Then1 Inv-loop μ-loop) → let l = c .before .before .before .before .before .before .before in from l + many l < length (start l .args .list .now)
 free c =
@@ -172,7 +172,7 @@ loop-again c =
     let o = one-more (tail-in (start l)) (l .loop .i) (d .loop-test .taken) in
     let room : useOffset (tail l) (pairsIn (s .spans .now)) (pairsIn (s .index .now)) ≤ length (l .loop .list) = omega (arith, start l .pre .room, l .loop .inv .1 .laid .level) in (
       omega arith,
-      subst (λ (vs : List ℕ). FilledBy (tail l) (pairsIn (s .spans .now)) (pairsIn (s .index .now)) (s .e) (seenIn vs) (c .if1 .index) (c .if1 .list) (s .list .now)) (sym o)
+      subst (λ (vs : List ℕ). FilledBy (tail l) (pairsIn (s .spans .now)) (pairsIn (s .index .now)) (s .e .0) (seenIn vs) (c .if1 .index) (c .if1 .list) (s .list .now)) (sym o)
           (⊎-elim
           (λ w. kept c (w .1) (w .2) (fill-new _ _ _ _ (start l .pre .numbered) (passed l) (vertex l) (below d) (among l) (listed d) (l .loop .inv .1) (sym (told (c .before)) ∙ not-true _ (w .0 .taken)) room))
           (λ w. kept c (w .1) (w .2) (fill-again _ _ _ _ (start l .pre .numbered) (passed l) (vertex l) (below d) (among l) (listed d) (l .loop .inv .1) (sym (told (c .before)) ∙ not-false _ (w .0 .left))))
@@ -189,7 +189,7 @@ returns : tie.Need-returns Inv-loop μ-loop
 returns c =
     let l = c .before in
     let s = start l in
-    fill-last _ _ _ _ _ _ _ (subst (λ (vs : List ℕ). FilledBy (tail l) (pairsIn (s .args .spans .now)) (pairsIn (s .args .index .now)) (s .args .e) (seenIn vs) (l .loop .index) (l .loop .list) (s .args .list .now)) (whole (tail-in s) (l .loop .i) (c .loop-test .left)) (l .loop .inv .1))
+    fill-last _ _ _ _ _ _ _ (subst (λ (vs : List ℕ). FilledBy (tail l) (pairsIn (s .args .spans .now)) (pairsIn (s .args .index .now)) (s .args .e .0) (seenIn vs) (l .loop .index) (l .loop .list) (s .args .list .now)) (whole (tail-in s) (l .loop .i) (c .loop-test .left)) (l .loop .inv .1))
 
 pub fill-edge-spec : {M : Type 1} → statement M
 fill-edge-spec =
