@@ -15,6 +15,7 @@ use Rattle.refusal.specs.declared.Refusal.the-variants.{BillRoom}
 use Rattle.refusal.specs.declared.Acceptance.the-variants as answer
 use Rattle.refusal.specs.declared.Extent.the-variants.{Length, Refused}
 use Rattle.provenance.specs.Labelling.{Made, AllMade, greatestDepth, deepestIn, Fixpoint}
+use Rattle.columns.specs.Filled.{filled}
 use Rattle.columns.specs.Columns.{Answers, Columns, ownAt, tailAt}
 use Rattle.provenance.specs.BestFirst.{labels}
 use Rattle.provenance.specs.Support.{bills, bill}
@@ -71,8 +72,9 @@ module _ (spans tails edges : List ℕ) (depth v : ℕ) (room : List ℕ) where
     print-fits g = record { grounded = g; fits = is-left (length room) (length lines) q .0 }
 
     pub print-written : {to : ℕ} {left : List ℕ} → WrittenFrom 0 lines room to left → record { result = Length to; left = left } ≡ printed lines room
+    unfolding filled
     print-written {to} {left} w =
-        let e : to ≡ length lines = omega (arith, w .filled) in
+        let e : to ≡ length lines = omega (arith, w .reaches) in
         rw (le-leb (length lines) (length room) (is-left (length room) (length lines) q .0), e, w .content)
 
 module _ (m : Measure) (c : Columns) (a : Answers) (v : ℕ) where

@@ -10,6 +10,7 @@ use Rattle.weights.specs.Choice.{pick}
 use Rattle.provenance.specs.Hypergraph.{Hypergraph}
 use Rattle.provenance.specs.BestFirst.{labels}
 use Rattle.provenance.specs.Support.{bills, bill}
+use Rattle.columns.specs.Filled.{filled}
 use Rattle.columns.specs.Lent.{Placed}
 use Rattle.columns.specs.Columns.{columns, answers, tailOf}
 use Rattle.tables.specs.Table.{hypergraph}
@@ -43,23 +44,19 @@ Grounded spans tails edges (suc depth) v = (v < length edges) × Placed spans ta
 abbrev pub AllGrounded : (spans tails edges : List ℕ) → (depth : ℕ) → List ℕ → Type 0
 AllGrounded spans tails edges depth = Each (Grounded spans tails edges depth)
 
--- a room with `new` written over it from its start
-abbrev pub written : (new room : List ℕ) → List ℕ
-written new room = new ++ drop (length new) room
-
 -- what writing the bill of v asks, and the bills of a tail: they are grounded, and the room holds them from a place on
 pub record VertexFits (spans tails edges : List ℕ) (depth v : ℕ) (room : List ℕ) : Type 0 where
   pub grounded : Grounded spans tails edges depth v
   pub fits : length (vertexBill spans tails edges depth v) ≤ length room
 
-pub record TailFits (spans tails edges : List ℕ) (depth : ℕ) (tail : List ℕ) (filled : ℕ) (room : List ℕ) : Type 0 where
+pub record TailFits (spans tails edges : List ℕ) (depth : ℕ) (tail : List ℕ) (at : ℕ) (room : List ℕ) : Type 0 where
   pub grounded : AllGrounded spans tails edges depth tail
-  pub fits : filled + length (tailBill spans tails edges depth tail) ≤ length room
+  pub fits : at + length (tailBill spans tails edges depth tail) ≤ length room
 
 -- after `new` was written from a place on, the room is filled to `to`, and `left` is its content
 pub record WrittenFrom (from : ℕ) (new room : List ℕ) (to : ℕ) (left : List ℕ) : Type 0 where
-  pub filled : to ≡ from + length new
-  pub content : left ≡ take from room ++ written new (drop from room)
+  pub reaches : to ≡ from + length new
+  pub content : left ≡ take from room ++ filled new (drop from room)
 
 -- what is left of a budget after so many lines
 abbrev pub spend : (budget lines : ℕ) → Budget
