@@ -40,7 +40,8 @@ pub record Told (H : Hypergraph) (d : ℕ → ℕ) (k : ℕ) (l : Label) : Type 
   pub deep : 0 < l .depth
   pub shallow : l .depth ≤ k + 1
 
-told-next : {A : Algebra} {H : Hypergraph} {own : ℕ → ℕ} (a : Answers) {j k : ℕ} {o : Offer} {l : Label} → ((v : ℕ) → cell (a .depths) v ≤ k) → Next A H own (labels a) j o → Found l ≡ o → Told H (cell (a .depths)) k l
+told-next : {A : Algebra} {H : Hypergraph} {own : ℕ → ℕ} (a : Answers) {j k : ℕ} {o : Offer} {l : Label} → ((v : ℕ) → cell (a .depths) v ≤ k)
+    → Next A H own (labels a) j o → Found l ≡ o → Told H (cell (a .depths)) k l
 told-next a f (Next.stuck n) p = absurd (let z : _≡_ {A = ℕ} 0 1 = cc in omega arith)
 told-next {A} {H} {own} a {k = k} {l = l} f (Next.found e o b) p =
     let q : l ≡ candidate A H own (labels a) e = cc in

@@ -41,7 +41,8 @@ module _ (c : Columns) (a : Answers) where
 
 -- at a fixpoint of an accepted table every made part is grounded
 module _ (m : Measure) (c : Columns) (a : Answers) (l : AcceptedColumns c a) (fix : Fixpoint (algebra m) (hypergraph c) (ownAt c) (labels a)) where
-  all-grounded : {k : ℕ} → ((v : ℕ) → v < c .vertices → Made (labels a v) → labels a v .depth ≤ k → Grounded (c .spans) (c .tails) (a .edges) k v) → {vs : List ℕ} → AllMade (labels a) vs → allBelow (c .vertices) vs ≡ true → deepestIn (labels a) vs ≤ k → Each (Grounded (c .spans) (c .tails) (a .edges) k) vs
+  all-grounded : {k : ℕ} → ((v : ℕ) → v < c .vertices → Made (labels a v) → labels a v .depth ≤ k → Grounded (c .spans) (c .tails) (a .edges) k v) → {vs : List ℕ}
+      → AllMade (labels a) vs → allBelow (c .vertices) vs ≡ true → deepestIn (labels a) vs ≤ k → Each (Grounded (c .spans) (c .tails) (a .edges) k) vs
   unfolding Each allBelow greatestDepth
   all-grounded f AllMade.none b h = tt
   all-grounded f (AllMade.more {v = v} {vs = vs} x xs) b h =

@@ -32,7 +32,8 @@ module _ {o : MeasureChoice} (c : Columns) (a : Answers) {n : ℕ} where
   pub settled-refused : {r : Refusal} → o ≡ choice.Refused r → n ≡ resultOf (codeOf r) → record { result = n; left = a } ≡ settledResult o c a
   settled-refused p q = rw (p, q)
 
-  pub settled-measure : {m : Measure} {x : Acceptance} {b : Answers} → o ≡ choice.Measure m → n ≡ acceptanceResult x → record { result = x; left = b } ≡ settled m c a → record { result = n; left = b } ≡ settledResult o c a
+  pub settled-measure : {m : Measure} {x : Acceptance} {b : Answers} → o ≡ choice.Measure m → n ≡ acceptanceResult x → record { result = x; left = b } ≡ settled m c a
+      → record { result = n; left = b } ≡ settledResult o c a
   settled-measure {m} {x} {b} p q e = rw (p, q) (ap outcomeResult e)
 
   -- of line e and figure w
@@ -40,7 +41,8 @@ module _ {o : MeasureChoice} (c : Columns) (a : Answers) {n : ℕ} where
     pub repriced-refused : {r : Refusal} → o ≡ choice.Refused r → n ≡ resultOf (codeOf r) → record { result = n; own = c .own; left = a } ≡ repricedResult o c a e w
     repriced-refused p q = rw (p, q)
 
-    pub repriced-measure : {m : Measure} {x : Acceptance} {os : List ℕ} {b : Answers} → o ≡ choice.Measure m → n ≡ acceptanceResult x → record { result = x; own = os; left = b } ≡ repriced m c a e w → record { result = n; own = os; left = b } ≡ repricedResult o c a e w
+    pub repriced-measure : {m : Measure} {x : Acceptance} {os : List ℕ} {b : Answers} → o ≡ choice.Measure m → n ≡ acceptanceResult x
+        → record { result = x; own = os; left = b } ≡ repriced m c a e w → record { result = n; own = os; left = b } ≡ repricedResult o c a e w
     repriced-measure p q k = rw (p, q) (ap changeResult k)
 
   -- of part v
@@ -48,7 +50,8 @@ module _ {o : MeasureChoice} (c : Columns) (a : Answers) {n : ℕ} where
     pub billed-refused : {r : Refusal} → o ≡ choice.Refused r → n ≡ resultOf (codeOf r) → record { result = n; left = room } ≡ billedResult o c a v room
     billed-refused p q = rw (p, q)
 
-    pub billed-measure : {m : Measure} {x : Extent} {places : ℕ} {left : List ℕ} → o ≡ choice.Measure m → n ≡ extentResult x → places ≡ min mostRoom (length room) → record { result = x; left = left } ≡ billed m c a v (take places room) → record { result = n; left = left ++ drop places room } ≡ billedResult o c a v room
+    pub billed-measure : {m : Measure} {x : Extent} {places : ℕ} {left : List ℕ} → o ≡ choice.Measure m → n ≡ extentResult x → places ≡ min mostRoom (length room)
+        → record { result = x; left = left } ≡ billed m c a v (take places room) → record { result = n; left = left ++ drop places room } ≡ billedResult o c a v room
     billed-measure {m} {x} {places} {left} p q k e =
         rw (p, q)
         (ap₂

@@ -37,7 +37,8 @@ module _ {o : MeasureChoice} (c : Columns) (a : Answers) {n : ℕ} where
     pub stricken-refused : {r : Refusal} → o ≡ choice.Refused r → n ≡ resultOf (codeOf r) → record { result = n; own = c .own; left = a } ≡ strickenResult o c a e
     stricken-refused p q = rw (p, q)
 
-    pub stricken-measure : {m : Measure} {x : Acceptance} {os : List ℕ} {b : Answers} → o ≡ choice.Measure m → n ≡ acceptanceResult x → record { result = x; own = os; left = b } ≡ stricken m c a e → record { result = n; own = os; left = b } ≡ strickenResult o c a e
+    pub stricken-measure : {m : Measure} {x : Acceptance} {os : List ℕ} {b : Answers} → o ≡ choice.Measure m → n ≡ acceptanceResult x
+        → record { result = x; own = os; left = b } ≡ stricken m c a e → record { result = n; own = os; left = b } ≡ strickenResult o c a e
     stricken-measure p q k = rw (p, q) (ap changeResult k)
 
 three : (xs : List ℕ) (w d e : ℕ) → length xs ≡ 3 → set (set (set xs 0 w) 1 d) 2 e ≡ w ∷ d ∷ e ∷ []
@@ -74,12 +75,14 @@ module _ {x : ReadOutcome} (room : List ℕ) {h o s t : List ℕ} {a : Reading} 
   pub read-refused : {r : Refusal} {n : ℕ} → a ≡ reading.Refused r → n ≡ resultOf (codeOf r) → record { result = n; heads = h; own = o; spans = s; tails = t; header = room } ≡ readResult x room
   read-refused p q = rw (← e, p, q)
 
-  pub read-table : {u : Header} {room′ : List ℕ} → a ≡ reading.Table u → room′ ≡ headerWritten u room → record { result = 0; heads = h; own = o; spans = s; tails = t; header = room′ } ≡ readResult x room
+  pub read-table : {u : Header} {room′ : List ℕ} → a ≡ reading.Table u → room′ ≡ headerWritten u room
+      → record { result = 0; heads = h; own = o; spans = s; tails = t; header = room′ } ≡ readResult x room
   read-table p q = rw (← e, p, q)
 
 module _ {o : MeasureChoice} (c : Columns) (room : List ℕ) {n : ℕ} where
   pub write-refused : {r : Refusal} → o ≡ choice.Refused r → n ≡ resultOf (codeOf r) → record { result = n; left = room } ≡ writtenResult o c room
   write-refused p q = rw (p, q)
 
-  pub write-measure : {m : Measure} {x : Extent} {room′ : List ℕ} → o ≡ choice.Measure m → n ≡ extentResult x → record { answer = x; room = room′ } ≡ writeTable m c room → record { result = n; left = room′ } ≡ writtenResult o c room
+  pub write-measure : {m : Measure} {x : Extent} {room′ : List ℕ} → o ≡ choice.Measure m → n ≡ extentResult x → record { answer = x; room = room′ } ≡ writeTable m c room
+      → record { result = n; left = room′ } ≡ writtenResult o c room
   write-measure p q e = rw (p, q) (ap writeResult e)

@@ -78,7 +78,8 @@ lower-last a b x = omega arith
 lower-first : (a b x : ℕ) → min (min a x) b ≡ min (min a b) x
 lower-first a b x = omega arith
 
-differ : (q q′ : List ℕ) (at k j x : ℕ) → j < k → getD q′ (at + j) 0 ≡ min (getD q (at + j) 0) x → ((i : ℕ) → i < k → i ≢ j → getD q′ (at + i) 0 ≡ getD q (at + i) 0) → leastFrom q′ at k ≡ min (leastFrom q at k) x
+differ : (q q′ : List ℕ) (at k j x : ℕ) → j < k → getD q′ (at + j) 0 ≡ min (getD q (at + j) 0) x → ((i : ℕ) → i < k → i ≢ j → getD q′ (at + i) 0 ≡ getD q (at + i) 0)
+    → leastFrom q′ at k ≡ min (leastFrom q at k) x
 unfolding leastFrom
 differ q q′ at zero j x h p f = absurd (omega arith)
 differ q q′ at (suc k) j x h p f = go (λ l. differ q q′ at k j x l p (λ i m n. f i (omega arith) n)) (ℕ-discrete j k)

@@ -235,7 +235,9 @@ module _ {A : Algebra} (L : Lawful A) {H : Hypergraph} (own : ℕ → ℕ) (wf :
       none v a = omega (arith, zeros (H .vertices) v, a .deep)
 
   module _ {k : ℕ} {ls : Answers} (a : After A H own k ls) where
-    after-found : (e : ℕ) → Open H (labels ls) e → ((e′ : ℕ) → e′ < H .edges → Open H (labels ls) e′ → Ahead A (candidate A H own (labels ls) e) (candidate A H own (labels ls) e′)) → After A H own (suc k) (put ls (H .head e) (candidate A H own (labels ls) e))
+    after-found : (e : ℕ) → Open H (labels ls) e
+        → ((e′ : ℕ) → e′ < H .edges → Open H (labels ls) e′ → Ahead A (candidate A H own (labels ls) e) (candidate A H own (labels ls) e′))
+        → After A H own (suc k) (put ls (H .head e) (candidate A H own (labels ls) e))
     after-found e o first =
         record { size = sized-put ls _ _ (a .size); turned = turned L (a .turned) s; shallow = λ v. shallow v (ℕ-discrete v (H .head e)); progress = go (a .progress) }
       where
@@ -252,7 +254,8 @@ module _ {A : Algebra} (L : Lawful A) {H : Hypergraph} (own : ℕ → ℕ) (wf :
         shallow v (yes q) = omega (arith, ap (λ x. labels (put ls (H .head e) l) x .depth) q, ap (λ x. x .depth) (s .here), greatest-at-most (depthIn (labels ls)) k (a .shallow) (H .tail e))
         shallow v (no n) = omega (arith, ap (λ x. x .depth) (s .elsewhere v n), a .shallow v)
 
-        go : (gaps (ls .depths) + k ≤ H .vertices) ⊎ ((e : ℕ) → e < H .edges → ¬ Open H (labels ls) e) → (gaps (set (ls .depths) (H .head e) (l .depth)) + suc k ≤ H .vertices) ⊎ ((e′ : ℕ) → e′ < H .edges → ¬ Open H (labels (put ls (H .head e) l)) e′)
+        go : (gaps (ls .depths) + k ≤ H .vertices) ⊎ ((e : ℕ) → e < H .edges → ¬ Open H (labels ls) e)
+            → (gaps (set (ls .depths) (H .head e) (l .depth)) + suc k ≤ H .vertices) ⊎ ((e′ : ℕ) → e′ < H .edges → ¬ Open H (labels (put ls (H .head e) l)) e′)
         go (inl h) = inl (omega (arith, gaps-set (ls .depths) (H .head e) (l .depth) (rw (a .size .depths) fits) (o .fresh) (omega arith)))
         go (inr n) = absurd (n e (o .ready .stands .numbered) o)
 

@@ -97,7 +97,8 @@ module _ (A : Algebra) (H : Hypergraph) (own : ℕ → ℕ) (ls : ℕ → Label)
       go true false p q = wrong (λ fix. eqb-false _ _ q (sym (ap (λ (l : Label). l .depth) (fix .chosen v a .given))))
       go false x p q = wrong (λ fix. eqb-false _ _ p (sym (ap (λ (l : Label). l .weight .0) (fix .chosen v a .given))))
 
-  made-is-right : (v : ℕ) → Made (ls v) → (p q : Bool) → ltb (ls v .edge .0) (H .edges) ≡ p → eqb (H .head (ls v .edge .0)) v ≡ q → VertexIs v (pick p (pick q (gives (offer A H own (weightIn ls) (depthIn ls) (ls v .edge .0)) (ls v .weight .0) (ls v .depth)) false) false)
+  made-is-right : (v : ℕ) → Made (ls v) → (p q : Bool) → ltb (ls v .edge .0) (H .edges) ≡ p → eqb (H .head (ls v .edge .0)) v ≡ q
+      → VertexIs v (pick p (pick q (gives (offer A H own (weightIn ls) (depthIn ls) (ls v .edge .0)) (ls v .weight .0) (ls v .depth)) false) false)
   made-is-right v a true true p q = given-is v a (eqb-true _ _ q) (offered A H own ls (ls v .edge .0) (ltb-true _ _ p))
   made-is-right v a true false p q = wrong (λ fix. eqb-false _ _ q (fix .chosen v a .yields))
   made-is-right v a false x p q = let k : H .edges ≤ ls v .edge .0 = ltb-false _ _ p in wrong (λ fix. omega (arith, fix .chosen v a .ready .stands .numbered))
@@ -106,7 +107,8 @@ module _ (A : Algebra) (H : Hypergraph) (own : ℕ → ℕ) (ls : ℕ → Label)
   unfolding vertexRight
   vertex-is v = go (eqb (ls v .depth) 0) refl
     where
-      go : (p : Bool) → eqb (ls v .depth) 0 ≡ p → VertexIs v (pick p (pick (eqb (ls v .weight .0) 0) (eqb (ls v .edge .0) 0) false) (pick (ltb (ls v .edge .0) (H .edges)) (pick (eqb (H .head (ls v .edge .0)) v) (gives (offer A H own (weightIn ls) (depthIn ls) (ls v .edge .0)) (ls v .weight .0) (ls v .depth)) false) false))
+      go : (p : Bool) → eqb (ls v .depth) 0 ≡ p
+          → VertexIs v (pick p (pick (eqb (ls v .weight .0) 0) (eqb (ls v .edge .0) 0) false) (pick (ltb (ls v .edge .0) (H .edges)) (pick (eqb (H .head (ls v .edge .0)) v) (gives (offer A H own (weightIn ls) (depthIn ls) (ls v .edge .0)) (ls v .weight .0) (ls v .depth)) false) false))
       go true p = blank-is v (eqb-true _ _ p) _ _ refl refl
       go false p = let n : ¬ (ls v .depth ≡ 0) = eqb-false _ _ p in made-is-right v (record { deep = omega arith }) _ _ refl refl
 

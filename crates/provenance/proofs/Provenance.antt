@@ -25,7 +25,8 @@ use Rattle.provenance.proofs.Program.{draw, read}
 use Rattle.provenance.specs.Provenance.{HasProvenance, empty, worth}
 
 module _ {A : Algebra} (C : Computes A) (H : Hypergraph) (own : ℕ → ℕ) where
-  node-product : (e : ℕ) (ws : List ℕ) (es : List ℕ) → product (C .semiring) (map (C .element) ws) ≡ product (C .semiring) (Owns C H own es) → C .element (weigh (C .exact) (own e) ws) ≡ product (C .semiring) (Owns C H own (e ∷ es))
+  node-product : (e : ℕ) (ws : List ℕ) (es : List ℕ) → product (C .semiring) (map (C .element) ws) ≡ product (C .semiring) (Owns C H own es)
+      → C .element (weigh (C .exact) (own e) ws) ≡ product (C .semiring) (Owns C H own (e ∷ es))
   unfolding product
   node-product e ws es p = C .times (own e) ws ∙ ap (C .semiring .times (C .element (own e))) p
 
@@ -55,7 +56,8 @@ module _ {A : Algebra} (C : Computes A) (H : Hypergraph) (own : ℕ → ℕ) whe
     weights-capped (more d ds) = ap₂ (λ (x : ℕ) (xs : List ℕ). x ∷ xs) (weight-capped d) (weights-capped ds)
 
   -- an exact weight that a derivation has, and that no derivation betters, is the provenance
-  attained : {v : ℕ} (d : Derivation H v) → ((d′ : Derivation H v) → NoWorse (C .exact .leq) (weight (C .exact) own d) (weight (C .exact) own d′)) → Provenance (program C H own) (part v) (C .element (weight (C .exact) own d))
+  attained : {v : ℕ} (d : Derivation H v) → ((d′ : Derivation H v) → NoWorse (C .exact .leq) (weight (C .exact) own d) (weight (C .exact) own d′))
+      → Provenance (program C H own) (part v) (C .element (weight (C .exact) own d))
   attained {v} d low = record {
     lower = λ τ. let r = read C H own τ v refl in subst (Below (C .semiring) (C .element (weight (C .exact) own d))) (weight-product (r .derivation) ∙ sym (ap (product (C .semiring)) (r .same))) (C .element-below (low (r .derivation)));
     greatest = λ y h. let t = draw C H own d in subst (Below (C .semiring) y) (ap (product (C .semiring)) (t .same) ∙ sym (weight-product d)) (h (t .tree));

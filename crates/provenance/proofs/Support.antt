@@ -16,7 +16,8 @@ use Rattle.provenance.specs.Means.{Follows, AllFollow}
 use Rattle.provenance.proofs.LowerBound.{bound}
 use Rattle.provenance.specs.Support.{bills, bill, Supports, ChosenDerivation}
 
-node-bill : (H : Hypergraph) (ls : ℕ → Label) (v e : ℕ) (bs : List ℕ) (n fuel : ℕ) → ls v .edge .0 ≡ e → n + 1 ≤ fuel → ((k : ℕ) → n ≤ k → bs ≡ bills (bill H ls k) (H .tail e)) → e ∷ bs ≡ bill H ls fuel v
+node-bill : (H : Hypergraph) (ls : ℕ → Label) (v e : ℕ) (bs : List ℕ) (n fuel : ℕ) → ls v .edge .0 ≡ e → n + 1 ≤ fuel
+    → ((k : ℕ) → n ≤ k → bs ≡ bills (bill H ls k) (H .tail e)) → e ∷ bs ≡ bill H ls fuel v
 unfolding bill
 node-bill H ls v e bs n zero f h rest = absurd (omega arith)
 node-bill H ls v e bs n (suc k) f h rest = rw f (ap (λ (xs : List ℕ). e ∷ xs) (rest k (omega arith)))

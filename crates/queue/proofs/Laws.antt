@@ -117,7 +117,8 @@ pub offered-grouped : (q : List ℕ) (v : ℕ) {o : Offer} → v < keys → Fitt
 offered-grouped q v h nothing g = g
 offered-grouped q v h (found {l = l} f) g = lowered-grouped q v (packed l) h g
 
-pub offered-key : (q : List ℕ) (v : ℕ) {o : Offer} (u : ℕ) → v < keys → u < keys → Fitting o → Grouped q → getD q u 0 ≤ none → getD (offered q v o) u 0 ≡ min (getD q u 0) (pick (eqb v u) (keyOf o) none)
+pub offered-key : (q : List ℕ) (v : ℕ) {o : Offer} (u : ℕ) → v < keys → u < keys → Fitting o → Grouped q → getD q u 0 ≤ none
+    → getD (offered q v o) u 0 ≡ min (getD q u 0) (pick (eqb v u) (keyOf o) none)
 offered-key q v u h k nothing g b = go (eqb v u)
   where
     go : (t : Bool) → getD q u 0 ≡ min (getD q u 0) (pick t none none)

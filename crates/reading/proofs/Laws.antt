@@ -160,7 +160,8 @@ abbrev pub lineWith : Vertex → Weight → Tail → Line
 lineWith h o (tail.Ends k next) = line.Edge h o k next
 lineWith h o tail.Wrong = line.Wrong
 
-pub line-listed : (s : List ℕ) (n most at : ℕ) (h : Vertex) (o : Weight) (from : ℕ) (old new : List ℕ) (r : Tail) → stemAt s n at ≡ stem.Read h o from → ReadsTail (listedFrom most s n from []) old r new
+pub line-listed : (s : List ℕ) (n most at : ℕ) (h : Vertex) (o : Weight) (from : ℕ) (old new : List ℕ) (r : Tail) → stemAt s n at ≡ stem.Read h o from
+    → ReadsTail (listedFrom most s n from []) old r new
     → ReadsLine (rowAt s n most at) old (lineWith h o r) new
 unfolding rowAt
 line-listed s n most at h o from old new r e g =

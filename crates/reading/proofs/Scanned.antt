@@ -112,7 +112,8 @@ module _ (s : List ℕ) (p : Place) where
       leading : ltb (digitOf b) 10 ≡ true → ltb 0 v ≡ false → step (Within p v) b ≡ Failed (lineAt p)
       leading d z = unfold step in rw (d, z)
 
-  number-run-of : (bs : List ℕ) (i : ℕ) → drop i s ≡ bs → (bs ≡ [] → finish (First p) ≡ Wrong (lineAt p)) → instead p (getD s i 0) ≡ Failed (lineAt p) → NumberRuns (First p) bs (numberOf bs i (limit p))
+  number-run-of : (bs : List ℕ) (i : ℕ) → drop i s ≡ bs → (bs ≡ [] → finish (First p) ≡ Wrong (lineAt p)) → instead p (getD s i 0) ≡ Failed (lineAt p)
+      → NumberRuns (First p) bs (numberOf bs i (limit p))
   unfolding numberOf run
   number-run-of [] i e f g = f refl
   number-run-of (b ∷ bs) i e f g =
@@ -394,10 +395,12 @@ module _ (s : List ℕ) where
     unfolding word startsWith finish lineAt
     word-missing h = rw (drop-of-length-le s h) (unfold run in refl)
 
-    word-run : eqb (getD s next 0) 10 ≡ false → FirstRuns (Within Vertices n) (drop next s) (pick (startsWith (word ++ 10 ∷ []) (drop next s)) (first.Read n spoken (next + length (word ++ 10 ∷ []))) first.Wrong)
+    word-run : eqb (getD s next 0) 10 ≡ false
+        → FirstRuns (Within Vertices n) (drop next s) (pick (startsWith (word ++ 10 ∷ []) (drop next s)) (first.Read n spoken (next + length (word ++ 10 ∷ []))) first.Wrong)
     word-run e = go (ltb next (length s)) refl
       where
-        go : (c : Bool) → ltb next (length s) ≡ c → FirstRuns (Within Vertices n) (drop next s) (pick (startsWith (word ++ 10 ∷ []) (drop next s)) (first.Read n spoken (next + length (word ++ 10 ∷ []))) first.Wrong)
+        go : (c : Bool) → ltb next (length s) ≡ c
+            → FirstRuns (Within Vertices n) (drop next s) (pick (startsWith (word ++ 10 ∷ []) (drop next s)) (first.Read n spoken (next + length (word ++ 10 ∷ []))) first.Wrong)
         go true q = word-named (startsWith (word ++ 10 ∷ []) (drop next s)) refl (ltb-true _ _ q) e
         go false q = word-missing (ltb-false _ _ q)
 

@@ -70,7 +70,8 @@ module _ (s : List ℕ) (n : ℕ) where
       found (Number v j) q k = let l = k v j q in let m = length-append xs (v ∷ []) in omega arith
       found NotANumber q k = absurd (no-ends q)
 
-      go : (c : Bool) → pick c (onVertex xs (numberAt s (at + 1) n) more) (listEnd s at xs) ≡ Ends ys next → ((v j : ℕ) → listedFrom left s n j (xs ++ v ∷ []) ≡ Ends ys next → length (xs ++ v ∷ []) ≤ length ys) → length xs ≤ length ys
+      go : (c : Bool) → pick c (onVertex xs (numberAt s (at + 1) n) more) (listEnd s at xs) ≡ Ends ys next
+          → ((v j : ℕ) → listedFrom left s n j (xs ++ v ∷ []) ≡ Ends ys next → length (xs ++ v ∷ []) ≤ length ys) → length xs ≤ length ys
       go true q k = found (numberAt s (at + 1) n) q k
       go false q k = let z = ap length (end-grows at xs ys next q) in omega arith
 
@@ -104,12 +105,15 @@ module _ (s : List ℕ) (n : ℕ) where
       go false q = to-end zero at xs q ∙ sym (to-end (suc left) at xs q) ∙ e
   enough (suc left) (suc left′) at xs ys next e l = go (eqb (getD s at 0) 32) refl (λ v j q. enough left left′ j (xs ++ v ∷ []) ys next q (let m = length-append xs (v ∷ []) in omega arith))
     where
-      found : (F : Found) → onVertex xs F (λ us j. listedFrom left s n j us) ≡ Ends ys next → ((v j : ℕ) → listedFrom left s n j (xs ++ v ∷ []) ≡ Ends ys next → listedFrom left′ s n j (xs ++ v ∷ []) ≡ Ends ys next)
+      found : (F : Found) → onVertex xs F (λ us j. listedFrom left s n j us) ≡ Ends ys next
+          → ((v j : ℕ) → listedFrom left s n j (xs ++ v ∷ []) ≡ Ends ys next → listedFrom left′ s n j (xs ++ v ∷ []) ≡ Ends ys next)
           → onVertex xs F (λ us j. listedFrom left′ s n j us) ≡ Ends ys next
       found (Number v j) q k = k v j q
       found NotANumber q k = q
 
-      go : (c : Bool) → eqb (getD s at 0) 32 ≡ c → ((v j : ℕ) → listedFrom left s n j (xs ++ v ∷ []) ≡ Ends ys next → listedFrom left′ s n j (xs ++ v ∷ []) ≡ Ends ys next) → listedFrom (suc left′) s n at xs ≡ Ends ys next
+      go : (c : Bool) → eqb (getD s at 0) 32 ≡ c
+          → ((v j : ℕ) → listedFrom left s n j (xs ++ v ∷ []) ≡ Ends ys next → listedFrom left′ s n j (xs ++ v ∷ []) ≡ Ends ys next)
+          → listedFrom (suc left′) s n at xs ≡ Ends ys next
       go true q k = to-vertex left′ at xs q ∙ found (numberAt s (at + 1) n) (sym (to-vertex left at xs q) ∙ e) k
       go false q k = to-end (suc left′) at xs q ∙ sym (to-end (suc left) at xs q) ∙ e
 
@@ -165,7 +169,8 @@ scan-grows s (suc left) at t u e = go (ltb at (length s)) e (λ x next q. scan-g
     row (Holds x next) q k = one-grown t x u (k x next q)
     row (Fails xs) q k = absurd (never q)
 
-    go : (c : Bool) → pick c (onRow t (rowAt s (t .vertices) (mayList t) at) (λ w next. scanFrom left s next w)) (Whole t) ≡ Whole u → ((x : Edge) (next : ℕ) → scanFrom left s next (withEdge t x) ≡ Whole u → Grown (withEdge t x) u) → Grown t u
+    go : (c : Bool) → pick c (onRow t (rowAt s (t .vertices) (mayList t) at) (λ w next. scanFrom left s next w)) (Whole t) ≡ Whole u
+        → ((x : Edge) (next : ℕ) → scanFrom left s next (withEdge t x) ≡ Whole u → Grown (withEdge t x) u) → Grown t u
     go true q k = row (rowAt s (t .vertices) (mayList t) at) q k
     go false q k = same-grown t u q
 
@@ -227,7 +232,8 @@ module _ (es : List Edge) (e : Edge) (old : List ℕ) (i : ℕ) (c : length es �
       ∙ filled-set (S ++ k ∷ []) old (2 * i + 1) (length (e .tail)) b l
       ∙ ap (λ (r : List ℕ). filled r old) (append-snoc S k (length (e .tail) ∷ []) ∙ ap (λ (j : ℕ). S ++ j ∷ length (e .tail) ∷ []) z ∙ sym (spans-append 0 es (e ∷ [])))
 
-tails-more : (es : List Edge) (e : Edge) (old : List ℕ) (k : ℕ) → listedInAll es ≡ k → take k (filled (tailsOf es) old) ++ filled (e .tail) (drop k (filled (tailsOf es) old)) ≡ filled (tailsOf (es ++ e ∷ [])) old
+tails-more : (es : List Edge) (e : Edge) (old : List ℕ) (k : ℕ) → listedInAll es ≡ k
+    → take k (filled (tailsOf es) old) ++ filled (e .tail) (drop k (filled (tailsOf es) old)) ≡ filled (tailsOf (es ++ e ∷ [])) old
 unfolding tailsOf
 tails-more es e old k t =
     filled-part (tailsOf es) (e .tail) old k (length-tails es ∙ t)

@@ -60,7 +60,8 @@ module _ (a : Answers) (old room : List ℕ) (i n at : ℕ) (h : i < n) (w : Wri
   pub row-room : length (row i x) ≤ length (lent (rows a i) old at room w)
   row-room = lent-room (rows a i) old at room w (row i x) fits
 
-  pub row-next : (r : ℕ) (new : List ℕ) → Written (row i x) (lent (rows a i) old at room w) r new → Written (rows a (i + 1)) old (at + r) (take at room ++ (new ++ drop (length room - at) (drop at room)))
+  pub row-next : (r : ℕ) (new : List ℕ) → Written (row i x) (lent (rows a i) old at room w) r new
+      → Written (rows a (i + 1)) old (at + r) (take at room ++ (new ++ drop (length room - at) (drop at room)))
   row-next r new m = written-as old (at + r) (take at room ++ (new ++ drop (length room - at) (drop at room))) (sym one-more) (written-part (rows a i) old at room w (row i x) r new fits m)
 
 pub rows-all : (a : Answers) (old room : List ℕ) (i n at : ℕ) → i ≤ n → n ≤ i → Written (rows a i) old at room → Written (rows a n) old at room

@@ -53,7 +53,8 @@ module _ (c : Columns) (a : Answers) (e w : ℕ) (h : Changeable c a e w) where
   change-accepted = told-accepted (withOwn c e w) a kept
 
   module _ (m : Measure) where
-    pub change-made : {b : Answers} → sameAnswers a (answersOf m c) ≡ true → b ≡ answersOf m told → record { result = Accepted; own = told .own; left = b } ≡ changed m c a e w (answersAcceptance m c a)
+    pub change-made : {b : Answers} → sameAnswers a (answersOf m c) ≡ true → b ≡ answersOf m told
+        → record { result = Accepted; own = told .own; left = b } ≡ changed m c a e w (answersAcceptance m c a)
     change-made q r = rw (q, told-answers (withOwn c e w) a kept m r)
 
     pub change-refused : sameAnswers a (answersOf m c) ≡ false → record { result = Refused WrongAnswers; own = c .own; left = a } ≡ changed m c a e w (answersAcceptance m c a)

@@ -21,7 +21,8 @@ sum-bounds : (S : Semiring) {I J : Type 0} (f : I → S .Carrier) (g : J → S .
 sum-bounds S f g same x s = record { lower = same x .0 (s .lower); greatest = λ y h. s .greatest y (same y .1 h) }
 
 -- families of the same members have the same sum
-pub sum-same : (S : Semiring) {I J : Type 0} (f : I → S .Carrier) (g : J → S .Carrier) → ((i : I) → (j : J) × (f i ≡ g j)) → ((j : J) → (i : I) × (f i ≡ g j)) → (x : S .Carrier) → Sum S f x → Sum S g x
+pub sum-same : (S : Semiring) {I J : Type 0} (f : I → S .Carrier) (g : J → S .Carrier) → ((i : I) → (j : J) × (f i ≡ g j)) → ((j : J) → (i : I) × (f i ≡ g j))
+    → (x : S .Carrier) → Sum S f x → Sum S g x
 sum-same S f g to back =
     sum-bounds S f g (λ y. (λ h j. subst (Below S y) (back j .1) (h (back j .0)), λ h i. subst (Below S y) (sym (to i .1)) (h (to i .0))))
 

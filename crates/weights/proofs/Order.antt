@@ -37,7 +37,8 @@ module _ {A : Algebra} (L : Lawful A) where
   unfolding aheadOf
   ranked a b = go (A .leq (a .weight .0) (b .weight .0)) (A .leq (b .weight .0) (a .weight .0)) (ltb (a .depth) (b .depth)) (ltb (b .depth) (a .depth)) (leb (a .edge .0) (b .edge .0)) refl refl refl refl refl
     where
-      go : (p q r s t : Bool) → A .leq (a .weight .0) (b .weight .0) ≡ p → A .leq (b .weight .0) (a .weight .0) ≡ q → ltb (a .depth) (b .depth) ≡ r → ltb (b .depth) (a .depth) ≡ s → leb (a .edge .0) (b .edge .0) ≡ t → Ranked A a b (pick p (pick q (pick r true (pick s false t)) true) false)
+      go : (p q r s t : Bool) → A .leq (a .weight .0) (b .weight .0) ≡ p → A .leq (b .weight .0) (a .weight .0) ≡ q → ltb (a .depth) (b .depth) ≡ r
+          → ltb (b .depth) (a .depth) ≡ s → leb (a .edge .0) (b .edge .0) ≡ t → Ranked A a b (pick p (pick q (pick r true (pick s false t)) true) false)
       go false q r s t ep eq er es et =
           behind (λ k. failed ep (k .weight)) (record { weight = L .ordered .total _ _ ep; depth = λ k. absurd (failed ep k); edge = λ k. absurd (failed ep k) })
       go true false r s t ep eq er es et =

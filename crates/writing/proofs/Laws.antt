@@ -115,7 +115,8 @@ tail-room vs old room j n h w l =
     let f : length (tailText (take j vs) ++ (32 ∷ digits (getD vs j 0))) ≤ length old = omega arith in
     (within (tailText (take j vs)) old n room w (32 ∷ digits (getD vs j 0)) f, lent-room (tailText (take j vs)) old n room w (32 ∷ digits (getD vs j 0)) f)
 
-pub tail-ends : (vs old room : List ℕ) (j n : ℕ) → length vs ≤ j → Written (tailText (take j vs)) old n room → length (tailText vs ++ 10 ∷ []) ≤ length old → Written (tailText vs ++ 10 ∷ []) old (n + 1) (set room n 10)
+pub tail-ends : (vs old room : List ℕ) (j n : ℕ) → length vs ≤ j → Written (tailText (take j vs)) old n room → length (tailText vs ++ 10 ∷ []) ≤ length old
+    → Written (tailText vs ++ 10 ∷ []) old (n + 1) (set room n 10)
 tail-ends vs old room j n h w l =
     let a = listed-within vs j in
     let c = w .count in

@@ -8,7 +8,8 @@ use Rattle.weights.specs.declared.Offer.the-variants.{Found}
 use Rattle.bestfirst.proofs.Turning.{here, stuck, found, placeable, stored-turn, raisable, waking-after, waits-after}
 
 -- what the least key tells is what is next
-is-next : (c : tie.After-unpack) → Found (c .unpack .result) ≡ here (c .before .before .before .before .before .before .before .before .before .before .before .before .before .before .before .before .before .pre)
+is-next : (c : tie.After-unpack)
+    → Found (c .unpack .result) ≡ here (c .before .before .before .before .before .before .before .before .before .before .before .before .before .before .before .before .before .pre)
 is-next c = found (c .before .before .before .before .before .before .before .before .before .before .before .before .before .before .before .before .before .pre) _ (c .before .before .least .ensures) (c .before .if1 .left) (c .unpack .ensures)
 
 returns : tie.Need-returns

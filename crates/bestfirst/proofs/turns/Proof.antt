@@ -18,7 +18,8 @@ abbrev μ-loop : tie.MeasureT-loop
 μ-loop measure heads own spans tails weights₀ depths₀ edges₀ first₀ next₀ at₀ joined₀ deepest₀ queue₀ k₀ weights depths edges first next at joined deepest queue k = length depths₀ - k
 
 -- there is a turn for each vertex
-below : (c : tie.In-loop Inv-loop μ-loop) → c .before .loop .k < length (c .before .before .before .before .before .before .before .before .before .before .before .before .before .before .before .args .depths .now)
+below : (c : tie.In-loop Inv-loop μ-loop)
+    → c .before .loop .k < length (c .before .before .before .before .before .before .before .before .before .before .before .before .before .before .before .args .depths .now)
 below c = omega (arith, c .loop-test .taken, sizes (c .before .before .before .before .before .before .before .before .before .before .before .before .before .before .before .args .measure) (let a = c .before .before .before .before .before .before .before .before .before .before .before .before .before .before .before .args in columns (length (a .depths .now)) (a .heads .now) (a .own .now) (a .spans .now) (a .tails .now)) (c .before .before .before .before .before .before .before .before .before .before .before .before .before .before .before .pre .unmade .turning .usable .accepted) (c .before .loop .k) (c .before .loop .inv .1 .0) .depths)
 
 loop-holds : tie.Need-loop-holds Inv-loop μ-loop

@@ -14,7 +14,11 @@ slice-aggregate-bill : tie.Need-slice-aggregate-bill
 slice-aggregate-bill c = sym (length-take-le (c .before .counted .result) _ (omega (arith, c .before .counted .ensures)))
 
 returns-2 : tie.Need-returns-2
-returns-2 c = billed-measure _ _ _ _ (sym (c .before .before .before .before .before .before .before .before .before .measure-numbered .ensures) ∙ c .before .before .before .before .before .before .before .choice2 .given .1) (c .result2 .ensures) (c .before .before .before .before .before .counted .ensures) (c .before .before .before .bill .ensures)
+returns-2 c =
+    let p = c .before .before .before .before .before in
+    let q = p .before .before in
+    let r = q .before .before in
+    billed-measure _ _ _ _ (sym (r .measure-numbered .ensures) ∙ q .choice2 .given .1) (c .result2 .ensures) (p .counted .ensures) (c .before .before .before .bill .ensures)
 
 pub bill-spec : {M : Type 1} → statement M
 bill-spec =

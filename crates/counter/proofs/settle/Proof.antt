@@ -9,7 +9,11 @@ returns : tie.Need-returns
 returns c = settled-refused _ _ (sym (c .before .before .before .before .measure-numbered .ensures) ∙ c .before .before .choice .given .1) (c .result .ensures)
 
 returns-2 : tie.Need-returns-2
-returns-2 c = settled-measure _ _ (sym (c .before .before .before .before .before .before .before .before .before .before .before .before .before .before .measure-numbered .ensures) ∙ c .before .before .before .before .before .before .before .before .before .before .before .before .choice2 .given .1) (c .result2 .ensures) (c .before .before .before .before .before .before .before .settle .ensures)
+returns-2 c =
+    let p = c .before .before .before .before .before .before .before in
+    let q = p .before .before .before .before .before in
+    let r = q .before .before in
+    settled-measure _ _ (sym (r .measure-numbered .ensures) ∙ q .choice2 .given .1) (c .result2 .ensures) (p .settle .ensures)
 
 pub settle-spec : {M : Type 1} → statement M
 settle-spec =

@@ -18,7 +18,10 @@ slice-write-room-3 : tie.Need-slice-write-room-3
 slice-write-room-3 c = simp length-set (omega arith)
 
 returns-2 : tie.Need-returns-2
-returns-2 c = (c .state-number2 .ensures ∙ ap (λ (e : Entry). stateNumber (e .state)) (c .before .before .before .before .entry .ensures), let room = c .before .before .before .before .before .before .before .before .before .args .room .now in written (c .before .before .before .before .entry .result) room (c .before .before .before .if1 .left) ∙ ap (λ (e : Entry). entryWritten e room) (c .before .before .before .before .entry .ensures))
+returns-2 c =
+    let p = c .before .before .before .before in
+    let q = p .before .before .before .before .before in
+    (c .state-number2 .ensures ∙ ap (λ (e : Entry). stateNumber (e .state)) (p .entry .ensures), let room = q .args .room .now in written (p .entry .result) room (c .before .before .before .if1 .left) ∙ ap (λ (e : Entry). entryWritten e room) (p .entry .ensures))
 
 pub harness-entry-spec : {M : Type 1} → statement M
 harness-entry-spec =

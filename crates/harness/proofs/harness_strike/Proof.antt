@@ -8,7 +8,11 @@ returns : tie.Need-returns
 returns c = stricken-refused _ _ _ (sym (c .before .before .before .before .measure-numbered .ensures) ∙ c .before .before .choice .given .1) (c .result .ensures)
 
 returns-2 : tie.Need-returns-2
-returns-2 c = stricken-measure _ _ _ (sym (c .before .before .before .before .before .before .before .before .before .before .before .before .before .before .before .before .before .measure-numbered .ensures) ∙ c .before .before .before .before .before .before .before .before .before .before .before .before .before .before .before .choice2 .given .1) (c .result2 .ensures) (c .before .before .before .before .before .before .before .before .before .strike .ensures)
+returns-2 c =
+    let p = c .before .before .before .before .before .before .before .before .before in
+    let q = p .before .before .before .before .before .before in
+    let r = q .before .before in
+    stricken-measure _ _ _ (sym (r .measure-numbered .ensures) ∙ q .choice2 .given .1) (c .result2 .ensures) (p .strike .ensures)
 
 pub harness-strike-spec : {M : Type 1} → statement M
 harness-strike-spec =

@@ -8,7 +8,10 @@ returns : tie.Need-returns
 returns c = write-refused _ _ (sym (c .before .before .before .before .measure-numbered .ensures) ∙ c .before .before .choice .given .1) (c .result .ensures)
 
 returns-2 : tie.Need-returns-2
-returns-2 c = write-measure _ _ (sym (c .before .before .before .before .before .before .before .before .measure-numbered .ensures) ∙ c .before .before .before .before .before .before .choice2 .given .1) (c .result2 .ensures) (c .before .before .before .write-table .ensures)
+returns-2 c =
+    let p = c .before .before .before .before .before .before in
+    let q = p .before .before in
+    write-measure _ _ (sym (q .measure-numbered .ensures) ∙ p .choice2 .given .1) (c .result2 .ensures) (c .before .before .before .write-table .ensures)
 
 pub harness-write-table-spec : {M : Type 1} → statement M
 harness-write-table-spec =

@@ -5,7 +5,11 @@ use Rattle.minima.proofs.lower.Statement.{statement}
 use Rattle.minima.proofs.lower.Tie as tie
 
 returns : tie.Need-returns
-returns c = let a = c .before .before .before .before .before .before .before .before .before .before .before .before .before .args in lowered-is (a .q .now) (a .v) (a .x) (c .before .before .before .before .before .before .before .before .before .before .before .before .before .pre .1) (c .before .before .before .before .before .before .before .before .before .before .lower-at .ensures) (c .before .before .before .before .before .before .lower-at2 .ensures) (c .before .before .lower-at3 .ensures)
+returns c =
+    let p = c .before .before .before .before .before .before in
+    let q = p .before .before .before .before in
+    let r = q .before .before .before in
+    let a = r .args in lowered-is (a .q .now) (a .v) (a .x) (r .pre .1) (q .lower-at .ensures) (p .lower-at2 .ensures) (c .before .before .lower-at3 .ensures)
 
 pub lower-spec : {M : Type 1} → statement M
 lower-spec =

@@ -13,13 +13,19 @@ slice-write-q-2 : tie.Need-slice-write-q-2
 slice-write-q-2 c = simp length-set (omega (arith, c .before .before .before .pre .0, c .before .before .before .pre .1))
 
 least-from-requires-2 : tie.Need-least-from-requires-2
-least-from-requires-2 c κs = simp length-set (omega (arith, c .before .before .before .before .pre .0, c .before .before .before .before .pre .1))
+least-from-requires-2 c κs =
+    let p = c .before .before .before .before in
+    simp length-set (omega (arith, p .pre .0, p .pre .1))
 
 slice-write-q-3 : tie.Need-slice-write-q-3
-slice-write-q-3 c = simp length-set (omega (arith, c .before .before .before .before .before .pre .0, c .before .before .before .before .before .pre .1))
+slice-write-q-3 c =
+    let p = c .before .before .before .before .before in
+    simp length-set (omega (arith, p .pre .0, p .pre .1))
 
 returns : tie.Need-returns
-returns c = raised-is (c .before .before .before .before .before .args .q .now) (c .before .before .before .before .before .args .v) (c .before .before .before .before .before .pre .1) (c .before .before .least-from .ensures) (c .least-from2 .ensures)
+returns c =
+    let p = c .before .before .before .before .before in
+    raised-is (p .args .q .now) (p .args .v) (p .pre .1) (c .before .before .least-from .ensures) (c .least-from2 .ensures)
 
 pub raise-spec : {M : Type 1} → statement M
 raise-spec =

@@ -42,9 +42,11 @@ shared-slice-read-depth c = inside (c .before .before)
 
 returns-2 : tie.Need-returns-2 Inv-loop μ-loop
 returns-2 c =
+    let p = c .before .before .before .before in
+    let q = p .before .before in
     rest-stop _ _ _ _ _ _ _ _ _ (c .before .before .before .loop-test .taken) (c .if2 .taken)
-    ∙ c .before .before .before .before .loop .inv .2
-    ∙ rest-whole _ _ _ _ _ _ (standing (c .before .before .before .before .before .before))
+    ∙ p .loop .inv .2
+    ∙ rest-whole _ _ _ _ _ _ (standing (q))
 
 mul-weight : tie.Need-mul-weight Inv-loop μ-loop
 mul-weight c = omega (arith, inside (c .before .before .before))
@@ -54,11 +56,14 @@ shared-slice-read-weight c = omega (arith, inside (c .before .before .before .be
 
 loop-again : tie.Need-loop-again Inv-loop μ-loop
 loop-again c =
-    let s = c .before .before .before .before .before .before .before .before .before .before .before .before .before .before in
-    let l = c .before .before .before .before .before .before .before in (
+    let p = c .before .before .before .before .before .before in
+    let q = p .before in
+    let r = q .before .before .before .before .before .before .before in
+    let s = r in
+    let l = q in (
       omega arith,
       omega (arith, s .pre .shallow (cell (s .args .tail .now) (l .loop .i)), c .deeper .ensures),
-      rw (c .before .join .ensures, c .deeper .ensures) (rest-more _ _ _ _ _ _ _ _ _ (c .before .before .before .before .before .before .loop-test .taken) (c .before .before .before .if2 .left) ∙ l .loop .inv .2),
+      rw (c .before .join .ensures, c .deeper .ensures) (rest-more _ _ _ _ _ _ _ _ _ (p .loop-test .taken) (c .before .before .before .if2 .left) ∙ l .loop .inv .2),
     )
 
 returns-3 : tie.Need-returns-3 Inv-loop μ-loop

@@ -22,10 +22,16 @@ returns : tie.Need-returns Inv-loop μ-loop
 returns c = starts-short _ _ _ (c .before .loop-test .taken) (c .if1 .taken) ∙ c .before .before .loop .inv .1
 
 returns-2 : tie.Need-returns-2 Inv-loop μ-loop
-returns-2 c = starts-stop _ _ _ (c .before .before .before .before .loop-test .taken) (c .before .before .before .if1 .left) (c .if2 .taken) ∙ c .before .before .before .before .before .loop .inv .1
+returns-2 c =
+    let p = c .before .before .before .before in
+    let q = p .before in
+    starts-stop _ _ _ (p .loop-test .taken) (c .before .before .before .if1 .left) (c .if2 .taken) ∙ q .loop .inv .1
 
 loop-again : tie.Need-loop-again Inv-loop μ-loop
-loop-again c = (omega arith, starts-more _ _ _ (c .before .before .before .before .loop-test .taken) (c .before .before .before .if1 .left) (c .if2 .left) ∙ c .before .before .before .before .before .loop .inv .1)
+loop-again c =
+    let p = c .before .before .before .before in
+    let q = p .before in
+    (omega arith, starts-more _ _ _ (p .loop-test .taken) (c .before .before .before .if1 .left) (c .if2 .left) ∙ q .loop .inv .1)
 
 returns-3 : tie.Need-returns-3 Inv-loop μ-loop
 returns-3 c = starts-end _ _ _ (c .loop-test .left) ∙ c .before .loop .inv .1

@@ -19,7 +19,8 @@ unfolding stemAt
 returns c = ap (onHead _) (sym (c .enum-told .given .1) ∙ c .before .before .number-at .ensures)
 
 -- the head that was found, and the byte behind it
-headed : (c : tie.After-known-told) → let a = c .before .before .before .before .before .args in numberAt (a .text .now) (a .at) (a .n) ≡ Number (c .before .found .given .0 .0) (c .before .found .given .0 .1 .0)
+headed : (c : tie.After-known-told)
+    → let a = c .before .before .before .before .before .args in numberAt (a .text .now) (a .at) (a .n) ≡ Number (c .before .found .given .0 .0) (c .before .found .given .0 .1 .0)
 headed c = sym (c .before .before .before .number-at .ensures) ∙ c .before .found .given .1
 
 spaced : (c : tie.Else1) → let h = c .before .before in getD (h .before .before .before .before .before .args .text .now) (h .before .found .given .0 .1 .0) 0 ≡ 32

@@ -38,13 +38,15 @@ start l = l .before .before .before .before .before .before .before .before .bef
 roomy : (l : tie.In-loop Inv-loop μ-loop) → l .before .loop .k ≤ length (l .before .loop .tails)
 roomy l = let r = tails-room _ _ _ _ _ _ _ _ _ _ _ _ _ (l .before .loop .inv) (start l .pre) (l .loop-test .taken) in omega arith
 
-sizes : (l : tie.In-loop Inv-loop μ-loop) → (length (l .before .loop .heads) * 8 < 2 ^ 63) × (length (l .before .loop .own) * 8 < 2 ^ 63) × (length (l .before .loop .spans) * 8 < 2 ^ 63) × (length (l .before .loop .tails) * 8 < 2 ^ 63)
+sizes : (l : tie.In-loop Inv-loop μ-loop)
+    → (length (l .before .loop .heads) * 8 < 2 ^ 63) × (length (l .before .loop .own) * 8 < 2 ^ 63) × (length (l .before .loop .spans) * 8 < 2 ^ 63) × (length (l .before .loop .tails) * 8 < 2 ^ 63)
 sizes l =
     let f = l .before .loop .inv in
     let g = start l .good in
     (rw (f .heads-long) (g .1 .0 .1), rw (f .own-long) (g .1 .1 .0 .1), rw (f .spans-long) (g .1 .1 .1 .0 .1), rw (f .tails-long) (g .1 .1 .1 .1 .0 .1))
 
-writable : (l : tie.In-loop Inv-loop μ-loop) → (l .before .loop .i < length (l .before .loop .heads)) × (l .before .loop .i < length (l .before .loop .own)) × (2 * l .before .loop .i + 1 < length (l .before .loop .spans))
+writable : (l : tie.In-loop Inv-loop μ-loop)
+    → (l .before .loop .i < length (l .before .loop .heads)) × (l .before .loop .i < length (l .before .loop .own)) × (2 * l .before .loop .i + 1 < length (l .before .loop .spans))
 writable l = edge-room _ _ _ _ _ _ _ _ _ _ _ _ _ (l .before .loop .inv) (start l .pre) (l .loop-test .taken)
 
 mul-line-at : tie.Need-mul-line-at Inv-loop μ-loop

@@ -13,10 +13,12 @@ use Rattle.report.proofs.put_priced.Statement.{statement}
 use Rattle.report.proofs.put_priced.Tie as tie
 
 -- what is to be written, where settling was refused and where it was accepted
-refused : (c : tie.After-answer) → let s = c .before .before .before .before .before .before .before .before .before .before .before .before .before .before .before .before .before .before .before .before in priced (s .args .n) (settled (s .args .measure) (columns (s .args .n) (s .args .heads .now) (s .args .own .now) (s .args .spans .now) (s .args .tails .now)) (answers (s .args .weights .now) (s .args .depths .now) (s .args .edges .now))) ≡ refusedLine (c .answer .given .0 .0)
+refused : (c : tie.After-answer)
+    → let s = c .before .before .before .before .before .before .before .before .before .before .before .before .before .before .before .before .before .before .before .before in priced (s .args .n) (settled (s .args .measure) (columns (s .args .n) (s .args .heads .now) (s .args .own .now) (s .args .spans .now) (s .args .tails .now)) (answers (s .args .weights .now) (s .args .depths .now) (s .args .edges .now))) ≡ refusedLine (c .answer .given .0 .0)
 refused c = priced-refused _ _ _ _ _ (c .before .before .before .before .before .before .before .before .settle .ensures) _ (c .answer .given .1)
 
-accepted : (c : tie.After-enum-told) → let s = c .before .before .before .before .before .before .before .before .before .before .before .before .before .before .before .before .before .before .before .before in let k = c .before .before .before .before .before .before .before .before .settle in priced (s .args .n) (settled (s .args .measure) (columns (s .args .n) (s .args .heads .now) (s .args .own .now) (s .args .spans .now) (s .args .tails .now)) (answers (s .args .weights .now) (s .args .depths .now) (s .args .edges .now))) ≡ list (answers (k .last .1 .1 .1 .1 .1 .1 .0) (k .last .1 .1 .1 .1 .1 .1 .1 .0) (k .last .1 .1 .1 .1 .1 .1 .1 .1 .0)) (length (k .last .1 .1 .1 .1 .1 .1 .1 .0))
+accepted : (c : tie.After-enum-told)
+    → let s = c .before .before .before .before .before .before .before .before .before .before .before .before .before .before .before .before .before .before .before .before in let k = c .before .before .before .before .before .before .before .before .settle in priced (s .args .n) (settled (s .args .measure) (columns (s .args .n) (s .args .heads .now) (s .args .own .now) (s .args .spans .now) (s .args .tails .now)) (answers (s .args .weights .now) (s .args .depths .now) (s .args .edges .now))) ≡ list (answers (k .last .1 .1 .1 .1 .1 .1 .0) (k .last .1 .1 .1 .1 .1 .1 .1 .0) (k .last .1 .1 .1 .1 .1 .1 .1 .1 .0)) (length (k .last .1 .1 .1 .1 .1 .1 .1 .0))
 accepted c = priced-accepted _ _ _ _ _ (c .before .before .before .before .before .before .before .before .settle .ensures) (c .enum-told .given .1)
 
 put-refused-requires : tie.Need-put-refused-requires

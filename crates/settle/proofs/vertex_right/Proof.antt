@@ -31,8 +31,11 @@ offer-requires c κs = edge-in (c .before .before .before .before .before .befor
 returns-5 : tie.Need-returns-5
 unfolding vertexRight
 returns-5 c =
-    let a = c .before .before .before .before .before .before .before .before .before .before .before .before .before .before .before .before .before .args in
-    rw (ne-eqb _ _ (c .before .before .before .before .before .before .if1 .left), lt-ltb _ _ (c .before .before .before .before .before .if3 .left), eq-eqb _ _ (c .before .before .if4 .left))
+    let p = c .before .before .before .before .before in
+    let q = p .before in
+    let r = q .before .before .before .before .before .before .before .before .before .before .before in
+    let a = r .args in
+    rw (ne-eqb _ _ (q .if1 .left), lt-ltb _ _ (p .if3 .left), eq-eqb _ _ (c .before .before .if4 .left))
     (c .gives .ensures ∙ ap (λ (o : Offer). gives o (cell (a .weights .now) (a .v .0)) (cell (a .depths .now) (a .v .0))) (c .before .offer .ensures))
 
 pub vertex-right-spec : {M : Type 1} → statement M
