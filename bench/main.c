@@ -1,31 +1,23 @@
 /*
  * The library's calls beside the same written by hand in C, in one process: medians of many runs, in
- * microseconds; a row has a table's kind, its parts, and for each call the library's figure and then
- * plain C's. Results are compared first. Arguments: [cost | days], or `once` KIND N, which makes each
- * call once and compares, for a tool that counts instructions.
+ * microseconds; a row has a table's kind, its parts, and for each call the figures of the library, of
+ * plain C and of the strongest C. Results are compared first. Arguments: [cost | days], or `once` KIND
+ * N, which makes each call once and compares, for a tool that counts instructions.
  */
 #include <stdio.h>
 #include <stdlib.h>
 #include <string.h>
 #include <time.h>
 
-#include "plain.h"
+#include "calls.h"
 #include "tables.h"
 
 uint64_t harness_check_answers(uint64_t measure, uint64_t n, TABLE_COLUMNS, ANSWER_COLUMNS);
 
-enum { ROOM = 4096, SAMPLES = 101, CALLS = 4 };
-
-/* The four calls of one maker. */
-struct maker {
-    uint64_t (*settle)(uint64_t, uint64_t, TABLE_COLUMNS, WRITTEN_COLUMNS);
-    uint64_t (*check_answers)(uint64_t, uint64_t, TABLE_COLUMNS, ANSWER_COLUMNS);
-    uint64_t (*reprice)(uint64_t, uint64_t, CHANGED_COLUMNS, WRITTEN_COLUMNS, uint64_t, uint64_t);
-    uint64_t (*bill)(uint64_t, uint64_t, TABLE_COLUMNS, ANSWER_COLUMNS, uint64_t, uint64_t *, size_t);
-};
+enum { ROOM = 4096, SAMPLES = 101, CALLS = 4, MAKERS = 3 };
 
 static const struct maker library = { settle, harness_check_answers, reprice, bill };
-static const struct maker plain = { plain_settle, plain_check_answers, plain_reprice, plain_bill };
+static const struct maker *const makers[MAKERS] = { &library, &plain, &strongest };
 
 /* A table with its answers, a part whose bill fits the room, a line that is used, and its figure. */
 struct job {
@@ -81,32 +73,37 @@ static void choose(struct job *j)
     j->figure = j->t.own[j->line];
 }
 
-/* Both makers give the same result, none a refusal, and leave the same bytes. */
-static int agree_on(int which, struct job *a, struct job *b)
+/* Each maker has a job of its own: all give the same result, none a refusal, and leave the same bytes. */
+static int agree_on(int which, struct job *jobs)
 {
-    uint64_t result = call(&library, which, a);
+    uint64_t result = call(makers[0], which, &jobs[0]);
+    int i;
 
-    return result == call(&plain, which, b) && !tozbierdu_refused(result) && memcmp(a, b, sizeof *a) == 0;
+    for (i = 1; i < MAKERS; i++)
+        if (call(makers[i], which, &jobs[i]) != result || memcmp(&jobs[i], &jobs[0], sizeof *jobs) != 0)
+            return 0;
+    return !tozbierdu_refused(result);
 }
 
 /* On every call, and on answers that are off by one. */
 static int agree(const struct job *given)
 {
-    static struct job a, b;
-    int which;
+    static struct job jobs[MAKERS];
+    int which, i;
 
-    a = b = *given;
+    for (i = 0; i < MAKERS; i++)
+        jobs[i] = *given;
     for (which = 0; which < CALLS; which++)
-        if (!agree_on(which, &a, &b))
+        if (!agree_on(which, jobs))
             return 0;
-    a.figures[a.part]++;
-    b.figures[b.part]++;
-    return agree_on(1, &a, &b);
+    for (i = 0; i < MAKERS; i++)
+        jobs[i].figures[jobs[i].part]++;
+    return agree_on(1, jobs);
 }
 
 static void disagreed(int kind, uint64_t n)
 {
-    fprintf(stderr, "%s of %u parts: the two disagree\n", kind_names[kind], (unsigned)n);
+    fprintf(stderr, "%s of %u parts: the library and C disagree\n", kind_names[kind], (unsigned)n);
     exit(1);
 }
 
@@ -115,7 +112,7 @@ static void prepare(struct job *j, uint64_t measure, int kind, uint64_t n)
     memset(j, 0, sizeof *j);
     j->measure = measure;
     make_table(&j->t, kind, n);
-    plain_settle(j->measure, n, TABLE(j), ANSWERS(j));
+    call(&plain, 0, j);
     choose(j);
     if (!agree(j))
         disagreed(kind, n);
@@ -163,36 +160,33 @@ static double median(const struct maker *m, int which, struct job *j)
 static void row(uint64_t measure, int kind, uint64_t n)
 {
     static struct job j;
-    int which;
+    int which, i;
 
     prepare(&j, measure, kind, n);
     printf("%s %u", kind_names[kind], (unsigned)n);
-    for (which = 0; which < CALLS; which++) {
-        double ours = median(&library, which, &j), theirs = median(&plain, which, &j);
-        printf(" %.3f %.3f", ours, theirs);
-    }
+    for (which = 0; which < CALLS; which++)
+        for (i = 0; i < MAKERS; i++)
+            printf(" %.3f", median(makers[i], which, &j));
     printf("\n");
     fflush(stdout);
 }
 
 static int once(const char *kind, uint64_t n)
 {
-    static struct job a, b;
-    int k, which;
+    static struct job jobs[MAKERS];
+    int k, which, i;
 
     for (k = 0; k < KINDS && strcmp(kind, kind_names[k]) != 0; k++)
         continue;
     if (k == KINDS)
         return 2;
-    make_table(&a.t, k, n);
-    b = a;
+    for (i = 0; i < MAKERS; i++)
+        make_table(&jobs[i].t, k, n);
     for (which = 0; which < CALLS; which++) {
-        if (!agree_on(which, &a, &b))
+        if (!agree_on(which, jobs))
             disagreed(k, n);
-        if (which == 0) {
-            choose(&a);
-            choose(&b);
-        }
+        for (i = 0; which == 0 && i < MAKERS; i++)
+            choose(&jobs[i]);
     }
     return 0;
 }

@@ -1,450 +1,251 @@
 /*
- * The calls by hand, as one would write them in C without a proof, for few instructions: best-first,
- * where each line waits for one part that it needs, the first that is not made, and goes on when that
- * is. The same checks are made.
+ * The calls by hand, with the library's own idea and without a proof: a table is checked line by line;
+ * settling is best-first, where each line waits for one part that it needs, the first that is not made,
+ * and goes on when that is; answers are tested part by part and line by line.
  */
 #include <string.h>
 
-#include "plain.h"
-#include "tozbierdu.h"
+#include "common.h"
 
-#define REFUSED(number, place) ((uint64_t)(number) << 32 | (place))
-
-/* Inlined once for each measure, which is a constant there. */
-#define FOR_MEASURE static inline __attribute__((always_inline))
-
-/* A table whose columns have been checked. */
-struct view {
-    uint64_t n, lines;
-    const uint64_t *heads, *own, *spans, *tails;
-};
-
-/*
- * Whether x is above a bound, in the top bit, so that a column's words are gathered without a branch.
- * A bound is below 2^63, or it is n - 1 without parts, which every x counts as above.
- */
-static inline uint64_t above(uint64_t x, uint64_t bound)
+static uint64_t check_lines(const struct view *t)
 {
-    return x | (bound - x);
+    return first_refusal(t);
 }
 
-static uint64_t any_above(const uint64_t *column, size_t count, uint64_t bound)
+enum { EIGHTS = TOZBIERDU_MOST_PARTS / 8, BLOCKS = EIGHTS / 8 };
+
+/* The least key offered to each part, to every 8 parts and to every 64. */
+struct queue {
+    uint64_t keys[TOZBIERDU_MOST_PARTS], eights[EIGHTS], blocks[BLOCKS];
+};
+
+/* The blocks that n parts fill are cleared; all blocks are looked at for the least key. */
+static void clear_queue(struct queue *q, uint64_t n)
 {
-    uint64_t gathered = 0;
-    size_t i;
+    uint64_t used = (n + 63) / 64;
+
+    memset(q->keys, 0xff, 64 * used * sizeof *q->keys);
+    memset(q->eights, 0xff, 8 * used * sizeof *q->eights);
+    memset(q->blocks, 0xff, sizeof q->blocks);
+}
+
+static inline uint64_t least_of(const uint64_t *keys, uint64_t count)
+{
+    uint64_t i, least = NO_KEY;
 
     for (i = 0; i < count; i++)
-        gathered |= above(column[i], bound);
-    return gathered;
-}
-
-/* In the top bit, whether a span is too long, passes the end of tails or the start of the next. */
-static uint64_t any_misplaced(const uint64_t *spans, size_t lines, uint64_t tails_count)
-{
-    uint64_t gathered = 0;
-    size_t i;
-
-    for (i = 0; i < 2 * lines; i += 2)
-        gathered |= above(spans[i], tails_count) | above(spans[i + 1], TOZBIERDU_LONGEST_TAIL);
-    for (i = 2; i < 2 * lines; i += 2)
-        gathered |= spans[i] - spans[i - 2] - spans[i - 1];
-    return lines == 0 ? 0 : gathered | (tails_count - spans[i - 2] - spans[i - 1]);
-}
-
-/* The first of refusals 3 to 6; 0 if all that is off are places of tails between the spans. */
-static uint64_t first_refusal(const struct view *t, size_t tails_count)
-{
-    uint64_t line, i, end = 0;
-
-    for (line = 0; line < t->lines; line++) {
-        uint64_t offset = t->spans[2 * line], size = t->spans[2 * line + 1];
-        if (t->heads[line] >= t->n)
-            return REFUSED(TOZBIERDU_REFUSED_HEAD, line);
-        if (t->own[line] > TOZBIERDU_STRUCK)
-            return REFUSED(TOZBIERDU_REFUSED_OWN, line);
-        if (offset < end || size > TOZBIERDU_LONGEST_TAIL || offset > tails_count
-            || size > tails_count - offset)
-            return REFUSED(TOZBIERDU_REFUSED_SPAN, line);
-        end = offset + size;
-        for (i = offset; i < end; i++)
-            if (t->tails[i] >= t->n)
-                return REFUSED(TOZBIERDU_REFUSED_TAIL, line);
-    }
-    return 0;
-}
-
-/* Refusals 16 and 1 to 7. Whole columns are looked through, and line by line only if one is off. */
-static uint64_t check(struct view *t, uint64_t measure, uint64_t n, TABLE_COLUMNS, ANSWER_COLUMNS)
-{
-    uint64_t off, result;
-
-    (void)figures, (void)depths, (void)lines;
-    if (measure > TOZBIERDU_DAYS)
-        return REFUSED(TOZBIERDU_REFUSED_MEASURE, 0);
-    if (n > TOZBIERDU_MOST_PARTS)
-        return REFUSED(TOZBIERDU_REFUSED_PARTS, 0);
-    if (own_count != heads_count || heads_count > TOZBIERDU_MOST_LINES || spans_count != 2 * heads_count
-        || tails_count > TOZBIERDU_MOST_TAILS)
-        return REFUSED(TOZBIERDU_REFUSED_LENGTHS, 0);
-    *t = (struct view){ n, heads_count, heads, own, spans, tails };
-    off = any_above(heads, heads_count, n - 1) | any_above(own, own_count, TOZBIERDU_STRUCK)
-        | any_misplaced(spans, heads_count, tails_count) | any_above(tails, tails_count, n - 1);
-    if (off >> 63 != 0 && (result = first_refusal(t, tails_count)) != 0)
-        return result;
-    if (figures_count != n || depths_count != n || lines_count != n)
-        return REFUSED(TOZBIERDU_REFUSED_ANSWER_LENGTHS, 0);
-    return 0;
-}
-
-#define NO_KEY UINT64_MAX
-
-/* A label in one number, ordered as labels are: by figure, then depth, then line. */
-static inline uint64_t key(uint64_t figure, uint64_t depth, uint64_t line)
-{
-    return figure << 23 | depth << 12 | line;
-}
-
-static inline uint64_t greater(uint64_t a, uint64_t b)
-{
-    return a > b ? a : b;
-}
-
-static inline uint64_t lesser(uint64_t a, uint64_t b)
-{
-    return a < b ? a : b;
-}
-
-/* Sums are capped at the end: an own figure and 16 others stay below 2^45. */
-static inline uint64_t join(uint64_t measure, uint64_t a, uint64_t b)
-{
-    return measure == TOZBIERDU_DAYS ? greater(a, b) : a + b;
-}
-
-static inline uint64_t capped(uint64_t figure)
-{
-    return lesser(figure, TOZBIERDU_OVER);
-}
-
-/*
- * The least key offered to each part, from place `leaves` on, and above them at place i the least of
- * places 4 i to 4 i + 3, so at place 1 the least of all. Place 0 holds 0, which ends the way up.
- */
-struct queue {
-    uint64_t leaves, keys[2 * TOZBIERDU_MOST_PARTS];
-};
-
-static inline uint64_t least_of_group(const uint64_t *group)
-{
-    return lesser(lesser(group[0], group[1]), lesser(group[2], group[3]));
-}
-
-static inline void clear_queue(struct queue *q, uint64_t n)
-{
-    for (q->leaves = 1; q->leaves < n; q->leaves *= 4)
-        continue;
-    memset(q->keys + q->leaves, 0xff, n * sizeof *q->keys);
-    q->keys[0] = 0;
-}
-
-/* The places above the leaves, when those are set; a last group that is not full is filled up. */
-static inline void build_queue(struct queue *q, uint64_t n)
-{
-    uint64_t level, i;
-
-    for (level = q->leaves; level > 1; level /= 4) {
-        for (; n % 4 != 0; n++)
-            q->keys[level + n] = NO_KEY;
-        n /= 4;
-        for (i = level / 4; i < level / 4 + n; i++)
-            q->keys[i] = least_of_group(q->keys + 4 * i);
-    }
+        least = lesser(least, keys[i]);
+    return least;
 }
 
 static inline void lower(struct queue *q, uint64_t part, uint64_t key)
 {
-    uint64_t i;
-
-    for (i = q->leaves + part; key < q->keys[i]; i /= 4)
-        q->keys[i] = key;
+    if (key >= q->keys[part])
+        return;
+    q->keys[part] = key;
+    q->eights[part / 8] = lesser(q->eights[part / 8], key);
+    q->blocks[part / 64] = lesser(q->blocks[part / 64], key);
 }
 
 static inline void take_out(struct queue *q, uint64_t part)
 {
-    uint64_t i = q->leaves + part;
-
-    q->keys[i] = NO_KEY;
-    while (i > 1) {
-        const uint64_t *group = q->keys + i / 4 * 4;
-        q->keys[i /= 4] = least_of_group(group);
-    }
+    q->keys[part] = NO_KEY;
+    q->eights[part / 8] = least_of(q->keys + part / 8 * 8, 8);
+    q->blocks[part / 64] = least_of(q->eights + part / 64 * 8, 8);
 }
 
 /*
- * A line that waits for the part at place `at` of tails: what its own figure and the parts before
- * that place join to, the greatest depth of those, the end of its span, and the next line that waits
- * for the same part.
+ * The first line that waits for a part; and of a line that waits the next one for the same part, the
+ * place of that part in tails, what its own figure and the parts before that place join to, and the
+ * greatest depth of those. These are set before they are read: only the first lines and the queue are
+ * cleared.
  */
-struct waiter {
-    uint64_t joined;
-    uint16_t deepest, at, end, next;
-};
-
-#define NO_LINE UINT16_MAX
-
-/* Waiters are set before they are read: only the queue and the lists' first lines are cleared. */
 struct search {
-    struct queue queue;
-    struct waiter waiters[TOZBIERDU_MOST_LINES];
     uint16_t first[TOZBIERDU_MOST_PARTS];
+    uint16_t next[TOZBIERDU_MOST_LINES], at[TOZBIERDU_MOST_LINES], deepest[TOZBIERDU_MOST_LINES];
+    uint64_t joined[TOZBIERDU_MOST_LINES];
+    struct queue queue;
 };
+
+/* A line joins the list of the part at a place of tails. */
+static inline void wait_at(struct search *s, const struct view *t, uint64_t line, uint64_t at,
+                           uint64_t joined, uint64_t deepest)
+{
+    uint16_t *first = &s->first[t->tails[at]];
+
+    s->at[line] = at;
+    s->joined[line] = joined;
+    s->deepest[line] = deepest;
+    s->next[line] = *first;
+    *first = line;
+}
 
 /* Each line that is not struck waits for the first part that it needs; if it needs none it is queued. */
-static inline void start(struct search *s, struct view t)
+static void start(struct search *s, const struct view *t)
 {
     uint64_t line;
 
-    memset(s->first, 0xff, t.n * sizeof *s->first);
-    clear_queue(&s->queue, t.n);
-    for (line = 0; line < t.lines; line++) {
-        uint64_t own = t.own[line], offset = t.spans[2 * line], size = t.spans[2 * line + 1];
+    memset(s->first, 0xff, t->n * sizeof *s->first);
+    clear_queue(&s->queue, t->n);
+    for (line = 0; line < t->lines; line++) {
+        uint64_t own = t->own[line];
         if (own == TOZBIERDU_STRUCK)
             continue;
-        if (size == 0) {
-            uint64_t *leaf = &s->queue.keys[s->queue.leaves + t.heads[line]];
-            *leaf = lesser(*leaf, key(own, 1, line));
-        } else {
-            uint16_t *first = &s->first[t.tails[offset]];
-            s->waiters[line] = (struct waiter){ own, 0, offset, offset + size, *first };
-            *first = line;
-        }
+        if (t->spans[2 * line + 1] == 0)
+            lower(&s->queue, t->heads[line], key(own, 1, line));
+        else
+            wait_at(s, t, line, t->spans[2 * line], own, 0);
     }
-    build_queue(&s->queue, t.n);
 }
 
 /* A part that a line waited for is made: the line waits for the next that is not, or is queued. */
-FOR_MEASURE void go_on(struct search *s, struct view t, uint64_t measure, const uint64_t *figures,
-                       const uint64_t *depths, uint64_t line, uint64_t figure, uint64_t depth)
+static void go_on(struct search *s, const struct view *t, uint64_t measure, uint64_t line,
+                  const uint64_t *figures, const uint64_t *depths)
 {
-    struct waiter *w = &s->waiters[line];
-    uint64_t joined = join(measure, w->joined, figure), deepest = greater(w->deepest, depth);
-    uint64_t at, end = w->end;
+    uint64_t joined = s->joined[line], deepest = s->deepest[line];
+    uint64_t at, end = t->spans[2 * line] + t->spans[2 * line + 1];
 
-    for (at = w->at + 1; at != end; at++) {
-        uint64_t part = t.tails[at];
+    for (at = s->at[line]; at < end; at++) {
+        uint64_t part = t->tails[at];
         if (depths[part] == 0) {
-            *w = (struct waiter){ joined, deepest, at, end, s->first[part] };
-            s->first[part] = line;
+            wait_at(s, t, line, at, joined, deepest);
             return;
         }
         joined = join(measure, joined, figures[part]);
         deepest = greater(deepest, depths[part]);
     }
-    lower(&s->queue, t.heads[line], key(capped(joined), deepest + 1, line));
+    lower(&s->queue, t->heads[line], key(capped(joined), deepest + 1, line));
 }
 
-FOR_MEASURE void best_first(struct view t, uint64_t measure, uint64_t *restrict figures,
-                            uint64_t *restrict depths, uint64_t *restrict lines)
+/* What waited for a part goes on, but for lines whose own head is made already. */
+static void wake_all(struct search *s, const struct view *t, uint64_t measure, uint64_t part,
+                     const uint64_t *figures, const uint64_t *depths)
 {
-    struct search s;
-    uint64_t best, line, next, part;
+    uint16_t line, next;
 
-    memset(depths, 0, t.n * sizeof *depths);
-    start(&s, t);
-    while ((best = s.queue.keys[1]) != NO_KEY) {
-        uint64_t figure = best >> 23, depth = best >> 12 & 2047;
-        line = best & 4095;
-        part = t.heads[line];
-        figures[part] = figure;
-        depths[part] = depth;
-        lines[part] = line;
-        take_out(&s.queue, part);
-        for (line = s.first[part]; line != NO_LINE; line = next) {
-            next = s.waiters[line].next;
-            if (depths[t.heads[line]] == 0)
-                go_on(&s, t, measure, figures, depths, line, figure, depth);
-        }
+    for (line = s->first[part]; line != NO_LINE; line = next) {
+        next = s->next[line];
+        if (depths[t->heads[line]] == 0)
+            go_on(s, t, measure, line, figures, depths);
     }
-    for (part = 0; part < t.n; part++)
-        if (depths[part] == 0)
-            figures[part] = lines[part] = 0;
 }
 
-/* Fills the answers. A table without parts has none, and no place for a key. */
+/* A table without parts has no answers, and its columns may be null. */
 static void fill(struct view t, uint64_t measure, uint64_t *figures, uint64_t *depths, uint64_t *lines)
 {
+    struct search s;
+    uint64_t best;
+
     if (t.n == 0)
         return;
-    if (measure == TOZBIERDU_DAYS)
-        best_first(t, TOZBIERDU_DAYS, figures, depths, lines);
-    else
-        best_first(t, TOZBIERDU_COST, figures, depths, lines);
+    memset(figures, 0, t.n * sizeof *figures);
+    memset(depths, 0, t.n * sizeof *depths);
+    memset(lines, 0, t.n * sizeof *lines);
+    start(&s, &t);
+    while ((best = least_of(s.queue.blocks, BLOCKS)) != NO_KEY) {
+        uint64_t part = t.heads[line_of(best)];
+        figures[part] = figure_of(best);
+        depths[part] = depth_of(best);
+        lines[part] = line_of(best);
+        take_out(&s.queue, part);
+        wake_all(&s, &t, measure, part, figures, depths);
+    }
 }
 
-/* Whether a line gives its head a label, and its key: not if it is struck or needs an unmade part. */
-FOR_MEASURE int gives(struct view t, uint64_t measure, uint64_t line, const uint64_t *figures,
-                      const uint64_t *depths, uint64_t *given)
+/* The label that a line gives its head, as a key; none if it is struck or needs an unmade part. */
+static inline uint64_t offer(const struct view *t, uint64_t measure, uint64_t line,
+                             const uint64_t *figures, const uint64_t *depths)
 {
-    uint64_t joined = t.own[line], deepest = 0, at = t.spans[2 * line], end = at + t.spans[2 * line + 1];
+    uint64_t joined = t->own[line], deepest = 0;
+    uint64_t at = t->spans[2 * line], end = at + t->spans[2 * line + 1];
 
     if (joined == TOZBIERDU_STRUCK)
-        return 0;
-    for (; at != end; at++) {
-        uint64_t part = t.tails[at];
+        return NO_KEY;
+    for (; at < end; at++) {
+        uint64_t part = t->tails[at];
         if (depths[part] == 0)
-            return 0;
+            return NO_KEY;
         joined = join(measure, joined, figures[part]);
         deepest = greater(deepest, depths[part]);
     }
-    *given = key(capped(joined), deepest + 1, line);
-    return 1;
+    return key(capped(joined), deepest + 1, line);
 }
 
-/* The lent answers as keys; the count of the made parts, or more than n if one can't be an answer. */
-static inline uint64_t pack(struct view t, const uint64_t *figures, const uint64_t *depths,
-                            const uint64_t *lines, uint64_t *labels)
+/*
+ * An unmade part has zeros, and another the label that its line gives. What other parts hold may be too
+ * great for a sum or a key; then those are found to be wrong themselves.
+ */
+static int part_right(const struct view *t, uint64_t measure, uint64_t part, const uint64_t *figures,
+                      const uint64_t *depths, const uint64_t *lines)
 {
-    uint64_t part, made = 0;
+    uint64_t figure = figures[part], depth = depths[part], line = lines[part];
 
-    for (part = 0; part < t.n; part++)
-        if (depths[part] == 0) {
-            if (figures[part] != 0 || lines[part] != 0)
-                return t.n + 1;
-            labels[part] = NO_KEY;
-        } else {
-            if (figures[part] > TOZBIERDU_OVER || depths[part] > t.n || lines[part] >= t.lines)
-                return t.n + 1;
-            labels[part] = key(figures[part], depths[part], lines[part]);
-            made++;
-        }
-    return made;
+    if (depth == 0)
+        return figure == 0 && line == 0;
+    return figure <= TOZBIERDU_OVER && depth <= t->n && line < t->lines && t->heads[line] == part
+        && offer(t, measure, line, figures, depths) == key(figure, depth, line);
 }
 
-/* No line gives less than its head's label, and as many give just that as there are made parts. */
-FOR_MEASURE int all_right(struct view t, uint64_t measure, const uint64_t *figures, const uint64_t *depths,
-                          const uint64_t *lines)
+/* No line gives its head less than the label; a head that is unmade is given none. */
+static int line_right(const struct view *t, uint64_t measure, uint64_t line, const uint64_t *figures,
+                      const uint64_t *depths, const uint64_t *lines)
 {
-    uint64_t labels[TOZBIERDU_MOST_PARTS], left = pack(t, figures, depths, lines, labels), line, given;
+    uint64_t head = t->heads[line], given = offer(t, measure, line, figures, depths);
 
-    if (left > t.n)
-        return 0;
-    for (line = 0; line < t.lines; line++) {
-        uint64_t label = labels[t.heads[line]];
-        if (key(t.own[line], 0, 0) > label)
-            continue; /* its own figure alone is too much */
-        if (!gives(t, measure, line, figures, depths, &given) || given > label)
-            continue;
-        if (given < label)
-            return 0;
-        left--;
-    }
-    return left == 0;
+    if (depths[head] == 0)
+        return given == NO_KEY;
+    return given >= key(figures[head], depths[head], lines[head]);
 }
 
 static int right(struct view t, uint64_t measure, const uint64_t *figures, const uint64_t *depths,
                  const uint64_t *lines)
 {
-    if (measure == TOZBIERDU_DAYS)
-        return all_right(t, TOZBIERDU_DAYS, figures, depths, lines);
-    return all_right(t, TOZBIERDU_COST, figures, depths, lines);
+    uint64_t part, line;
+
+    for (part = 0; part < t.n; part++)
+        if (!part_right(&t, measure, part, figures, depths, lines))
+            return 0;
+    for (line = 0; line < t.lines; line++)
+        if (!line_right(&t, measure, line, figures, depths, lines))
+            return 0;
+    return 1;
 }
 
-#define GIVEN_TABLE heads, heads_count, own, own_count, spans, spans_count, tails, tails_count
-#define GIVEN_ANSWERS figures, figures_count, depths, depths_count, lines, lines_count
-
-uint64_t plain_settle(uint64_t measure, uint64_t n, TABLE_COLUMNS, WRITTEN_COLUMNS)
+/* Pays for each line of a part's bill, and looks at no more than it pays for; whether that is all. */
+static int pay(const struct view *t, const uint64_t *lines, uint64_t part, uint64_t *budget)
 {
-    struct view t;
-    uint64_t result = check(&t, measure, n, GIVEN_TABLE, GIVEN_ANSWERS);
+    uint64_t line = lines[part], at = t->spans[2 * line], end = at + t->spans[2 * line + 1];
 
-    if (result == 0)
-        fill(t, measure, figures, depths, lines);
-    return result;
+    if (*budget == 0)
+        return 0;
+    --*budget;
+    for (; at < end; at++)
+        if (!pay(t, lines, t->tails[at], budget))
+            return 0;
+    return 1;
 }
 
-uint64_t plain_check_answers(uint64_t measure, uint64_t n, TABLE_COLUMNS, ANSWER_COLUMNS)
+/* The same walk, which writes the bill and gives its end. */
+static uint64_t *print_from(const struct view *t, const uint64_t *lines, uint64_t part, uint64_t *room)
 {
-    struct view t;
-    uint64_t result = check(&t, measure, n, GIVEN_TABLE, GIVEN_ANSWERS);
+    uint64_t line = lines[part], at = t->spans[2 * line], end = at + t->spans[2 * line + 1];
 
-    return result != 0 ? result : (uint64_t)right(t, measure, figures, depths, lines);
+    *room++ = line;
+    for (; at < end; at++)
+        room = print_from(t, lines, t->tails[at], room);
+    return room;
 }
 
-uint64_t plain_reprice(uint64_t measure, uint64_t n, CHANGED_COLUMNS, WRITTEN_COLUMNS, uint64_t line,
-                       uint64_t figure)
+/* Nothing is written before the whole bill is known to fit. */
+static uint64_t print(const struct view *t, const uint64_t *lines, uint64_t part, uint64_t *room,
+                      uint64_t most)
 {
-    struct view t;
-    uint64_t result = check(&t, measure, n, GIVEN_TABLE, GIVEN_ANSWERS);
+    uint64_t budget = most;
 
-    if (result != 0)
-        return result;
-    if (line >= t.lines || own[line] == TOZBIERDU_STRUCK)
-        return REFUSED(TOZBIERDU_REFUSED_LINE, 0);
-    if (figure > TOZBIERDU_GREATEST)
-        return REFUSED(TOZBIERDU_REFUSED_FIGURE, 0);
-    if (!right(t, measure, figures, depths, lines))
-        return REFUSED(TOZBIERDU_REFUSED_ANSWERS, 0);
-    own[line] = figure;
-    fill(t, measure, figures, depths, lines);
-    return 0;
+    return pay(t, lines, part, &budget) ? (uint64_t)(print_from(t, lines, part, room) - room) : 0;
 }
 
-/* Of the parts of a bill: how long each one's bill is, 0 if unknown, and where one has been printed. */
-struct printer {
-    const uint64_t *spans, *tails, *lines;
-    uint64_t most, *room;
-    uint64_t length[TOZBIERDU_MOST_PARTS], place[TOZBIERDU_MOST_PARTS];
-};
+#define CALL(name) plain_##name
+#include "chain.h"
 
-#define NO_PLACE UINT64_MAX
-
-/* The length of a part's bill, each part's once; cut at one more than the room. */
-static uint64_t bill_length(struct printer *p, uint64_t part)
-{
-    const uint64_t *span = p->spans + 2 * p->lines[part];
-    const uint64_t *needed = p->tails + span[0], *end = needed + span[1];
-    uint64_t sum = 1;
-
-    for (; needed != end && sum <= p->most; needed++)
-        sum += p->length[*needed] != 0 ? p->length[*needed] : bill_length(p, *needed);
-    p->place[part] = NO_PLACE;
-    return p->length[part] = lesser(sum, p->most + 1);
-}
-
-/* Prints a part's bill at a place of the room; a bill that stands there already is copied. */
-static void print(struct printer *p, uint64_t part, uint64_t place)
-{
-    const uint64_t *span = p->spans + 2 * p->lines[part];
-    const uint64_t *needed = p->tails + span[0], *end = needed + span[1];
-
-    p->place[part] = place;
-    p->room[place++] = p->lines[part];
-    for (; needed != end; place += p->length[*needed++])
-        if (p->place[*needed] == NO_PLACE)
-            print(p, *needed, place);
-        else
-            memcpy(p->room + place, p->room + p->place[*needed], p->length[*needed] * sizeof *p->room);
-}
-
-uint64_t plain_bill(uint64_t measure, uint64_t n, TABLE_COLUMNS, ANSWER_COLUMNS, uint64_t part,
-                    uint64_t *room, size_t room_count)
-{
-    struct printer p;
-    struct view t;
-    uint64_t result = check(&t, measure, n, GIVEN_TABLE, GIVEN_ANSWERS);
-
-    if (result != 0)
-        return result;
-    if (part >= n)
-        return REFUSED(TOZBIERDU_REFUSED_PART, 0);
-    if (!right(t, measure, figures, depths, lines))
-        return REFUSED(TOZBIERDU_REFUSED_ANSWERS, 0);
-    if (depths[part] == 0)
-        return REFUSED(TOZBIERDU_REFUSED_UNMADE, 0);
-    p.spans = spans, p.tails = tails, p.lines = lines, p.room = room;
-    p.most = lesser(room_count, TOZBIERDU_MOST_ROOM);
-    memset(p.length, 0, n * sizeof *p.length);
-    if (bill_length(&p, part) > p.most)
-        return REFUSED(TOZBIERDU_REFUSED_ROOM, 0);
-    print(&p, part, 0);
-    return p.length[part];
-}
+const struct maker plain = { plain_settle, plain_check_answers, plain_reprice, plain_bill };

@@ -1,6 +1,6 @@
-/* The calls written by hand in plain C, with the library's arguments and results. */
-#ifndef BENCH_PLAIN_H
-#define BENCH_PLAIN_H
+/* The calls as functions of one maker: the library, or a yardstick written by hand in C. */
+#ifndef BENCH_CALLS_H
+#define BENCH_CALLS_H
 
 #include <stddef.h>
 #include <stdint.h>
@@ -19,11 +19,15 @@
     uint64_t *figures, size_t figures_count, uint64_t *depths, size_t depths_count, \
         uint64_t *lines, size_t lines_count
 
-uint64_t plain_settle(uint64_t measure, uint64_t n, TABLE_COLUMNS, WRITTEN_COLUMNS);
-uint64_t plain_check_answers(uint64_t measure, uint64_t n, TABLE_COLUMNS, ANSWER_COLUMNS);
-uint64_t plain_reprice(uint64_t measure, uint64_t n, CHANGED_COLUMNS, WRITTEN_COLUMNS, uint64_t line,
-                       uint64_t figure);
-uint64_t plain_bill(uint64_t measure, uint64_t n, TABLE_COLUMNS, ANSWER_COLUMNS, uint64_t part,
-                    uint64_t *room, size_t room_count);
+struct maker {
+    uint64_t (*settle)(uint64_t measure, uint64_t n, TABLE_COLUMNS, WRITTEN_COLUMNS);
+    uint64_t (*check_answers)(uint64_t measure, uint64_t n, TABLE_COLUMNS, ANSWER_COLUMNS);
+    uint64_t (*reprice)(uint64_t measure, uint64_t n, CHANGED_COLUMNS, WRITTEN_COLUMNS, uint64_t line,
+                        uint64_t figure);
+    uint64_t (*bill)(uint64_t measure, uint64_t n, TABLE_COLUMNS, ANSWER_COLUMNS, uint64_t part,
+                     uint64_t *room, size_t room_count);
+};
+
+extern const struct maker plain, strongest;
 
 #endif

@@ -1,0 +1,87 @@
+/* What both yardsticks are written with: tables, refusals of lines, and labels as keys. */
+#ifndef BENCH_COMMON_H
+#define BENCH_COMMON_H
+
+#include "calls.h"
+#include "tozbierdu.h"
+
+#define REFUSED(number, place) ((uint64_t)(number) << 32 | (place))
+
+/* A table whose columns have agreeing lengths. */
+struct view {
+    uint64_t n, lines, listed;
+    const uint64_t *heads, *own, *spans, *tails;
+};
+
+static inline uint64_t greater(uint64_t a, uint64_t b)
+{
+    return a > b ? a : b;
+}
+
+static inline uint64_t lesser(uint64_t a, uint64_t b)
+{
+    return a < b ? a : b;
+}
+
+/* Refusals 3 to 6: the first in the order of the lines, or 0. */
+static inline uint64_t first_refusal(const struct view *t)
+{
+    uint64_t line, i, end = 0;
+
+    for (line = 0; line < t->lines; line++) {
+        uint64_t offset = t->spans[2 * line], size = t->spans[2 * line + 1];
+        if (t->heads[line] >= t->n)
+            return REFUSED(TOZBIERDU_REFUSED_HEAD, line);
+        if (t->own[line] > TOZBIERDU_STRUCK)
+            return REFUSED(TOZBIERDU_REFUSED_OWN, line);
+        /* offset + size could wrap */
+        if (offset < end || size > TOZBIERDU_LONGEST_TAIL || offset > t->listed
+            || size > t->listed - offset)
+            return REFUSED(TOZBIERDU_REFUSED_SPAN, line);
+        end = offset + size;
+        for (i = offset; i < end; i++)
+            if (t->tails[i] >= t->n)
+                return REFUSED(TOZBIERDU_REFUSED_TAIL, line);
+    }
+    return 0;
+}
+
+/* A label in one number, ordered as labels are: by figure, then depth (11 bits), then line (12 bits). */
+static inline uint64_t key(uint64_t figure, uint64_t depth, uint64_t line)
+{
+    return figure << 23 | depth << 12 | line;
+}
+
+static inline uint64_t figure_of(uint64_t key)
+{
+    return key >> 23;
+}
+
+static inline uint64_t depth_of(uint64_t key)
+{
+    return key >> 12 & 2047;
+}
+
+static inline uint64_t line_of(uint64_t key)
+{
+    return key & 4095;
+}
+
+/* Above every key. */
+#define NO_KEY UINT64_MAX
+
+/* Sums are capped at the end: an own figure and 16 others stay below 2^45. */
+static inline uint64_t join(uint64_t measure, uint64_t a, uint64_t b)
+{
+    return measure == TOZBIERDU_DAYS ? greater(a, b) : a + b;
+}
+
+static inline uint64_t capped(uint64_t figure)
+{
+    return lesser(figure, TOZBIERDU_OVER);
+}
+
+/* Ends the list of the lines that wait for a part. */
+#define NO_LINE UINT16_MAX
+
+#endif
