@@ -2,6 +2,7 @@
 // waited for that head goes on.
 use weights::Label;
 use weights::Measure;
+use weights::Vertex;
 ghost use mathlib.Core.Path.{_≡_};
 ghost use Prim.Native.Nat.{_≤_, _<_};
 ghost use lib.ListN.{length};
@@ -20,9 +21,9 @@ fn store(
     weights: &mut [u64],
     depths: &mut [u64],
     edges: &mut [u64],
-) -> usize
+) -> Vertex
     requires { ⌜ Placeable l (now heads) (answers (now weights) (now depths) (now edges)) ⌝ }
-    ensures head { λ r. ⌜ r ≡ cell (now (heads .entry)) (l .edge .0) ⌝ }
+    ensures head { λ r. ⌜ r .0 ≡ cell (now (heads .entry)) (l .edge .0) ⌝ }
     ensures stored { λ r.
         let a = answers (now (weights .entry)) (now (depths .entry)) (now (edges .entry)) in
         let a′ = answers (now (weights .exit)) (now (depths .exit)) (now (edges .exit)) in
@@ -31,11 +32,12 @@ fn store(
     let weight = l.weight;
     let e = l.edge;
     let i = e.0 as usize;
-    let v = heads[i] as usize;
+    let head = Vertex(heads[i]);
+    let v = head.0 as usize;
     weights[v] = weight.0;
     depths[v] = l.depth;
     edges[v] = e.0;
-    v
+    head
 }
 
 // A turn: the head of the next hyperedge gets its candidate as label, and what waited for that head
@@ -73,7 +75,7 @@ fn turn(
     }
     let l = queue::unpack(key);
     let v = store(l, heads, weights, depths, edges);
-    minima::raise(queue, v);
+    minima::raise(queue, v.0 as usize);
     waiting::wake_all(
         measure,
         v,

@@ -6,6 +6,7 @@ use offers::deeper;
 use weights::Hyperedge;
 use weights::Label;
 use weights::Measure;
+use weights::Vertex;
 use weights::Weight;
 ghost use mathlib.Core.Path.{_≡_};
 ghost use Prim.Native.Nat.{_+_, _<_};
@@ -208,7 +209,7 @@ fn wake(
 // Vertex v is made: what waited for it goes on.
 pub fn wake_all(
     measure: Measure,
-    v: usize,
+    v: Vertex,
     heads: &[u64],
     own: &[u64],
     spans: &[u64],
@@ -224,13 +225,14 @@ pub fn wake_all(
 )
     requires { let c = lent (now heads) (now own) (now spans) (now tails) (now depths) in
         let s = lines (now first) (now next) (now at) (now joined) (now deepest) in
-        ⌜ (Offerable c (now weights) (now depths) (now queue)) × ((v < length (now depths)) × Waking measure c (now weights) (now depths) s (now queue) v (cell (now first) v)) ⌝ }
+        ⌜ (Offerable c (now weights) (now depths) (now queue)) × ((v .0 < length (now depths)) × Waking measure c (now weights) (now depths) s (now queue) (v .0) (cell (now first) (v .0))) ⌝ }
     ensures { λ r.
         let c = lent (now (heads .entry)) (now (own .entry)) (now (spans .entry)) (now (tails .entry)) (now (depths .entry)) in
         let s′ = lines (now (first .exit)) (now (next .exit)) (now (at .exit)) (now (joined .exit)) (now (deepest .exit)) in
         ⌜ Rested measure c (now (weights .entry)) (now (depths .entry)) s′ (now (queue .exit)) ⌝ }
 {
-    let mut l = first[v];
+    let place = v.0 as usize;
+    let mut l = first[place];
     while l != END {
         let i = l as usize;
         let after = next[i];

@@ -11,10 +11,10 @@ use Rattle.waiting.proofs.Short.{steps}
 use Rattle.waiting.proofs.Walking.{wakeful, below, placed, walked, rested}
 
 abbrev Inv-loop : tie.InvT-loop
-Inv-loop measure v heads own spans tails weights depths first₀ next₀ at₀ joined₀ deepest₀ queue₀ l₀ first next at joined deepest queue l = Waking measure (lent heads own spans tails depths) weights depths (lines first next at joined deepest) queue v l
+Inv-loop measure heads own spans tails weights depths first₀ next₀ at₀ joined₀ deepest₀ queue₀ place l₀ first next at joined deepest queue l = Waking measure (lent heads own spans tails depths) weights depths (lines first next at joined deepest) queue place l
 
 abbrev μ-loop : tie.MeasureT-loop
-μ-loop measure v heads own spans tails weights depths first₀ next₀ at₀ joined₀ deepest₀ queue₀ l₀ first next at joined deepest queue l = steps next 4096 l
+μ-loop measure heads own spans tails weights depths first₀ next₀ at₀ joined₀ deepest₀ queue₀ place l₀ first next at joined deepest queue l = steps next 4096 l
 
 -- hyperedges can be offered to the queue as it is
 queued : (c : tie.At-loop Inv-loop μ-loop) → let a = c .before .before .before .before .before .before .before .before .before .before .before .before .before .before .args in Offerable (lent (a .heads .now) (a .own .now) (a .spans .now) (a .tails .now) (a .depths .now)) (a .weights .now) (a .depths .now) (c .loop .queue)
