@@ -1,0 +1,173 @@
+-- Demand 1. "For every input, refused ones too, a call's promise fixes its result and the content of each lent column", and a refusal "returns its number and a place
+-- … and alters no lent byte".
+--
+-- Each promise has the shape `Owed refuse entry Right done new Wrong result left`: where `Right` holds the call returns `done` and leaves `new`; where `Wrong r` holds it
+-- returns `refuse r` and leaves `entry`, all that was lent to be written, as it came. `result` and `left` are of the function that the call's contract equates its outcome
+-- with, for every input. `Fixed` says that no input is both right and wrong, or wrong in two ways. What is lent to be read can't be written; `tt` stands where nothing else
+-- is lent. Assumes nothing.
+use mathlib.Core.Path.{_≡_, refl, sym, _∙_}
+use mathlib.Core.Bool.{Bool, true, false}
+use mathlib.Core.Logic.{_⊎_, inl, inr, _↔_}
+use mathlib.Core.List.{List, _++_}
+use Prim.Native.Nat.{ℕ, _*_, _≤_, _<_}
+use native.Mathlib.Omega.{arith}
+use lib.ListN.{length, set, take, drop}
+use Rattle.weights.specs.declared.Measure.{Measure}
+use Rattle.weights.specs.declared.Measure.the-variants.{Cost, Days}
+use Rattle.weights.specs.Figures.{greatest, struck}
+use Rattle.weights.specs.Labels.{unmade, entryOf}
+use Rattle.refusal.specs.declared.Refusal.{Refusal}
+use Rattle.refusal.specs.declared.Acceptance.{Acceptance}
+use Rattle.refusal.specs.declared.Acceptance.the-variants.{Accepted, Refused}
+use Rattle.refusal.specs.declared.Verdict.{Verdict}
+use Rattle.refusal.specs.declared.Verdict.the-variants as verdict
+use Rattle.refusal.specs.declared.Extent.the-variants as extent
+use Rattle.refusal.specs.declared.Reading.the-variants as reading
+use Rattle.refusal.specs.Refusals.{codeOf, acceptanceResult, extentResult, measureOf}
+use Rattle.refusal.proofs.Codes.{codes-differ}
+use Rattle.columns.specs.Columns.{Answers, Sized, Columns, withOwn}
+use Rattle.columns.specs.Acceptance.{acceptance, lentAcceptance}
+use Rattle.columns.specs.Filled.{filled}
+use Rattle.columns.specs.Owed.{Owed}
+use Rattle.columns.specs.Right.{RightTable, WrongTable, RightLent, WrongLent}
+use Rattle.columns.specs.Same.{sameAnswers}
+use Rattle.columns.proofs.Accepted.{refused}
+use Rattle.columns.proofs.Exactly.{accepted-exactly, refused-exactly, lent-exactly, lent-refused-exactly}
+use Rattle.columns.proofs.Owed.{check-table-owes, check-lent-owes}
+use Rattle.columns.proofs.Refuses.{same-refusal}
+use Rattle.provenance.specs.BestFirst.{labels}
+use Rattle.settle.specs.Settling.{answersOf, settled}
+use Rattle.settle.specs.Checking.{verdict as told, checked}
+use Rattle.settle.specs.Defined.{AllMean}
+use Rattle.settle.proofs.Exactly.{same-exactly, same-fails}
+use Rattle.settle.proofs.Owed.{settle-owes, entry-owes, entry-beyond}
+use Rattle.reprice.specs.Repricing.{repriceAcceptance, strikeAcceptance, repriced, stricken}
+use Rattle.reprice.specs.Changes.{RightChange, WrongChange, lentTo}
+use Rattle.reprice.proofs.Changes.{reprice-exactly, reprice-refused-exactly, reprice-owes, strike-exactly, strike-refused-exactly, strike-owes}
+use Rattle.bill.specs.Billing.{billOf, billAcceptance, billed}
+use Rattle.bill.specs.Asked.{RightBill, WrongBill}
+use Rattle.bill.proofs.Asked.{bill-exactly, bill-refused-exactly, bill-owes}
+use Rattle.text.specs.Tables.{closed}
+use Rattle.text.specs.Render.{render}
+use Rattle.readtable.specs.Read.{readTable}
+use Rattle.roundtrip.specs.RoundTrip.{headerFor}
+use Rattle.roundtrip.specs.Reads.{Lent, lent, RightRead, WrongRead}
+use Rattle.roundtrip.proofs.Texts.{reads, read-or-refused, refused-once}
+use Rattle.writetable.specs.Write.{writeTable}
+use Rattle.writetable.specs.Asked.{RightWrite, WrongWrite}
+use Rattle.writetable.proofs.Asked.{write-owes}
+use Rattle.counter.specs.Results.{settledResult, repricedResult, mostRoom, billedResult}
+use Rattle.counter.specs.Decoded.{Decoded, settledExtent, repricedExtent, billedExtent}
+use Rattle.counter.specs.Numbers.{Among, SettleReturns, RepriceReturns, BillReturns, settleList, repriceList, billList}
+use Rattle.counter.proofs.Decoded.{settled-decoded, repriced-decoded, billed-decoded}
+use Rattle.counter.proofs.Numbers.{settle-numbers, reprice-numbers, bill-numbers}
+use Rattle.promises.specs.Fixed.{Fixed}
+
+-- tests that pass exactly if `Right` holds, and refuse by r exactly if `Wrong r` does, fix the result
+fixed : {Right : Type 0} {Wrong : Refusal → Type 0} (x : Acceptance) → ((x ≡ Accepted) ↔ Right) → ((r : Refusal) → (x ≡ Refused r) ↔ Wrong r) → Fixed Right Wrong
+fixed x p q = record { never = λ {r} a b. refused (sym (q r .1 b) ∙ p .1 a); once = λ {r} {s} a b. same-refusal (sym (q r .1 a) ∙ q s .1 b) }
+
+-- "Check a table." Refusals 1 to 6 -----------------------------------------------------------------------------------------------------------------------------
+module _ (c : Columns) where
+  pub check-table : Owed Refused (tt {0}) (RightTable c) (λ _. Accepted) (λ _. tt {0}) (WrongTable c) (acceptance c) (tt {0})
+  check-table = check-table-owes c
+
+  pub check-table-fixed : Fixed (RightTable c) (WrongTable c)
+  check-table-fixed = fixed (acceptance c) (accepted-exactly c) (refused-exactly c)
+
+-- the same with the answer columns: 1 to 7
+module _ (c : Columns) (a : Answers) where
+  pub check-lent : Owed Refused (tt {0}) (RightLent c a) (λ _. Accepted) (λ _. tt {0}) (WrongLent c a) (lentAcceptance c a) (tt {0})
+  check-lent = check-lent-owes c a
+
+  pub check-lent-fixed : Fixed (RightLent c a) (WrongLent c a)
+  check-lent-fixed = fixed (lentAcceptance c a) (lent-exactly c a) (lent-refused-exactly c a)
+
+module _ (m : Measure) (c : Columns) (a : Answers) where
+  -- "Settle a table into the answer columns." 1 to 7. What `answersOf` is, demand 2 says
+  pub settle : Owed Refused a (RightLent c a) (λ _. Accepted) (λ _. answersOf m c) (WrongLent c a) (settled m c a .result) (settled m c a .left)
+  settle = settle-owes m c a
+
+  -- "Check answers: yes exactly if they are the ones defined above, whoever wrote them." 1 to 7; "no, and not 8, for wrong ones"
+  pub check-answers : Owed verdict.Refused (tt {0}) ((RightLent c a × AllMean m c a) ⊎ (RightLent c a × ¬ AllMean m c a)) (elim [ inl _ ↦ verdict.Yes | inr _ ↦ verdict.No ]) (λ _. tt {0})
+      (WrongLent c a) (checked m c a) (tt {0})
+  unfolding checked
+  check-answers = go (lentAcceptance c a) (sameAnswers a (answersOf m c)) refl refl
+    where
+      go : (x : Acceptance) (b : Bool) → lentAcceptance c a ≡ x → sameAnswers a (answersOf m c) ≡ b
+          → Owed verdict.Refused (tt {0}) ((RightLent c a × AllMean m c a) ⊎ (RightLent c a × ¬ AllMean m c a)) (elim [ inl _ ↦ verdict.Yes | inr _ ↦ verdict.No ]) (λ _. tt {0})
+          (WrongLent c a) (told x b) (tt {0})
+      go (Refused r) b p q = Owed.refused (lent-refused-exactly c a r .0 p)
+      go Accepted true p q = Owed.accepted (inl (lent-exactly c a .0 p, same-exactly m c a p .0 q))
+      go Accepted false p q = Owed.accepted (inr (lent-exactly c a .0 p, same-fails m c a p .0 q))
+
+-- an entry is refused for no columns and no part; beyond the columns it is that of an unmade part
+module _ (a : Answers) (v : ℕ) where
+  pub entry : Owed (λ _. entryOf unmade) (tt {0}) (Unit {0}) (λ _. entryOf (labels a v)) (λ _. tt {0}) (λ _. ⊥) (entryOf (labels a v)) (tt {0})
+  entry = entry-owes a v
+
+  pub entry-behind : (n : ℕ) → Sized n a → n ≤ v → entryOf (labels a v) ≡ entryOf unmade
+  entry-behind n = entry-beyond a n v
+
+-- "Reprice an unstruck line to 0 to 1,000,000,000." 1 to 7, 9, 10, 8
+module _ (m : Measure) (c : Columns) (a : Answers) (e w : ℕ) where
+  pub reprice : Owed Refused (lentTo (c .own) a) (RightChange m c a e (w ≤ greatest)) (λ _. Accepted) (λ _. lentTo (set (c .own) e w) (answersOf m (withOwn c e w)))
+      (WrongChange m c a e (w ≤ greatest)) (repriced m c a e w .result) (lentTo (repriced m c a e w .own) (repriced m c a e w .left))
+  reprice = reprice-owes m c a e w
+
+  pub reprice-fixed : Fixed (RightChange m c a e (w ≤ greatest)) (WrongChange m c a e (w ≤ greatest))
+  reprice-fixed = fixed (repriceAcceptance m c a e w) (reprice-exactly m c a e w) (reprice-refused-exactly m c a e w)
+
+-- "and strike an unstruck line." 1 to 7, 9, 8
+module _ (m : Measure) (c : Columns) (a : Answers) (e : ℕ) where
+  pub strike : Owed Refused (lentTo (c .own) a) (RightChange m c a e (Unit {0})) (λ _. Accepted) (λ _. lentTo (set (c .own) e struck) (answersOf m (withOwn c e struck)))
+      (WrongChange m c a e (Unit {0})) (stricken m c a e .result) (lentTo (stricken m c a e .own) (stricken m c a e .left))
+  strike = strike-owes m c a e
+
+  pub strike-fixed : Fixed (RightChange m c a e (Unit {0})) (WrongChange m c a e (Unit {0}))
+  strike-fixed = fixed (strikeAcceptance m c a e) (strike-exactly m c a e) (strike-refused-exactly m c a e)
+
+-- "Print a bill." 1 to 7, 11, 8, 12, 13. "A bill returns its length; the room behind it keeps its bytes." What `billOf` is, the bill's rule says
+module _ (m : Measure) (c : Columns) (a : Answers) (v : ℕ) (room : List ℕ) where
+  pub bill : Owed extent.Refused room (RightBill m c a v (length room)) (λ _. extent.Length (length (billOf c a v))) (λ _. billOf c a v ++ drop (length (billOf c a v)) room)
+      (WrongBill m c a v (length room)) (billed m c a v room .result) (billed m c a v room .left)
+  bill = bill-owes m c a v room
+
+  pub bill-fixed : Fixed (RightBill m c a v (length room)) (WrongBill m c a v (length room))
+  bill-fixed = fixed (billAcceptance m c a v (length room)) (bill-exactly m c a v (length room)) (bill-refused-exactly m c a v (length room))
+
+-- "Reading text: 14 at the first text line that breaks a rule …, then 15." "Reading returns n, the measure and the counts, and writes that many places of each column; the
+-- rest keep theirs. Spans are written from offset 0 without gaps"
+module _ (text h o s t : List ℕ) where
+  pub read-table : Owed reading.Refused (lent h o s t) (RightRead text (lent h o s t))
+      (λ p. reading.Table (headerFor (p .permitted .measure) (closed (p .permitted .table))))
+      (λ p. let c = closed (p .permitted .table) in lent (filled (c .heads) h) (filled (c .own) o) (filled (c .spans) s) (filled (c .tails) t))
+      (WrongRead text (lent h o s t)) (readTable text h o s t .answer)
+      (let x = readTable text h o s t in lent (x .heads) (x .own) (x .spans) (x .tails))
+  read-table = reads text h o s t
+
+  pub read-table-fixed : Fixed (RightRead text (lent h o s t)) (WrongRead text (lent h o s t))
+  read-table-fixed = record { never = read-or-refused text (lent h o s t); once = refused-once text (lent h o s t) }
+
+-- "Writing: 1 to 6, then 15." "Writing fills the text room from its start and returns the text's length; the room behind it keeps its bytes"
+module _ (m : Measure) (c : Columns) (room : List ℕ) where
+  pub write-table : Owed extent.Refused room (RightWrite m c (length room)) (λ _. extent.Length (length (render m c))) (λ _. filled (render m c) room) (WrongWrite m c (length room))
+      (writeTable m c room .answer) (writeTable m c room .room)
+  write-table = write-owes m c room
+
+  pub write-table-fixed : Fixed (RightWrite m c (length room)) (WrongWrite m c (length room))
+  write-table-fixed = record { never = never; once = once }
+    where
+      never : {r : Refusal} → RightWrite m c (length room) → ¬ WrongWrite m c (length room) r
+      never p (WrongWrite.table q) = check-table-fixed c .never (p .table) q
+      never p (WrongWrite.room q h) = h (p .room)
+
+      once : {r s : Refusal} → WrongWrite m c (length room) r → WrongWrite m c (length room) s → r ≡ s
+      once (WrongWrite.table p) (WrongWrite.table q) = check-table-fixed c .once p q
+      once (WrongWrite.table p) (WrongWrite.room q h) = absurd (check-table-fixed c .never q p)
+      once (WrongWrite.room p h) (WrongWrite.table q) = absurd (check-table-fixed c .never p q)
+      once (WrongWrite.room p h) (WrongWrite.room q k) = refl
+
+-- "A refusal returns its number and a place": from the two the refusal can be told
+pub codes : (r s : Refusal) → codeOf r ≡ codeOf s → r ≡ s
+codes = codes-differ
