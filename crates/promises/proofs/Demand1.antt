@@ -8,22 +8,24 @@
 use mathlib.Core.Path.{_≡_, refl, sym, _∙_}
 use mathlib.Core.Bool.{Bool, true, false}
 use mathlib.Core.Logic.{_⊎_, inl, inr, _↔_}
-use mathlib.Core.List.{List, _++_}
-use Prim.Native.Nat.{ℕ, _*_, _≤_, _<_}
+use mathlib.Core.List.{List, [], _∷_, _++_}
+use Prim.Native.Nat.{ℕ, _≤_, _<_}
 use native.Mathlib.Omega.{arith}
 use lib.ListN.{length, set, take, drop}
+use borrow.Author.Tests.{ne-eqb}
 use Rattle.weights.specs.declared.Measure.{Measure}
 use Rattle.weights.specs.declared.Measure.the-variants.{Cost, Days}
 use Rattle.weights.specs.Figures.{greatest, struck}
 use Rattle.weights.specs.Labels.{unmade, entryOf}
 use Rattle.refusal.specs.declared.Refusal.{Refusal}
+use Rattle.refusal.specs.declared.Refusal.the-variants.{MeasureNumber}
 use Rattle.refusal.specs.declared.Acceptance.{Acceptance}
 use Rattle.refusal.specs.declared.Acceptance.the-variants.{Accepted, Refused}
-use Rattle.refusal.specs.declared.Verdict.{Verdict}
 use Rattle.refusal.specs.declared.Verdict.the-variants as verdict
 use Rattle.refusal.specs.declared.Extent.the-variants as extent
 use Rattle.refusal.specs.declared.Reading.the-variants as reading
-use Rattle.refusal.specs.Refusals.{codeOf, acceptanceResult, extentResult, measureOf}
+use Rattle.refusal.specs.declared.MeasureChoice.the-variants as choice
+use Rattle.refusal.specs.Refusals.{codeOf, resultOf, acceptanceResult, extentResult, measureOf}
 use Rattle.refusal.proofs.Codes.{codes-differ}
 use Rattle.columns.specs.Columns.{Answers, Sized, Columns, withOwn}
 use Rattle.columns.specs.Acceptance.{acceptance, lentAcceptance}
@@ -51,14 +53,14 @@ use Rattle.text.specs.Tables.{closed}
 use Rattle.text.specs.Render.{render}
 use Rattle.readtable.specs.Read.{readTable}
 use Rattle.roundtrip.specs.RoundTrip.{headerFor}
-use Rattle.roundtrip.specs.Reads.{Lent, lent, RightRead, WrongRead}
+use Rattle.roundtrip.specs.Reads.{lent, RightRead, WrongRead}
 use Rattle.roundtrip.proofs.Texts.{reads, read-or-refused, refused-once}
 use Rattle.writetable.specs.Write.{writeTable}
 use Rattle.writetable.specs.Asked.{RightWrite, WrongWrite}
 use Rattle.writetable.proofs.Asked.{write-owes}
-use Rattle.counter.specs.Results.{settledResult, repricedResult, mostRoom, billedResult}
+use Rattle.counter.specs.Results.{settledResult, repricedResult, billedResult}
 use Rattle.counter.specs.Decoded.{Decoded, settledExtent, repricedExtent, billedExtent}
-use Rattle.counter.specs.Numbers.{Among, SettleReturns, RepriceReturns, BillReturns, settleList, repriceList, billList}
+use Rattle.counter.specs.Numbers.{Among, SettleReturns, RepriceReturns, BillReturns}
 use Rattle.counter.proofs.Decoded.{settled-decoded, repriced-decoded, billed-decoded}
 use Rattle.counter.proofs.Numbers.{settle-numbers, reprice-numbers, bill-numbers}
 use Rattle.promises.specs.Fixed.{Fixed}
@@ -171,3 +173,54 @@ module _ (m : Measure) (c : Columns) (room : List ℕ) where
 -- "A refusal returns its number and a place": from the two the refusal can be told
 pub codes : (r s : Refusal) → codeOf r ≡ codeOf s → r ≡ s
 codes = codes-differ
+
+-- The counter programs in C: settle, reprice and bill ---------------------------------------------------------------------------------------------------------------
+
+-- "16: measure number from C not 0 (cost) or 1 (days)", tried before all others
+pub measure-numbers : (measureOf 0 ≡ choice.Measure Cost) × (measureOf 1 ≡ choice.Measure Days) × ((k : ℕ) → 1 < k → measureOf k ≡ choice.Refused MeasureNumber)
+measure-numbers = (refl, refl, λ k h. rw (ne-eqb k 0 (λ q. absurd (omega arith)), ne-eqb k 1 (λ q. absurd (omega arith))) refl)
+
+-- "It gets one unsigned 64-bit number: on acceptance 0, for a bill its length; on a refusal the refusal's number times 4,294,967,296, plus the place"
+module _ (m : Measure) (c : Columns) (a : Answers) where
+  pub c-settle : settledResult (choice.Measure m) c a ≡ record { result = acceptanceResult (settled m c a .result); left = settled m c a .left }
+  c-settle = refl
+
+  pub c-reprice : (e w : ℕ) → let x = repriced m c a e w in repricedResult (choice.Measure m) c a e w ≡ record { result = acceptanceResult (x .result); own = x .own; left = x .left }
+  c-reprice e w = refl
+
+  -- "A bill asked for from C counts room beyond 4,294,967,295 places as absent"
+  pub c-bill : (v : ℕ) (room : List ℕ) → let x = billed m c a v (take 4_294_967_295 room) in
+      billedResult (choice.Measure m) c a v room ≡ record { result = extentResult (x .result); left = x .left ++ drop 4_294_967_295 room }
+  c-bill v room = refl
+
+-- a measure that is refused leaves everything as lent
+module _ (r : Refusal) (c : Columns) (a : Answers) where
+  pub c-settle-refused : settledResult (choice.Refused r) c a ≡ record { result = resultOf (codeOf r); left = a }
+  c-settle-refused = refl
+
+  pub c-reprice-refused : (e w : ℕ) → repricedResult (choice.Refused r) c a e w ≡ record { result = resultOf (codeOf r); own = c .own; left = a }
+  c-reprice-refused e w = refl
+
+  pub c-bill-refused : (v : ℕ) (room : List ℕ) → billedResult (choice.Refused r) c a v room ≡ record { result = resultOf (codeOf r); left = room }
+  c-bill-refused v room = refl
+
+-- the number tells the answer: below 4,294,967,296 it is an acceptance and the bill's length, else quotient and remainder are the refusal's number and its place
+module _ (k : ℕ) (c : Columns) (a : Answers) where
+  pub c-settle-tells : Decoded (settledExtent (measureOf k) c a) (settledResult (measureOf k) c a .result)
+  c-settle-tells = settled-decoded k c a
+
+  pub c-reprice-tells : (e w : ℕ) → Decoded (repricedExtent (measureOf k) c a e w) (repricedResult (measureOf k) c a e w .result)
+  c-reprice-tells = repriced-decoded k c a
+
+  pub c-bill-tells : (v : ℕ) (room : List ℕ) → Decoded (billedExtent (measureOf k) c a v room) (billedResult (measureOf k) c a v room .result)
+  c-bill-tells = billed-decoded k c a
+
+-- the numbers that each call can return, and no others: some input is refused by each
+pub c-settle-numbers : (n : ℕ) → SettleReturns n ↔ Among n (16 ∷ 1 ∷ 2 ∷ 3 ∷ 4 ∷ 5 ∷ 6 ∷ 7 ∷ [])
+c-settle-numbers = settle-numbers
+
+pub c-reprice-numbers : (n : ℕ) → RepriceReturns n ↔ Among n (16 ∷ 1 ∷ 2 ∷ 3 ∷ 4 ∷ 5 ∷ 6 ∷ 7 ∷ 9 ∷ 10 ∷ 8 ∷ [])
+c-reprice-numbers = reprice-numbers
+
+pub c-bill-numbers : (n : ℕ) → BillReturns n ↔ Among n (16 ∷ 1 ∷ 2 ∷ 3 ∷ 4 ∷ 5 ∷ 6 ∷ 7 ∷ 11 ∷ 8 ∷ 12 ∷ 13 ∷ [])
+c-bill-numbers = bill-numbers

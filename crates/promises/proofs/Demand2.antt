@@ -1,0 +1,125 @@
+-- Demand 2. Every entry that settling leaves is the one that the paper defines by make-ups, and its figure is the provenance of document 000. Assumes nothing.
+use mathlib.Core.Path.{_≡_, sym, _∙_, subst}
+use mathlib.Core.Logic.{_↔_}
+use mathlib.Core.List.{List}
+use Prim.Native.Nat.{ℕ, _≤_, _<_}
+use Rattle.weights.specs.declared.Measure.{Measure}
+use Rattle.weights.specs.declared.Measure.the-variants.{Cost, Days}
+use Rattle.weights.specs.declared.Label.{Label}
+use Rattle.weights.specs.Measures.{algebra}
+use Rattle.weights.proofs.Laws.{lawful}
+use Rattle.refusal.specs.declared.Acceptance.the-variants.{Accepted}
+use Rattle.refusal.specs.declared.Verdict.the-variants.{Yes, No}
+use Rattle.columns.specs.Columns.{Answers, Sized, Columns, ownAt}
+use Rattle.columns.specs.Acceptance.{acceptance, lentAcceptance}
+use Rattle.columns.specs.Right.{RightTable, RightLent}
+use Rattle.columns.specs.Gaps.{Gapped, withTails}
+use Rattle.columns.proofs.Accepted.{columns-accept, columns-accepted}
+use Rattle.columns.proofs.Exactly.{accepted-exactly, lent-exactly}
+use Rattle.semiring.specs.Semiring.{Semiring}
+use Rattle.semiring.specs.Datalog.{Program, Provenance, BestWeight, representation}
+use Rattle.semiring.proofs.Datalog.{theorem-13}
+use Rattle.provenance.specs.Labelling.{Made}
+use Rattle.provenance.specs.Means.{Means}
+use Rattle.provenance.specs.BestFirst.{labels}
+use Rattle.provenance.specs.Support.{ChosenDerivation, Supports}
+use Rattle.provenance.specs.Provenance.{HasProvenance}
+use Rattle.provenance.proofs.Semirings.{computes}
+use Rattle.provenance.proofs.Meaning.{means-unique}
+use Rattle.tables.specs.Table.{hypergraph}
+use Rattle.settle.specs.Settling.{answersOf, settled}
+use Rattle.settle.specs.Checking.{checked}
+use Rattle.settle.specs.Demands.{Demand2}
+use Rattle.settle.specs.Defined.{AllMean}
+use Rattle.settle.specs.States.{StateMeans}
+use Rattle.settle.specs.Worth.{CostMeans, DaysMeans}
+use Rattle.settle.proofs.Demands.{answers-mean, answers-sized, settled-left, settled-result, demand-2, yes-only}
+use Rattle.settle.proofs.Exactly.{yes-exactly, no-exactly}
+use Rattle.settle.proofs.States.{settled-state}
+use Rattle.settle.proofs.Worth.{cost-provenance, days-provenance}
+use Rattle.settle.proofs.Gaps.{gaps-answers, gaps-settled, gaps-checked}
+
+-- What settling leaves -----------------------------------------------------------------------------------------------------------------------------------------------
+
+-- settling is accepted exactly where none of 1 to 7 applies: it turns no right table away
+pub settles-exactly : (m : Measure) (c : Columns) (a : Answers) → (settled m c a .result ≡ Accepted) ↔ RightLent c a
+settles-exactly m c a = (λ h. lent-exactly c a .0 (sym (settled-result m c a) ∙ h), λ h. settled-result m c a ∙ lent-exactly c a .1 h)
+
+-- the answers of a right table are those that the paper defines, and no other columns of n places are
+pub answers-exactly : (m : Measure) (c : Columns) → RightTable c → (a : Answers) → (a ≡ answersOf m c) ↔ (Sized (c .vertices) a × AllMean m c a)
+answers-exactly m c t a = (mean, same)
+  where
+    p : acceptance c ≡ Accepted
+    p = accepted-exactly c .1 t
+
+    mean : a ≡ answersOf m c → Sized (c .vertices) a × AllMean m c a
+    mean q = subst (λ (x : Answers). Sized (c .vertices) x × AllMean m c x) (sym q) (answers-sized m c p, λ v h. answers-mean m c p v .means)
+
+    same : Sized (c .vertices) a × AllMean m c a → a ≡ answersOf m c
+    same (s, all) = yes-only m c a (yes-exactly m c a .1 (record { accepted = columns-accept c a p s; means = all }))
+
+module _ (m : Measure) (c : Columns) (a : Answers) (h : settled m c a .result ≡ Accepted) where
+  pub settled-answers : settled m c a .left ≡ answersOf m c
+  settled-answers = settled-left m c a (sym (settled-result m c a) ∙ h)
+
+  -- "Make-ups, figures, depth": an entry is unmade where there is no make-up; else a thrifty make-up has its figure, depth and line, none weighs less, no thrifty one is
+  -- less deep, and no thrifty one of that depth has a lower line at its root
+  pub entry-means : (v : ℕ) → Means (algebra m) (hypergraph c) (ownAt c) (labels (settled m c a .left) v) v
+  entry-means v = demand-2 m c a h v .means
+
+  -- and this fixes it
+  pub entry-fixed : (v : ℕ) (l : Label) → Means (algebra m) (hypergraph c) (ownAt c) l v → l ≡ labels (settled m c a .left) v
+  entry-fixed v l p = means-unique (lawful m) l _ p (entry-means v)
+
+  -- "Its chosen make-up uses the chosen line of every part in it": every part that is not unmade has one; it is thrifty, and has the part's figure and depth
+  pub entry-chosen : (v : ℕ) → Made (labels (settled m c a .left) v)
+      → (x : ChosenDerivation (hypergraph c) (labels (settled m c a .left)) v) × Supports (algebra m) (ownAt c) (labels (settled m c a .left)) (x .tree)
+  entry-chosen v k = let g = demand-2 m c a h v in (g .chosen k, g .supports k)
+
+  -- a depth is at most n
+  pub entry-shallow : (v : ℕ) → labels (settled m c a .left) v .depth ≤ c .vertices
+  entry-shallow v = demand-2 m c a h v .shallow
+
+  -- "Each part's entry holds its state (made, over or unmade)": over if the plain sum of every make-up is above the ceiling, unmade if there is none; in days never over
+  pub entry-state : (v : ℕ) → StateMeans m c (labels (settled m c a .left) v) v
+  entry-state = settled-state m c a h
+
+  -- The source: the figure is Definition 5's provenance, the sum over all derivations of the product over leaves, up to the ceiling; unmade is the empty sum
+  pub entry-provenance : (v : ℕ) → HasProvenance (computes m) (hypergraph c) (ownAt c) (labels (settled m c a .left) v) v
+  entry-provenance v = demand-2 m c a h v .worth
+
+-- of cost in the tropical semiring, of days in the bottleneck semiring (document 003, Semiring 5)
+pub cost-worth : (c : Columns) (a : Answers) → settled Cost c a .result ≡ Accepted → (v : ℕ) → CostMeans c (labels (settled Cost c a .left) v) v
+cost-worth = cost-provenance
+
+pub days-worth : (c : Columns) (a : Answers) → settled Days c a .result ≡ Accepted → (v : ℕ) → DaysMeans c (labels (settled Days c a .left) v) v
+days-worth = days-provenance
+
+-- document 000's Theorem 13: provenance over the trees of a program is best weight in the hypergraph that represents it (Definitions 8 and 10)
+pub best-weight : {S : Semiring} (q : Program S) (t : q .Atom) (x : S .Carrier) → Provenance q t x ↔ BestWeight (representation q) t x
+best-weight = theorem-13
+
+-- The answer check ---------------------------------------------------------------------------------------------------------------------------------------------------
+
+module _ (m : Measure) (c : Columns) (a : Answers) where
+  -- "yes exactly if they are the ones defined above, whoever wrote them"
+  pub says-yes : (checked m c a ≡ Yes) ↔ (RightLent c a × AllMean m c a)
+  says-yes = (
+    λ h. let d = yes-exactly m c a .0 h in (lent-exactly c a .0 (d .accepted), d .means),
+    λ (l, all). yes-exactly m c a .1 (record { accepted = lent-exactly c a .1 l; means = all }),
+  )
+
+  -- "Checking answers returns no, and not 8, for wrong ones"
+  pub says-no : (checked m c a ≡ No) ↔ (RightLent c a × ¬ AllMean m c a)
+  says-no = (λ h. let d = no-exactly m c a .0 h in (lent-exactly c a .0 (d .0), d .1), λ (l, n). no-exactly m c a .1 (lent-exactly c a .1 l, n))
+
+-- Gaps -----------------------------------------------------------------------------------------------------------------------------------------------------------------
+
+-- "Gaps may stand between spans and their contents are never looked at": with other contents in the gaps settling and the answer check have the same outcome, accepted or
+-- refused
+module _ (m : Measure) (c : Columns) (tails : List ℕ) (g : Gapped c tails) (a : Answers) where
+  pub settles-over-gaps : settled m c a ≡ settled m (withTails c tails) a
+  settles-over-gaps = gaps-settled m c tails g a
+
+  pub checks-over-gaps : checked m c a ≡ checked m (withTails c tails) a
+  checks-over-gaps = gaps-checked m c tails g a
