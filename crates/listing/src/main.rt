@@ -8,7 +8,7 @@ use report::MOST_OUTPUT;
 ghost use mathlib.Core.Path.{_≡_};
 ghost use lib.ListN.{length};
 ghost use Rattle.columns.specs.Filled.{filled};
-ghost use Rattle.listing.specs.Printed.{printed};
+ghost use Rattle.input.specs.Printed.{printed};
 
 // Puts at the room's start what is printed of the bytes that were read. After a read that failed
 // none counts: the start of a table is not the table.

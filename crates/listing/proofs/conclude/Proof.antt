@@ -14,7 +14,7 @@ use borrow.Author.Tests.{ltb-true}
 use denote.Ref.{now}
 use Rattle.columns.specs.Filled.{filled}
 use Rattle.report.specs.Report.{report}
-use Rattle.listing.specs.Printed.{printed}
+use Rattle.input.specs.Printed.{printed}
 use Rattle.listing.proofs.conclude.Statement.{statement}
 use Rattle.listing.proofs.conclude.Tie as tie
 

@@ -11,8 +11,8 @@ use Rattle.text.specs.Render.{digitsOn, digits}
 use Rattle.report.specs.Report.{refusedWord, refusedLine, report}
 use Rattle.report.proofs.Reports.{report-long}
 use Rattle.report.proofs.Examples.{empty-refused}
 use Rattle.input.specs.Input.{bufferLength, Ended}
-use Rattle.listing.specs.Printed.{printed}
+use Rattle.input.specs.Printed.{printed}
 
 -- whatever was read before the failure
 pub failed-refused : (input : List ℕ) (k : ℕ) → printed input (negsuc k) ≡ refusedLine (Text (record { 0 = 1 }))

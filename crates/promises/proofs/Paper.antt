@@ -1,0 +1,259 @@
+-- The rest of document 01, in its order. What it says of the calls' results stands in Demand1, of entries in Demand2. Assumes nothing.
+use mathlib.Core.Path.{_≡_, refl}
+use mathlib.Core.Bool.{true, false}
+use mathlib.Core.Logic.{_⊎_, _↔_}
+use mathlib.Core.List.{List, [], _∷_, List·Memᴰ}
+use Prim.Native.Nat.{ℕ, _+_, _≤_, _<_}
+use native.Mathlib.Omega.{arith}
+use borrow.Author.Tests.{eqb-false, not-true}
+use lib.ListN.{length, set, take, drop}
+use lib.IntN.{ℤ, pos}
+use Rattle.weights.specs.declared.Measure.{Measure}
+use Rattle.weights.specs.declared.Measure.the-variants.{Cost, Days}
+use Rattle.weights.specs.declared.State.the-variants.{Made, Over, Unmade}
+use Rattle.weights.specs.declared.Label.{Label}
+use Rattle.weights.specs.Figures.{struck, ceiling, over, capped}
+use Rattle.weights.specs.Measures.{Algebra, cost, days, algebra, weigh}
+use Rattle.weights.specs.Labels.{stateOf, entryOf, aheadOf}
+use Rattle.weights.specs.Laws.{NoWorse, InRange, Lawful}
+use Rattle.weights.specs.Order.{Ranked}
+use Rattle.weights.proofs.Laws.{lawful}
+use Rattle.weights.proofs.Weighing.{Pointwise, weigh-mono, superior}
+use Rattle.weights.proofs.Order.{ranked}
+use Rattle.weights.proofs.States.{unmade-state, over-state, made-state}
+use Rattle.refusal.specs.declared.Refusal.{Refusal}
+use Rattle.refusal.specs.declared.Refusal.the-variants.{Text, InputLength}
+use Rattle.refusal.specs.declared.Header.{Header}
+use Rattle.refusal.specs.declared.Acceptance.the-variants.{Accepted, Refused}
+use Rattle.refusal.specs.declared.Verdict.the-variants.{Yes}
+use Rattle.refusal.specs.declared.Extent.the-variants as extent
+use Rattle.refusal.specs.declared.Reading.the-variants as reading
+use Rattle.columns.specs.Columns.{Answers, Columns, columns, ownAt, withOwn}
+use Rattle.columns.specs.Acceptance.{acceptance}
+use Rattle.columns.specs.Filled.{filled}
+use Rattle.columns.specs.Gaps.{Gapped, withTails}
+use Rattle.columns.specs.Right.{RightTable, WrongTable, RightLent}
+use Rattle.columns.proofs.Accepted.{both-accepted}
+use Rattle.columns.proofs.Exactly.{accepted-exactly, refused-exactly, lent-exactly}
+use Rattle.columns.proofs.Gaps.{gaps-accepted}
+use Rattle.provenance.specs.Hypergraph.{Hypergraph, Derivation, Derivations, node, none, more, weight, depth, deepest, root, listing}
+use Rattle.provenance.specs.Labelling.{greatestDepth}
+use Rattle.provenance.specs.Counting.{total}
+use Rattle.provenance.specs.BestFirst.{labels}
+use Rattle.tables.specs.Table.{hypergraph}
+use Rattle.settle.specs.Settling.{answersOf}
+use Rattle.settle.specs.Checking.{checked}
+use Rattle.settle.specs.Demands.{Demand2}
+use Rattle.settle.specs.Defined.{AllMean}
+use Rattle.settle.specs.States.{StateMeans}
+use Rattle.settle.proofs.States.{means-state}
+use Rattle.reprice.specs.Repricing.{repriced, stricken}
+use Rattle.reprice.proofs.Changes.{reprice-leaves, strike-leaves}
+use Rattle.bill.specs.Billing.{billOf, partAcceptance, billAcceptance, billed}
+use Rattle.bill.specs.Bills.{IsBill, Printed}
+use Rattle.bill.specs.Listing.{amount}
+use Rattle.bill.proofs.Asked.{bill-exactly}
+use Rattle.bill.proofs.Bills.{part-accepted, is-bill, bill-printed}
+use Rattle.bill.proofs.Listing.{listing-amount}
+use Rattle.text.specs.Tables.{Table, tableOf, closed}
+use Rattle.text.specs.Render.{render, Permitted}
+use Rattle.text.proofs.Permitted.{wrong-unpermitted}
+use Rattle.readtable.specs.Read.{columnsRead, readTable}
+use Rattle.roundtrip.specs.RoundTrip.{Room, headerFor, filledWith}
+use Rattle.roundtrip.proofs.RoundTrip.{read-after-write, write-after-read, read-accepted}
+use Rattle.roundtrip.proofs.Texts.{permitted-same}
+use Rattle.writetable.specs.Write.{writeOutcome, writeTable}
+use Rattle.reader.specs.Walk.{Walks, Counted}
+use Rattle.reader.proofs.Walking.{walk-permitted, permitted-walk}
+use Rattle.report.specs.Report.{list, refusedLine, report}
+use Rattle.report.specs.Prints.{Prints, ReadsBack}
+use Rattle.report.specs.Examples.{costText, costList, daysText, daysList}
+use Rattle.report.proofs.Closed.{answers-closed}
+use Rattle.report.proofs.Reports.{report-long}
+use Rattle.report.proofs.Prints.{prints, reads-back}
+use Rattle.report.proofs.Examples.{worked-cost, worked-days, empty-refused}
+use Rattle.input.specs.Input.{Ended}
+use Rattle.input.specs.Printed.{printed}
+use Rattle.input.proofs.Whole.{whole-reported}
+use Rattle.examples.specs.Case.{AllHold}
+use Rattle.examples.specs.Paper.{cases}
+use Rattle.examples.proofs.Paper.{every-case-holds}
+
+-- The table ----------------------------------------------------------------------------------------------------------------------------------------------------------
+
+module _ (c : Columns) where
+  -- "There are n parts, … n from 0 to 1,024. There are 0 to 4,096 lines" and so on: "A table is accepted if none of the refusals about its own columns (here 1 to 6) applies"
+  pub table-accepted : (acceptance c ≡ Accepted) ↔ RightTable c
+  table-accepted = accepted-exactly c
+
+  pub table-refused : (r : Refusal) → (acceptance c ≡ Refused r) ↔ WrongTable c r
+  table-refused = refused-exactly c
+
+  -- "The mark 1,000,000,001 means struck: that line then yields nothing"
+  pub struck-yields-nothing : (v : ℕ) (d : Derivation (hypergraph c) v) → ¬ (ownAt c (root d) ≡ 1_000_000_001)
+  unfolding root
+  struck-yields-nothing v (node e s h ds) = eqb-false (ownAt c e) struck (not-true _ (s .unstruck))
+
+  -- "Gaps may stand between spans and their contents are never looked at"
+  pub gaps-unseen : (tails : List ℕ) → Gapped c tails → acceptance c ≡ acceptance (withTails c tails)
+  gaps-unseen = gaps-accepted c
+
+  -- nor does closing them change an answer
+  pub gaps-closed : (m : Measure) → acceptance c ≡ Accepted → answersOf m (closed c) ≡ answersOf m c
+  gaps-closed m = answers-closed m c
+
+-- Make-ups, figures, depth -------------------------------------------------------------------------------------------------------------------------------------------
+
+-- "A sum above the ceiling, 1,000,000,000,000, becomes 1,000,000,000,001"
+pub sum-capped : (x : ℕ) → (x ≤ ceiling → capped x ≡ x) × (ceiling < x → capped x ≡ over)
+sum-capped x = (λ h. omega arith, λ h. omega arith)
+
+module _ {H : Hypergraph} (own : ℕ → ℕ) {v : ℕ} (d : Derivation H v) where
+  -- "Cost: the line's own figure plus the figures of its parts' make-ups, each occurrence counted": the plain sum along the make-up's lines, capped once
+  pub cost-is : weight cost own d ≡ capped (total own (listing d))
+  cost-is = listing-amount own Cost d
+
+  -- "Days: the greatest of the line's own figure and the figures of its parts' make-ups"
+  pub days-is : weight days own d ≡ greatestDepth own (listing d)
+  days-is = listing-amount own Days d
+
+-- "A line with no parts has depth 1, any other 1 more than its deepest part"
+pub depth-is : {H : Hypergraph} {v : ℕ} (d : Derivation H v) → (H .tail (root d) ≡ [] → depth d ≡ 1) × (1 ≤ depth d)
+unfolding root depth deepest
+depth-is {H} (node e s h ds) = (λ p. lone (H .tail e) ds p, omega arith)
+  where
+    lone : (vs : List ℕ) (ds : Derivations H vs) → vs ≡ [] → deepest ds + 1 ≡ 1
+    lone [] none p = refl
+    lone (v ∷ vs) (more d ds) p = let z : _≡_ {A = ℕ} 1 0 = cc in absurd (omega arith)
+
+-- "the state follows from them: unmade at depth 0, else over at figure 1,000,000,000,001, else made"
+module _ (w d : ℕ) where
+  pub state-unmade : (stateOf w d ≡ Unmade) ↔ (d ≡ 0)
+  state-unmade = unmade-state w d
+
+  pub state-over : (stateOf w d ≡ Over) ↔ ((0 < d) × (w ≡ 1_000_000_000_001))
+  state-over = over-state w d
+
+  pub state-made : (stateOf w d ≡ Made) ↔ ((0 < d) × ¬ (w ≡ 1_000_000_000_001))
+  state-made = made-state w d
+
+-- "Laws of cost and days that agree are established a single time, over a measure": of a line's figure, and of the order of labels
+pub laws : (m : Measure) → Lawful (algebra m)
+laws = lawful
+
+module _ {A : Algebra} (L : Lawful A) where
+  pub monotone : {own own′ : ℕ} {xs ys : List ℕ} → NoWorse (A .leq) own own′ → Pointwise A xs ys → NoWorse (A .leq) (weigh A own xs) (weigh A own′ ys)
+  monotone = weigh-mono L
+
+  pub no-better-than-its-parts : (own : ℕ) {x : ℕ} {xs : List ℕ} → List·Memᴰ x xs → InRange A x → NoWorse (A .leq) x (weigh A own xs)
+  no-better-than-its-parts = superior L
+
+  pub labels-ordered : (a b : Label) → Ranked A a b (aheadOf A a b)
+  labels-ordered = ranked L
+
+-- The calls ------------------------------------------------------------------------------------------------------------------------------------------------------------
+
+-- "both change the own figure, and leave in the answer columns the answers of the table as it then is": those of demand 2, so the next call's check says yes
+module _ (m : Measure) (c : Columns) (a : Answers) (e w : ℕ) (h : repriced m c a e w .result ≡ Accepted) where
+  pub reprice-stores : repriced m c a e w .own ≡ set (c .own) e w
+  reprice-stores = reprice-leaves m c a e w h .stored
+
+  pub reprice-means : (v : ℕ) → Demand2 m (withOwn c e w) (labels (repriced m c a e w .left)) v
+  reprice-means = reprice-leaves m c a e w h .means
+
+  pub reprice-states : (v : ℕ) → StateMeans m (withOwn c e w) (labels (repriced m c a e w .left) v) v
+  reprice-states = reprice-leaves m c a e w h .states
+
+  pub reprice-checks : checked m (withOwn c e w) (repriced m c a e w .left) ≡ Yes
+  reprice-checks = reprice-leaves m c a e w h .checks
+
+module _ (m : Measure) (c : Columns) (a : Answers) (e : ℕ) (h : stricken m c a e .result ≡ Accepted) where
+  pub strike-stores : stricken m c a e .own ≡ set (c .own) e struck
+  strike-stores = strike-leaves m c a e h .stored
+
+  pub strike-means : (v : ℕ) → Demand2 m (withOwn c e struck) (labels (stricken m c a e .left)) v
+  strike-means = strike-leaves m c a e h .means
+
+  pub strike-states : (v : ℕ) → StateMeans m (withOwn c e struck) (labels (stricken m c a e .left) v) v
+  strike-states = strike-leaves m c a e h .states
+
+  pub strike-checks : checked m (withOwn c e struck) (stricken m c a e .left) ≡ Yes
+  strike-checks = strike-leaves m c a e h .checks
+
+module _ (m : Measure) (c : Columns) (a : Answers) (v : ℕ) where
+  -- "Print a bill: the line numbers of the chosen make-up, root first, then the bill of each listed part, in the order listed", of every part that has a make-up
+  pub bill-is : RightLent c a → v < c .vertices → AllMean m c a → Derivation (hypergraph c) v → IsBill m c (labels a) v (billOf c a v)
+  unfolding billAcceptance
+  bill-is l h all d =
+      let n = length (billOf c a v) in
+      let p = bill-exactly m c a v n .1 (record { lent = l; part = h; answers = all; made = d; room = omega arith }) in
+      is-bill (part-accepted m c a v (both-accepted (partAcceptance m c a v) _ p .0))
+
+  -- "A bill returns its length; the room behind it keeps its bytes"
+  pub bill-returns : (room : List ℕ) (size : ℕ) → billed m c a v room .result ≡ extent.Length size → Printed m c a v room size (billed m c a v room .left)
+  bill-returns = bill-printed m c a v
+
+-- "Parts that are over have a bill too"
+pub over-has-a-bill : (c : Columns) (a : Answers) (v : ℕ) → RightLent c a → v < c .vertices → AllMean Cost c a → entryOf (labels a v) .state ≡ Over → IsBill Cost c (labels a) v (billOf c a v)
+over-has-a-bill c a v l h all s =
+    let d = means-state Cost c (labels a v) v (accepted-exactly c .1 (l .table)) (all v h) .over .0 s in
+    bill-is Cost c a v l h all (d .shown)
+
+-- The text -------------------------------------------------------------------------------------------------------------------------------------------------------------
+
+-- a text has one table, gaps aside
+pub one-table : (text : List ℕ) (p q : Permitted text) → closed (p .table) ≡ closed (q .table)
+one-table = permitted-same
+
+-- "Other programs walk the text with a reader that holds the lent text and its place": a walk reaches the end, its counts kept, exactly if the text is permitted
+pub walked-is-permitted : (s : List ℕ) (t : Table) → Walks s t → Counted t → Permitted s
+walked-is-permitted = walk-permitted
+
+pub permitted-is-walked : (s : List ℕ) → Permitted s → (t : Table) × Walks s t × Counted t
+permitted-is-walked = permitted-walk
+
+-- "Read after write gives the table with its gaps closed", and so the same answers
+module _ (m : Measure) (c : Columns) (room : List ℕ) (k : ℕ) (h o s t : List ℕ) (p : writeTable m c room .answer ≡ extent.Length k) (q : Room (closed c) h o s t) where
+  pub read-after-writing : readTable (take k (writeTable m c room .room)) h o s t ≡ filledWith (closed c) m h o s t
+  read-after-writing = read-after-write m c room k h o s t p q
+
+  pub reads-the-same : ReadsBack m c (readTable (take k (writeTable m c room .room)) h o s t)
+  reads-the-same = reads-back m c room k h o s t p q
+
+-- "write after read gives the text back"
+module _ (text h o s t : List ℕ) (g : Header) (p : readTable text h o s t .answer ≡ reading.Table g) where
+  pub write-after-reading : (room : List ℕ) → length text ≤ length room
+      → writeTable (g .measure) (columnsRead g (readTable text h o s t)) room ≡ writeOutcome (extent.Length (length text)) (filled text room)
+  write-after-reading room = write-after-read text h o s t room g p
+
+  pub read-is-accepted : acceptance (columnsRead g (readTable text h o s t)) ≡ Accepted
+  read-is-accepted = read-accepted text h o s t g p
+
+-- A table priced whole ---------------------------------------------------------------------------------------------------------------------------------------------
+
+-- what the listing program prints of an input: 17 if it is too long, the list if it is permitted, 14 at the first line that breaks a rule
+pub program-prints : (input : List ℕ) → Prints input (report input)
+program-prints = prints
+
+-- "The program: 17 first": "65,536 bytes", whatever they are
+pub seventeen-first : (input : List ℕ) → length input ≡ 65_536 → report input ≡ refusedLine InputLength
+seventeen-first input h = report-long input (omega arith)
+
+-- and a list is printed only of an input that was read to its end
+pub program-reads-all : (input : List ℕ) (last : ℤ) → Ended (length input) last
+    → (printed input last ≡ refusedLine (Text (record { 0 = 1 }))) ⊎ ((printed input last ≡ refusedLine InputLength) ⊎ ((last ≡ pos 0) × (printed input last ≡ report input)))
+program-reads-all = whole-reported
+
+-- the worked text and its list, byte for byte, in cost and in days; "empty text, place 1"
+pub worked-list : report costText ≡ costList
+worked-list = worked-cost
+
+pub worked-list-in-days : report daysText ≡ daysList
+worked-list-in-days = worked-days
+
+pub empty-text : report [] ≡ 114 ∷ 101 ∷ 102 ∷ 117 ∷ 115 ∷ 101 ∷ 100 ∷ 32 ∷ 49 ∷ 52 ∷ 32 ∷ 49 ∷ 10 ∷ []
+empty-text = empty-refused
+
+-- "Proved examples, gathered into one list that a single theorem about the definitions covers": P1 to P10
+pub examples : AllHold cases
+examples = every-case-holds
