@@ -36,7 +36,7 @@ use Rattle.columns.specs.Right.{RightTable, WrongTable, RightLent}
 use Rattle.columns.proofs.Accepted.{both-accepted}
 use Rattle.columns.proofs.Exactly.{accepted-exactly, refused-exactly, lent-exactly}
 use Rattle.columns.proofs.Gaps.{gaps-accepted}
-use Rattle.provenance.specs.Hypergraph.{Hypergraph, Derivation, Derivations, node, none, more, weight, depth, deepest, root, listing}
+use Rattle.provenance.specs.Hypergraph.{Hypergraph, Stands, Derivation, Derivations, node, none, more, weight, depth, deepest, root, listing}
 use Rattle.provenance.specs.Labelling.{greatestDepth}
 use Rattle.provenance.specs.Counting.{total}
 use Rattle.provenance.specs.BestFirst.{labels}
@@ -57,7 +57,6 @@ use Rattle.bill.proofs.Bills.{part-accepted, is-bill, bill-printed}
 use Rattle.bill.proofs.Listing.{listing-amount}
 use Rattle.text.specs.Tables.{Table, tableOf, closed}
 use Rattle.text.specs.Render.{render, Permitted}
-use Rattle.text.proofs.Permitted.{wrong-unpermitted}
 use Rattle.readtable.specs.Read.{columnsRead, readTable}
 use Rattle.roundtrip.specs.RoundTrip.{Room, headerFor, filledWith}
 use Rattle.roundtrip.proofs.RoundTrip.{read-after-write, write-after-read, read-accepted}
@@ -69,9 +68,8 @@ use Rattle.report.specs.Report.{list, refusedLine, report}
 use Rattle.report.specs.Prints.{Prints, ReadsBack}
 use Rattle.report.specs.Examples.{costText, costList, daysText, daysList}
 use Rattle.report.proofs.Closed.{answers-closed}
-use Rattle.report.proofs.Reports.{report-long}
 use Rattle.report.proofs.Prints.{prints, reads-back}
-use Rattle.report.proofs.Examples.{worked-cost, worked-days, empty-refused}
+use Rattle.report.proofs.Examples.{worked-cost, worked-days}
 use Rattle.input.specs.Input.{Ended}
 use Rattle.input.specs.Printed.{printed}
 use Rattle.input.proofs.Whole.{whole-reported}
@@ -118,13 +116,18 @@ module _ {H : Hypergraph} (own : ℕ → ℕ) {v : ℕ} (d : Derivation H v) whe
   days-is = listing-amount own Days d
 
 -- "A line with no parts has depth 1, any other 1 more than its deepest part"
-pub depth-is : {H : Hypergraph} {v : ℕ} (d : Derivation H v) → (H .tail (root d) ≡ [] → depth d ≡ 1) × (1 ≤ depth d)
-unfolding root depth deepest
-depth-is {H} (node e s h ds) = (λ p. lone (H .tail e) ds p, omega arith)
-  where
-    lone : (vs : List ℕ) (ds : Derivations H vs) → vs ≡ [] → deepest ds + 1 ≡ 1
-    lone [] none p = refl
-    lone (v ∷ vs) (more d ds) p = let z : _≡_ {A = ℕ} 1 0 = cc in absurd (omega arith)
+module _ {H : Hypergraph} {v : ℕ} (e : ℕ) (s : Stands H e) (h : H .head e ≡ v) (ds : Derivations H (H .tail e)) where
+  pub depth-is : depth (node {v = v} e s h ds) ≡ deepest ds + 1
+  unfolding depth
+  depth-is = refl
+
+  pub depth-alone : H .tail e ≡ [] → depth (node {v = v} e s h ds) ≡ 1
+  unfolding depth deepest
+  depth-alone p = alone (H .tail e) ds p
+    where
+      alone : (vs : List ℕ) (ds : Derivations H vs) → vs ≡ [] → deepest ds + 1 ≡ 1
+      alone [] none q = refl
+      alone (w ∷ vs) (more d ds) q = let z : _≡_ {A = ℕ} 1 0 = cc in absurd (omega arith)
 
 -- "the state follows from them: unmade at depth 0, else over at figure 1,000,000,000,001, else made"
 module _ (w d : ℕ) where
@@ -235,24 +238,17 @@ module _ (text h o s t : List ℕ) (g : Header) (p : readTable text h o s t .ans
 pub program-prints : (input : List ℕ) → Prints input (report input)
 program-prints = prints
 
--- "The program: 17 first": "65,536 bytes", whatever they are
-pub seventeen-first : (input : List ℕ) → length input ≡ 65_536 → report input ≡ refusedLine InputLength
-seventeen-first input h = report-long input (omega arith)
-
 -- and a list is printed only of an input that was read to its end
 pub program-reads-all : (input : List ℕ) (last : ℤ) → Ended (length input) last
     → (printed input last ≡ refusedLine (Text (record { 0 = 1 }))) ⊎ ((printed input last ≡ refusedLine InputLength) ⊎ ((last ≡ pos 0) × (printed input last ≡ report input)))
 program-reads-all = whole-reported
 
--- the worked text and its list, byte for byte, in cost and in days; "empty text, place 1"
+-- the worked text and its list, byte for byte, in cost and in days
 pub worked-list : report costText ≡ costList
 worked-list = worked-cost
 
 pub worked-list-in-days : report daysText ≡ daysList
 worked-list-in-days = worked-days
-
-pub empty-text : report [] ≡ 114 ∷ 101 ∷ 102 ∷ 117 ∷ 115 ∷ 101 ∷ 100 ∷ 32 ∷ 49 ∷ 52 ∷ 32 ∷ 49 ∷ 10 ∷ []
-empty-text = empty-refused
 
 -- "Proved examples, gathered into one list that a single theorem about the definitions covers": P1 to P10
 pub examples : AllHold cases

@@ -1,0 +1,131 @@
+-- "What is turned away": the small example of each of the seventeen refusals. When each applies, and in which order, Demand1 says. Assumes nothing.
+use mathlib.Core.Path.{_≡_, refl}
+use mathlib.Core.List.{List, [], _∷_}
+use Prim.Native.Nat.{ℕ}
+use native.Mathlib.Omega.{arith}
+use lib.ListN.{length}
+use Rattle.weights.specs.declared.Measure.the-variants.{Cost}
+use Rattle.weights.specs.Measures.{fold, weigh}
+use Rattle.weights.specs.Labels.{aheadOf}
+use Rattle.refusal.specs.declared.Refusal.{Refusal}
+use Rattle.refusal.specs.declared.Refusal.the-variants.{TooManyVertices, Lengths, Head, Own, Span, Tail, AnswerLength, WrongAnswers, NoSuchEdge, NewWeight, NoSuchVertex, Underivable, BillRoom, Text, TextRoom, MeasureNumber, InputLength}
+use Rattle.refusal.specs.declared.Acceptance.the-variants.{Refused}
+use Rattle.refusal.specs.declared.Extent.the-variants as extent
+use Rattle.refusal.specs.declared.Reading.the-variants as reading
+use Rattle.refusal.specs.declared.MeasureChoice.the-variants as choice
+use Rattle.refusal.specs.Refusals.{measureOf}
+use Rattle.columns.specs.Columns.{Answers, columns, answers}
+use Rattle.columns.specs.Acceptance.{allBelow, edgeAcceptance, edgesAcceptance, acceptance, lentAcceptance}
+use Rattle.columns.specs.Same.{equal, sameAnswers}
+use Rattle.provenance.specs.Labelling.{each, greatestDepth, noneZero, offerOf}
+use Rattle.provenance.specs.BestFirst.{opening, next, turn, turns, best-first}
+use Rattle.provenance.specs.Support.{bills, bill}
+use Rattle.settle.specs.Settling.{answersOf}
+use Rattle.reprice.specs.Repricing.{lineAcceptance, repriceAcceptance, repriced}
+use Rattle.bill.specs.Billing.{billOf, partAcceptance, billAcceptance, billed}
+use Rattle.text.specs.Tables.{listedInAll}
+use Rattle.text.specs.Render.{word, firstWord, Permitted}
+use Rattle.text.specs.Machine.{limit, lineAt, digitOf, grown, instead, after, spell, ended, step, run, finish, parse}
+use Rattle.text.proofs.Permitted.{wrong-unpermitted}
+use Rattle.readtable.specs.Read.{roomFor, readInto, readTable}
+use Rattle.report.specs.Report.{refusedLine, report}
+use Rattle.report.specs.Examples.{costText}
+use Rattle.report.proofs.Reports.{report-long}
+use Rattle.examples.specs.Paper.{whole}
+
+-- "n = 1,025"
+pub refusal-1 : acceptance (columns 1_025 [] [] [] []) ≡ Refused TooManyVertices
+unfolding acceptance
+refusal-1 = refl
+
+-- "2 heads, 1 own figure"
+pub refusal-2 : acceptance (columns 5 (0 ∷ 1 ∷ []) (0 ∷ []) (0 ∷ 0 ∷ 0 ∷ 0 ∷ []) []) ≡ Refused Lengths
+unfolding acceptance
+refusal-2 = refl
+
+-- "n = 5, head 5"
+pub refusal-3 : acceptance (columns 5 (5 ∷ []) (0 ∷ []) (0 ∷ 0 ∷ []) []) ≡ Refused (Head (record { 0 = 0 }))
+unfolding acceptance edgesAcceptance edgeAcceptance
+refusal-3 = refl
+
+-- "1,000,000,002"
+pub refusal-4 : acceptance (columns 5 (0 ∷ []) (1_000_000_002 ∷ []) (0 ∷ 0 ∷ []) []) ≡ Refused (Own (record { 0 = 0 }))
+unfolding acceptance edgesAcceptance edgeAcceptance
+refusal-4 = refl
+
+-- "spans (0,2), (1,1)"
+pub refusal-5 : acceptance (columns 5 (0 ∷ 1 ∷ []) (0 ∷ 0 ∷ []) (0 ∷ 2 ∷ 1 ∷ 1 ∷ []) (0 ∷ 1 ∷ [])) ≡ Refused (Span (record { 0 = 1 }))
+unfolding acceptance edgesAcceptance edgeAcceptance allBelow
+refusal-5 = refl
+
+-- "n = 5, part 9"
+pub refusal-6 : acceptance (columns 5 (0 ∷ []) (0 ∷ []) (0 ∷ 1 ∷ []) (9 ∷ [])) ≡ Refused (Tail (record { 0 = 0 }))
+unfolding acceptance edgesAcceptance edgeAcceptance allBelow
+refusal-6 = refl
+
+-- "n = 5, 4 places"
+pub refusal-7 : lentAcceptance whole (answers (0 ∷ 0 ∷ 0 ∷ 0 ∷ []) (0 ∷ 0 ∷ 0 ∷ 0 ∷ []) (0 ∷ 0 ∷ 0 ∷ 0 ∷ [])) ≡ Refused AnswerLength
+unfolding lentAcceptance acceptance edgesAcceptance edgeAcceptance allBelow
+refusal-7 = refl
+
+-- the answers of the table priced whole, with this figure of part 3
+abbrev pub with-figure : ℕ → Answers
+with-figure w = answers (1200 ∷ 300 ∷ 2000 ∷ w ∷ 0 ∷ []) (1 ∷ 1 ∷ 2 ∷ 3 ∷ 0 ∷ []) (0 ∷ 1 ∷ 2 ∷ 4 ∷ 0 ∷ [])
+
+-- "a figure off by 1"
+pub refusal-8 : repriced Cost whole (with-figure 2601) 1 500 .result ≡ Refused WrongAnswers
+unfolding repriced repriceAcceptance lineAcceptance sameAnswers equal lentAcceptance acceptance edgesAcceptance edgeAcceptance allBelow answersOf best-first turns turn next opening offerOf noneZero aheadOf weigh fold each greatestDepth
+refusal-8 = refl
+
+-- "line 6 of 6"
+pub refusal-9 : repriced Cost whole (with-figure 2600) 6 500 .result ≡ Refused NoSuchEdge
+unfolding repriced repriceAcceptance lineAcceptance lentAcceptance acceptance edgesAcceptance edgeAcceptance allBelow
+refusal-9 = refl
+
+-- "the struck mark"
+pub refusal-10 : repriced Cost whole (with-figure 2600) 1 1_000_000_001 .result ≡ Refused NewWeight
+unfolding repriced repriceAcceptance lineAcceptance lentAcceptance acceptance edgesAcceptance edgeAcceptance allBelow
+refusal-10 = refl
+
+-- "part 5 of 5"
+pub refusal-11 : billed Cost whole (with-figure 2600) 5 [] .result ≡ extent.Refused NoSuchVertex
+unfolding billed billAcceptance partAcceptance lentAcceptance acceptance edgesAcceptance edgeAcceptance allBelow
+refusal-11 = refl
+
+-- "part 4 below"
+pub refusal-12 : billed Cost whole (with-figure 2600) 4 [] .result ≡ extent.Refused Underivable
+unfolding billed billAcceptance partAcceptance sameAnswers equal lentAcceptance acceptance edgesAcceptance edgeAcceptance allBelow answersOf best-first turns turn next opening offerOf noneZero aheadOf weigh fold each greatestDepth
+refusal-12 = refl
+
+-- "6 lines, room 5"
+pub refusal-13 : billed Cost whole (with-figure 2600) 3 (0 ∷ 0 ∷ 0 ∷ 0 ∷ 0 ∷ []) .result ≡ extent.Refused BillRoom
+unfolding billed billAcceptance partAcceptance billOf bill bills sameAnswers equal lentAcceptance acceptance edgesAcceptance edgeAcceptance allBelow answersOf best-first turns turn next opening offerOf noneZero aheadOf weigh fold each greatestDepth
+refusal-13 = refl
+
+-- "empty text, place 1"
+pub refusal-14 : readTable [] [] [] [] [] .answer ≡ reading.Refused (Text (record { 0 = 1 }))
+unfolding run finish parse readInto
+refusal-14 = refl
+
+-- "`parts 5 cost` is refused"
+pub default-unnamed : ¬ Permitted (112 ∷ 97 ∷ 114 ∷ 116 ∷ 115 ∷ 32 ∷ 53 ∷ 32 ∷ 99 ∷ 111 ∷ 115 ∷ 116 ∷ 10 ∷ [])
+unfolding word firstWord limit lineAt digitOf grown spell ended step run finish parse
+default-unnamed = wrong-unpermitted _ 1 refl
+
+-- "the number 1000000001 is refused": `parts 1`, then `0 1000000001`
+pub mark-unnumbered : ¬ Permitted (112 ∷ 97 ∷ 114 ∷ 116 ∷ 115 ∷ 32 ∷ 49 ∷ 10 ∷ 48 ∷ 32 ∷ 49 ∷ 48 ∷ 48 ∷ 48 ∷ 48 ∷ 48 ∷ 48 ∷ 48 ∷ 48 ∷ 49 ∷ 10 ∷ [])
+unfolding word firstWord limit lineAt digitOf grown instead after spell ended step run finish parse
+mark-unnumbered = wrong-unpermitted _ 2 refl
+
+-- "6 lines, 5 heads": the worked text
+pub refusal-15 : readTable costText (0 ∷ 0 ∷ 0 ∷ 0 ∷ 0 ∷ []) (0 ∷ 0 ∷ 0 ∷ 0 ∷ 0 ∷ 0 ∷ []) (0 ∷ 0 ∷ 0 ∷ 0 ∷ 0 ∷ 0 ∷ 0 ∷ 0 ∷ 0 ∷ 0 ∷ 0 ∷ 0 ∷ []) (0 ∷ 0 ∷ 0 ∷ 0 ∷ 0 ∷ 0 ∷ []) .answer ≡ reading.Refused TextRoom
+unfolding costText word firstWord listedInAll limit lineAt digitOf grown instead after spell ended step run finish parse roomFor readInto
+refusal-15 = refl
+
+-- "2"
+pub refusal-16 : measureOf 2 ≡ choice.Refused MeasureNumber
+refusal-16 = refl
+
+-- "65,536 bytes", whatever they are: "The program: 17 first"
+pub refusal-17 : (input : List ℕ) → length input ≡ 65_536 → report input ≡ refusedLine InputLength
+refusal-17 input h = report-long input (omega arith)
