@@ -2,7 +2,7 @@
 use mathlib.Core.Path.{_≡_, sym, _∙_, subst}
 use mathlib.Core.Logic.{_↔_}
 use mathlib.Core.List.{List}
-use Prim.Native.Nat.{ℕ, _≤_, _<_}
+use Prim.Native.Nat.{ℕ, _≤_}
 use Rattle.weights.specs.declared.Measure.{Measure}
 use Rattle.weights.specs.declared.Measure.the-variants.{Cost, Days}
 use Rattle.weights.specs.declared.Label.{Label}
@@ -11,10 +11,10 @@ use Rattle.weights.proofs.Laws.{lawful}
 use Rattle.refusal.specs.declared.Acceptance.the-variants.{Accepted}
 use Rattle.refusal.specs.declared.Verdict.the-variants.{Yes, No}
 use Rattle.columns.specs.Columns.{Answers, Sized, Columns, ownAt}
-use Rattle.columns.specs.Acceptance.{acceptance, lentAcceptance}
+use Rattle.columns.specs.Acceptance.{acceptance}
 use Rattle.columns.specs.Right.{RightTable, RightLent}
 use Rattle.columns.specs.Gaps.{Gapped, withTails}
-use Rattle.columns.proofs.Accepted.{columns-accept, columns-accepted}
+use Rattle.columns.proofs.Accepted.{columns-accept}
 use Rattle.columns.proofs.Exactly.{accepted-exactly, lent-exactly}
 use Rattle.semiring.specs.Semiring.{Semiring}
 use Rattle.semiring.specs.Datalog.{Program, Provenance, BestWeight, representation}
@@ -29,7 +29,6 @@ use Rattle.provenance.proofs.Meaning.{means-unique}
 use Rattle.tables.specs.Table.{hypergraph}
 use Rattle.settle.specs.Settling.{answersOf, settled}
 use Rattle.settle.specs.Checking.{checked}
-use Rattle.settle.specs.Demands.{Demand2}
 use Rattle.settle.specs.Defined.{AllMean}
 use Rattle.settle.specs.States.{StateMeans}
 use Rattle.settle.specs.Worth.{CostMeans, DaysMeans}
@@ -37,7 +36,7 @@ use Rattle.settle.proofs.Demands.{answers-mean, answers-sized, settled-left, se
 use Rattle.settle.proofs.Exactly.{yes-exactly, no-exactly}
 use Rattle.settle.proofs.States.{settled-state}
 use Rattle.settle.proofs.Worth.{cost-provenance, days-provenance}
-use Rattle.settle.proofs.Gaps.{gaps-answers, gaps-settled, gaps-checked}
+use Rattle.settle.proofs.Gaps.{gaps-settled, gaps-checked}
 
 -- What settling leaves -----------------------------------------------------------------------------------------------------------------------------------------------
 

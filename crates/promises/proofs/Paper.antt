@@ -1,12 +1,11 @@
 -- The rest of document 01, in its order. What it says of the calls' results stands in Demand1, of entries in Demand2. Assumes nothing.
 use mathlib.Core.Path.{_≡_, refl}
-use mathlib.Core.Bool.{true, false}
 use mathlib.Core.Logic.{_⊎_, _↔_}
 use mathlib.Core.List.{List, [], _∷_, List·Memᴰ}
 use Prim.Native.Nat.{ℕ, _+_, _≤_, _<_}
 use native.Mathlib.Omega.{arith}
 use borrow.Author.Tests.{eqb-false, not-true}
-use lib.ListN.{length, set, take, drop}
+use lib.ListN.{length, set, take}
 use lib.IntN.{ℤ, pos}
 use Rattle.weights.specs.declared.Measure.{Measure}
 use Rattle.weights.specs.declared.Measure.the-variants.{Cost, Days}
@@ -28,13 +27,13 @@ use Rattle.refusal.specs.declared.Acceptance.the-variants.{Accepted, Refused}
 use Rattle.refusal.specs.declared.Verdict.the-variants.{Yes}
 use Rattle.refusal.specs.declared.Extent.the-variants as extent
 use Rattle.refusal.specs.declared.Reading.the-variants as reading
-use Rattle.columns.specs.Columns.{Answers, Columns, columns, ownAt, withOwn}
+use Rattle.columns.specs.Columns.{Answers, Columns, ownAt, withOwn}
 use Rattle.columns.specs.Acceptance.{acceptance}
 use Rattle.columns.specs.Filled.{filled}
 use Rattle.columns.specs.Gaps.{Gapped, withTails}
 use Rattle.columns.specs.Right.{RightTable, WrongTable, RightLent}
 use Rattle.columns.proofs.Accepted.{both-accepted}
-use Rattle.columns.proofs.Exactly.{accepted-exactly, refused-exactly, lent-exactly}
+use Rattle.columns.proofs.Exactly.{accepted-exactly, refused-exactly}
 use Rattle.columns.proofs.Gaps.{gaps-accepted}
 use Rattle.provenance.specs.Hypergraph.{Hypergraph, Stands, Derivation, Derivations, node, none, more, weight, depth, deepest, root, listing}
 use Rattle.provenance.specs.Labelling.{greatestDepth}
@@ -51,20 +50,19 @@ use Rattle.reprice.specs.Repricing.{repriced, stricken}
 use Rattle.reprice.proofs.Changes.{reprice-leaves, strike-leaves}
 use Rattle.bill.specs.Billing.{billOf, partAcceptance, billAcceptance, billed}
 use Rattle.bill.specs.Bills.{IsBill, Printed}
-use Rattle.bill.specs.Listing.{amount}
 use Rattle.bill.proofs.Asked.{bill-exactly}
 use Rattle.bill.proofs.Bills.{part-accepted, is-bill, bill-printed}
 use Rattle.bill.proofs.Listing.{listing-amount}
-use Rattle.text.specs.Tables.{Table, tableOf, closed}
-use Rattle.text.specs.Render.{render, Permitted}
+use Rattle.text.specs.Tables.{Table, closed}
+use Rattle.text.specs.Render.{Permitted}
 use Rattle.readtable.specs.Read.{columnsRead, readTable}
-use Rattle.roundtrip.specs.RoundTrip.{Room, headerFor, filledWith}
+use Rattle.roundtrip.specs.RoundTrip.{Room, filledWith}
 use Rattle.roundtrip.proofs.RoundTrip.{read-after-write, write-after-read, read-accepted}
 use Rattle.roundtrip.proofs.Texts.{permitted-same}
 use Rattle.writetable.specs.Write.{writeOutcome, writeTable}
 use Rattle.reader.specs.Walk.{Walks, Counted}
 use Rattle.reader.proofs.Walking.{walk-permitted, permitted-walk}
-use Rattle.report.specs.Report.{list, refusedLine, report}
+use Rattle.report.specs.Report.{refusedLine, report}
 use Rattle.report.specs.Prints.{Prints, ReadsBack}
 use Rattle.report.specs.Examples.{costText, costList, daysText, daysList}
 use Rattle.report.proofs.Closed.{answers-closed}
@@ -197,7 +195,8 @@ module _ (m : Measure) (c : Columns) (a : Answers) (v : ℕ) where
   bill-returns = bill-printed m c a v
 
 -- "Parts that are over have a bill too"
-pub over-has-a-bill : (c : Columns) (a : Answers) (v : ℕ) → RightLent c a → v < c .vertices → AllMean Cost c a → entryOf (labels a v) .state ≡ Over → IsBill Cost c (labels a) v (billOf c a v)
+pub over-has-a-bill : (c : Columns) (a : Answers) (v : ℕ) → RightLent c a → v < c .vertices → AllMean Cost c a → entryOf (labels a v) .state ≡ Over
+    → IsBill Cost c (labels a) v (billOf c a v)
 over-has-a-bill c a v l h all s =
     let d = means-state Cost c (labels a v) v (accepted-exactly c .1 (l .table)) (all v h) .over .0 s in
     bill-is Cost c a v l h all (d .shown)

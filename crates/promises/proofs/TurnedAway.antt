@@ -3,12 +3,12 @@ use mathlib.Core.Path.{_≡_, refl}
 use mathlib.Core.List.{List, [], _∷_}
 use Prim.Native.Nat.{ℕ}
 use native.Mathlib.Omega.{arith}
-use lib.ListN.{length}
+use lib.ListN.{length, replicate}
 use Rattle.weights.specs.declared.Measure.the-variants.{Cost}
 use Rattle.weights.specs.Measures.{fold, weigh}
 use Rattle.weights.specs.Labels.{aheadOf}
-use Rattle.refusal.specs.declared.Refusal.{Refusal}
-use Rattle.refusal.specs.declared.Refusal.the-variants.{TooManyVertices, Lengths, Head, Own, Span, Tail, AnswerLength, WrongAnswers, NoSuchEdge, NewWeight, NoSuchVertex, Underivable, BillRoom, Text, TextRoom, MeasureNumber, InputLength}
+use Rattle.refusal.specs.declared.Refusal.the-variants.{TooManyVertices, Lengths, Head, Own, Span, Tail, AnswerLength, WrongAnswers, NoSuchEdge, NewWeight}
+use Rattle.refusal.specs.declared.Refusal.the-variants.{NoSuchVertex, Underivable, BillRoom, Text, TextRoom, MeasureNumber, InputLength}
 use Rattle.refusal.specs.declared.Acceptance.the-variants.{Refused}
 use Rattle.refusal.specs.declared.Extent.the-variants as extent
 use Rattle.refusal.specs.declared.Reading.the-variants as reading
@@ -72,10 +72,14 @@ refusal-7 = refl
 abbrev pub with-figure : ℕ → Answers
 with-figure w = answers (1200 ∷ 300 ∷ 2000 ∷ w ∷ 0 ∷ []) (1 ∷ 1 ∷ 2 ∷ 3 ∷ 0 ∷ []) (0 ∷ 1 ∷ 2 ∷ 4 ∷ 0 ∷ [])
 
+priced : answersOf Cost whole ≡ with-figure 2600
+unfolding answersOf best-first turns turn next opening offerOf noneZero aheadOf weigh fold each greatestDepth
+priced = refl
+
 -- "a figure off by 1"
 pub refusal-8 : repriced Cost whole (with-figure 2601) 1 500 .result ≡ Refused WrongAnswers
-unfolding repriced repriceAcceptance lineAcceptance sameAnswers equal lentAcceptance acceptance edgesAcceptance edgeAcceptance allBelow answersOf best-first turns turn next opening offerOf noneZero aheadOf weigh fold each greatestDepth
-refusal-8 = refl
+unfolding repriced repriceAcceptance lineAcceptance sameAnswers equal lentAcceptance acceptance edgesAcceptance edgeAcceptance allBelow
+refusal-8 = rw priced refl
 
 -- "line 6 of 6"
 pub refusal-9 : repriced Cost whole (with-figure 2600) 6 500 .result ≡ Refused NoSuchEdge
@@ -94,13 +98,13 @@ refusal-11 = refl
 
 -- "part 4 below"
 pub refusal-12 : billed Cost whole (with-figure 2600) 4 [] .result ≡ extent.Refused Underivable
-unfolding billed billAcceptance partAcceptance sameAnswers equal lentAcceptance acceptance edgesAcceptance edgeAcceptance allBelow answersOf best-first turns turn next opening offerOf noneZero aheadOf weigh fold each greatestDepth
-refusal-12 = refl
+unfolding billed billAcceptance partAcceptance sameAnswers equal lentAcceptance acceptance edgesAcceptance edgeAcceptance allBelow
+refusal-12 = rw priced refl
 
 -- "6 lines, room 5"
 pub refusal-13 : billed Cost whole (with-figure 2600) 3 (0 ∷ 0 ∷ 0 ∷ 0 ∷ 0 ∷ []) .result ≡ extent.Refused BillRoom
-unfolding billed billAcceptance partAcceptance billOf bill bills sameAnswers equal lentAcceptance acceptance edgesAcceptance edgeAcceptance allBelow answersOf best-first turns turn next opening offerOf noneZero aheadOf weigh fold each greatestDepth
-refusal-13 = refl
+unfolding billed billAcceptance partAcceptance billOf bill bills sameAnswers equal lentAcceptance acceptance edgesAcceptance edgeAcceptance allBelow
+refusal-13 = rw priced refl
 
 -- "empty text, place 1"
 pub refusal-14 : readTable [] [] [] [] [] .answer ≡ reading.Refused (Text (record { 0 = 1 }))
@@ -118,7 +122,7 @@ unfolding word firstWord limit lineAt digitOf grown instead after spell ended st
 mark-unnumbered = wrong-unpermitted _ 2 refl
 
 -- "6 lines, 5 heads": the worked text
-pub refusal-15 : readTable costText (0 ∷ 0 ∷ 0 ∷ 0 ∷ 0 ∷ []) (0 ∷ 0 ∷ 0 ∷ 0 ∷ 0 ∷ 0 ∷ []) (0 ∷ 0 ∷ 0 ∷ 0 ∷ 0 ∷ 0 ∷ 0 ∷ 0 ∷ 0 ∷ 0 ∷ 0 ∷ 0 ∷ []) (0 ∷ 0 ∷ 0 ∷ 0 ∷ 0 ∷ 0 ∷ []) .answer ≡ reading.Refused TextRoom
+pub refusal-15 : let z = replicate {A = ℕ} 6 0 in readTable costText (replicate 5 0) z (replicate 12 0) z .answer ≡ reading.Refused TextRoom
 unfolding costText word firstWord listedInAll limit lineAt digitOf grown instead after spell ended step run finish parse roomFor readInto
 refusal-15 = refl
 
