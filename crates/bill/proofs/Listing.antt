@@ -1,5 +1,5 @@
 -- Counts of a make-up: its nodes, and how often a line stands in it. Its listing has as many lines, and each as often; and the own figures along it come to the
--- make-up's figure: in cost their sum, capped, in days the greatestDepth. The paper's "Make-ups, figures, depth" (Cost, Days), said of bills. Assumes nothing.
+-- make-up's figure: in cost their sum, capped, in days the greatest of them. The paper's "Make-ups, figures, depth" (Cost, Days), said of bills. Assumes nothing.
 use mathlib.Core.Path.{_≡_, refl}
 use mathlib.Core.List.{List, [], _∷_, _++_}
 use Prim.Native.Nat.{ℕ, _+_, max}

@@ -1,4 +1,4 @@
--- Columns that are the sameAnswers, place for place, as a test and its laws. Assumes nothing.
+-- The laws of the test whether columns are the same, place for place. Assumes nothing.
 use mathlib.Core.Path.{_≡_, refl}
 use mathlib.Core.Bool.{Bool, true, false}
 use mathlib.Core.List.{List, [], _∷_}

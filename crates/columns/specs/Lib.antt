@@ -6,3 +6,4 @@ pub mod Right
 pub mod Gaps
 pub mod Owed
 pub mod Lent
+pub mod Worked

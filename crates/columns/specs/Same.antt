@@ -1,4 +1,4 @@
--- Columns that are the sameAnswers, place for place, as a test and its laws. Assumes nothing.
+-- Columns that are the same, place for place, as a test. Assumes nothing: these are definitions.
 use mathlib.Core.Bool.{Bool, true, false}
 use mathlib.Core.List.{List, [], _∷_}
 use Prim.Native.Nat.{ℕ}
@@ -6,7 +6,7 @@ use lib.Dec.{eqb}
 use Rattle.weights.specs.Choice.{pick}
 use Rattle.columns.specs.Columns.{Answers}
 
--- two columns are the sameAnswers
+-- two columns are the same
 unfoldable pub equal : List ℕ → List ℕ → Bool
 equal [] [] = true
 equal [] (y ∷ ys) = false

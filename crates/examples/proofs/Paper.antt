@@ -9,6 +9,7 @@ use Rattle.provenance.specs.BestFirst.{opening, next, turn, turns, best-first}
 use Rattle.provenance.specs.Support.{bills, bill}
 use Rattle.provenance.specs.Counting.{count}
 use Rattle.columns.specs.Columns.{withOwn}
+use Rattle.columns.specs.Worked.{worked}
 use Rattle.columns.specs.Same.{equal, sameAnswers}
 use Rattle.columns.specs.Acceptance.{allBelow, edgeAcceptance, edgesAcceptance, acceptance, lentAcceptance}
 use Rattle.settle.specs.Settling.{answersOf, settled}
@@ -18,16 +19,16 @@ use Rattle.bill.specs.Billing.{billOf, partAcceptance, billAcceptance, billed}
 use Rattle.bill.specs.Rises.{Demand3Billed}
 use Rattle.bill.proofs.Rises.{demand-3-billed}
 use Rattle.examples.specs.Case.{states, AllHold}
-use Rattle.examples.specs.Paper.{whole, cases}
+use Rattle.examples.specs.Paper.{cases}
 
 -- the worked table and that of P3 are a pair as demand 3 asks for
-pub worked-pair : Pair whole (withOwn whole 1 500) 1 200
+pub worked-pair : Pair worked (withOwn worked 1 500) 1 200
 unfolding acceptance edgesAcceptance edgeAcceptance allBelow
 worked-pair = record { accepted = refl; accepted′ = refl; raised = refl; numbered = omega arith; unstruck = refl; unstruck′ = refl }
 
 -- P3's bounds are demand 3's
-worked-bounds : Demand3Billed Cost whole (withOwn whole 1 500) 1 200
-worked-bounds = demand-3-billed Cost whole (withOwn whole 1 500) 1 200 worked-pair
+worked-bounds : Demand3Billed Cost worked (withOwn worked 1 500) 1 200
+worked-bounds = demand-3-billed Cost worked (withOwn worked 1 500) 1 200 worked-pair
 
 pub every-case-holds : AllHold cases
 unfolding cases AllHold states settled billed repriced stricken answersOf billOf partAcceptance billAcceptance repriceAcceptance strikeAcceptance lineAcceptance sameAnswers equal lentAcceptance acceptance edgesAcceptance edgeAcceptance allBelow best-first turns turn next opening offerOf noneZero aheadOf weigh fold each greatestDepth bill bills count

@@ -5,22 +5,8 @@ use Rattle.weights.specs.declared.Measure.the-variants.{Cost, Days}
 use Rattle.weights.specs.declared.State.the-variants.{Made, Over, Unmade}
 use Rattle.weights.specs.Figures.{struck}
 use Rattle.columns.specs.Columns.{Answers, Columns, columns, answers}
+use Rattle.columns.specs.Worked.{worked}
 use Rattle.examples.specs.Case.{Case, settles, prints, reprices, strikes, raises}
-
--- the table priced whole
---   0 1200
---   1 300
---   2 500 0 1
---   2 2100
---   3 0 2 1 1
---   4 10 4
-abbrev pub whole : Columns
-whole =
-    columns 5
-    (0 ∷ 1 ∷ 2 ∷ 2 ∷ 3 ∷ 4 ∷ [])
-    (1200 ∷ 300 ∷ 500 ∷ 2100 ∷ 0 ∷ 10 ∷ [])
-    (0 ∷ 0 ∷ 0 ∷ 0 ∷ 0 ∷ 2 ∷ 2 ∷ 0 ∷ 2 ∷ 3 ∷ 5 ∷ 1 ∷ [])
-    (0 ∷ 1 ∷ 2 ∷ 1 ∷ 1 ∷ 4 ∷ [])
 
 -- part 0 at the greatest figure, and three lines that each need ten of the part before, the last with this own figure
 abbrev pub tens : ℕ → Columns
@@ -44,14 +30,14 @@ five = answers (7 ∷ 7 ∷ 7 ∷ 7 ∷ 7 ∷ []) (7 ∷ 7 ∷ 7 ∷ 7 ∷ 7 ∷
 unfoldable pub cases : List Case
 cases =
     -- P1: the answers
-    settles Cost whole five (answers (1200 ∷ 300 ∷ 2000 ∷ 2600 ∷ 0 ∷ []) (1 ∷ 1 ∷ 2 ∷ 3 ∷ 0 ∷ []) (0 ∷ 1 ∷ 2 ∷ 4 ∷ 0 ∷ [])) (Made ∷ Made ∷ Made ∷ Made ∷ Unmade ∷ [])
+    settles Cost worked five (answers (1200 ∷ 300 ∷ 2000 ∷ 2600 ∷ 0 ∷ []) (1 ∷ 1 ∷ 2 ∷ 3 ∷ 0 ∷ []) (0 ∷ 1 ∷ 2 ∷ 4 ∷ 0 ∷ [])) (Made ∷ Made ∷ Made ∷ Made ∷ Unmade ∷ [])
     -- P2: the bill of part 3, in a room of seven places
-    ∷ prints Cost whole five 3 (9 ∷ 9 ∷ 9 ∷ 9 ∷ 9 ∷ 9 ∷ 9 ∷ []) (4 ∷ 2 ∷ 0 ∷ 1 ∷ 1 ∷ 1 ∷ [])
+    ∷ prints Cost worked five 3 (9 ∷ 9 ∷ 9 ∷ 9 ∷ 9 ∷ 9 ∷ 9 ∷ []) (4 ∷ 2 ∷ 0 ∷ 1 ∷ 1 ∷ 1 ∷ [])
     -- P3: line 1 repriced to 500; part 3 rises from 2600 to 3100, between 2 × 200 and 3 × 200
-    ∷ reprices Cost whole five 1 500 (1200 ∷ 500 ∷ 500 ∷ 2100 ∷ 0 ∷ 10 ∷ []) (answers (1200 ∷ 500 ∷ 2100 ∷ 3100 ∷ 0 ∷ []) (1 ∷ 1 ∷ 1 ∷ 2 ∷ 0 ∷ []) (0 ∷ 1 ∷ 3 ∷ 4 ∷ 0 ∷ []))
-    ∷ raises Cost whole 1 200 3 2600 3100 3 2
+    ∷ reprices Cost worked five 1 500 (1200 ∷ 500 ∷ 500 ∷ 2100 ∷ 0 ∷ 10 ∷ []) (answers (1200 ∷ 500 ∷ 2100 ∷ 3100 ∷ 0 ∷ []) (1 ∷ 1 ∷ 1 ∷ 2 ∷ 0 ∷ []) (0 ∷ 1 ∷ 3 ∷ 4 ∷ 0 ∷ []))
+    ∷ raises Cost worked 1 200 3 2600 3100 3 2
     -- P4: with days, parts 2 and 3 are 1200, part 2 by line 2
-    ∷ settles Days whole five (answers (1200 ∷ 300 ∷ 1200 ∷ 1200 ∷ 0 ∷ []) (1 ∷ 1 ∷ 2 ∷ 3 ∷ 0 ∷ []) (0 ∷ 1 ∷ 2 ∷ 4 ∷ 0 ∷ [])) (Made ∷ Made ∷ Made ∷ Made ∷ Unmade ∷ [])
+    ∷ settles Days worked five (answers (1200 ∷ 300 ∷ 1200 ∷ 1200 ∷ 0 ∷ []) (1 ∷ 1 ∷ 2 ∷ 3 ∷ 0 ∷ []) (0 ∷ 1 ∷ 2 ∷ 4 ∷ 0 ∷ [])) (Made ∷ Made ∷ Made ∷ Made ∷ Unmade ∷ [])
     -- P5: no parts and no lines have no entries
     ∷ settles Cost (columns 0 [] [] [] []) (answers [] [] []) (answers [] [] []) []
     -- P6: two lines that need one another make nothing
@@ -67,5 +53,5 @@ cases =
     -- P9: a tie goes to the lesser depth before the lower line
     ∷ settles Cost (columns 2 (0 ∷ 1 ∷ 1 ∷ []) (5 ∷ 0 ∷ 5 ∷ []) (0 ∷ 0 ∷ 0 ∷ 1 ∷ 1 ∷ 0 ∷ []) (0 ∷ [])) two (answers (5 ∷ 5 ∷ []) (1 ∷ 1 ∷ []) (0 ∷ 2 ∷ [])) (Made ∷ Made ∷ [])
     -- P10: line 0 struck; part 2 takes line 3, and part 0 is unmade
-    ∷ strikes Cost whole five 0 (struck ∷ 300 ∷ 500 ∷ 2100 ∷ 0 ∷ 10 ∷ []) (answers (0 ∷ 300 ∷ 2100 ∷ 2700 ∷ 0 ∷ []) (0 ∷ 1 ∷ 1 ∷ 2 ∷ 0 ∷ []) (0 ∷ 1 ∷ 3 ∷ 4 ∷ 0 ∷ []))
+    ∷ strikes Cost worked five 0 (struck ∷ 300 ∷ 500 ∷ 2100 ∷ 0 ∷ 10 ∷ []) (answers (0 ∷ 300 ∷ 2100 ∷ 2700 ∷ 0 ∷ []) (0 ∷ 1 ∷ 1 ∷ 2 ∷ 0 ∷ []) (0 ∷ 1 ∷ 3 ∷ 4 ∷ 0 ∷ []))
     ∷ []

@@ -3,10 +3,13 @@ use mathlib.Core.Path.{_≡_, sym, _∙_, subst}
 use mathlib.Core.Logic.{_↔_}
 use mathlib.Core.List.{List}
 use Prim.Native.Nat.{ℕ, _≤_}
+use native.Mathlib.Omega.{arith}
 use Rattle.weights.specs.declared.Measure.{Measure}
 use Rattle.weights.specs.declared.Measure.the-variants.{Cost, Days}
 use Rattle.weights.specs.declared.Label.{Label}
+use Rattle.weights.specs.declared.State.the-variants.{Over}
 use Rattle.weights.specs.Measures.{algebra}
+use Rattle.weights.specs.Labels.{unmade, entryOf}
 use Rattle.weights.proofs.Laws.{lawful}
 use Rattle.refusal.specs.declared.Acceptance.the-variants.{Accepted}
 use Rattle.refusal.specs.declared.Verdict.the-variants.{Yes, No}
@@ -16,11 +19,8 @@ use Rattle.columns.specs.Right.{RightTable, RightLent}
 use Rattle.columns.specs.Gaps.{Gapped, withTails}
 use Rattle.columns.proofs.Accepted.{columns-accept}
 use Rattle.columns.proofs.Exactly.{accepted-exactly, lent-exactly}
-use Rattle.semiring.specs.Semiring.{Semiring}
-use Rattle.semiring.specs.Datalog.{Program, Provenance, BestWeight, representation}
-use Rattle.semiring.proofs.Datalog.{theorem-13}
 use Rattle.provenance.specs.Labelling.{Made}
-use Rattle.provenance.specs.Means.{Means}
+use Rattle.provenance.specs.Means.{Means, underivable, derivable}
 use Rattle.provenance.specs.BestFirst.{labels}
 use Rattle.provenance.specs.Support.{ChosenDerivation, Supports}
 use Rattle.provenance.specs.Provenance.{HasProvenance}
@@ -34,7 +34,7 @@ use Rattle.settle.specs.States.{StateMeans}
 use Rattle.settle.specs.Worth.{CostMeans, DaysMeans}
 use Rattle.settle.proofs.Demands.{answers-mean, answers-sized, settled-left, settled-result, demand-2, yes-only}
 use Rattle.settle.proofs.Exactly.{yes-exactly, no-exactly}
-use Rattle.settle.proofs.States.{settled-state}
+use Rattle.settle.proofs.States.{made-deep, settled-state}
 use Rattle.settle.proofs.Worth.{cost-provenance, days-provenance}
 use Rattle.settle.proofs.Gaps.{gaps-settled, gaps-checked}
 
@@ -83,9 +83,21 @@ module _ (m : Measure) (c : Columns) (a : Answers) (h : settled m c a .result �
   pub entry-state : (v : ℕ) → StateMeans m c (labels (settled m c a .left) v) v
   entry-state = settled-state m c a h
 
+  -- "depth 0 occurs only for unmade", which "is figure 0, depth 0, line 0"
+  pub entry-unmade : (v : ℕ) → labels (settled m c a .left) v .depth ≡ 0 → labels (settled m c a .left) v ≡ unmade
+  entry-unmade v z = go (entry-means v)
+    where
+      go : Means (algebra m) (hypergraph c) (ownAt c) (labels (settled m c a .left) v) v → labels (settled m c a .left) v ≡ unmade
+      go (underivable e n) = e
+      go (derivable x) = absurd (omega (arith, made-deep (entry-means v) (x .shown)))
+
   -- The source: the figure is Definition 5's provenance, the sum over all derivations of the product over leaves, up to the ceiling; unmade is the empty sum
   pub entry-provenance : (v : ℕ) → HasProvenance (computes m) (hypergraph c) (ownAt c) (labels (settled m c a .left) v) v
   entry-provenance v = demand-2 m c a h v .worth
+
+-- "Days: … It never goes over"
+pub days-never-over : (c : Columns) (a : Answers) → settled Days c a .result ≡ Accepted → (v : ℕ) → ¬ (entryOf (labels (settled Days c a .left) v) .state ≡ Over)
+days-never-over c a h v = entry-state Days c a h v .over .0
 
 -- of cost in the tropical semiring, of days in the bottleneck semiring (document 003, Semiring 5)
 pub cost-worth : (c : Columns) (a : Answers) → settled Cost c a .result ≡ Accepted → (v : ℕ) → CostMeans c (labels (settled Cost c a .left) v) v
@@ -93,10 +105,6 @@ cost-worth = cost-provenance
 
 pub days-worth : (c : Columns) (a : Answers) → settled Days c a .result ≡ Accepted → (v : ℕ) → DaysMeans c (labels (settled Days c a .left) v) v
 days-worth = days-provenance
-
--- document 000's Theorem 13: provenance over the trees of a program is best weight in the hypergraph that represents it (Definitions 8 and 10)
-pub best-weight : {S : Semiring} (q : Program S) (t : q .Atom) (x : S .Carrier) → Provenance q t x ↔ BestWeight (representation q) t x
-best-weight = theorem-13
 
 -- The answer check ---------------------------------------------------------------------------------------------------------------------------------------------------
 

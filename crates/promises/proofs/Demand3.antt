@@ -8,13 +8,13 @@ use Rattle.weights.specs.declared.Measure.the-variants.{Cost, Days}
 use Rattle.weights.specs.declared.State.the-variants.{Made, Unmade}
 use Rattle.refusal.specs.declared.Acceptance.the-variants.{Accepted}
 use Rattle.columns.specs.Columns.{Answers, Columns, ownAt, withOwn}
+use Rattle.columns.specs.Worked.{worked}
 use Rattle.settle.specs.Settling.{settled}
 use Rattle.reprice.specs.Repricing.{repriced}
 use Rattle.reprice.specs.Demand3.{labelsOf, stateIn, Pair, Demand3}
 use Rattle.reprice.proofs.Demand3.{demand-3}
 use Rattle.bill.specs.Rises.{countIn, Demand3Billed}
 use Rattle.bill.proofs.Rises.{demand-3-billed}
-use Rattle.examples.specs.Paper.{whole}
 use Rattle.examples.proofs.Paper.{worked-pair}
 
 -- whole, with the counts taken in chosen make-ups, and in bills as they are printed
@@ -55,5 +55,5 @@ module _ (c c′ : Columns) (e d : ℕ) (p : Pair c c′ e d) where
   days-rises v s s′ = let r = demand-3-billed Days c c′ e d p .rises v s s′ in (r .least, r .most)
 
 -- the worked table and that of P3 are such a pair
-pub worked : Pair whole (withOwn whole 1 500) 1 200
-worked = worked-pair
+pub worked-tables : Pair worked (withOwn worked 1 500) 1 200
+worked-tables = worked-pair

@@ -1,7 +1,7 @@
 -- The rest of document 01, in its order. What it says of the calls' results stands in Demand1, of entries in Demand2. Assumes nothing.
 use mathlib.Core.Path.{_≡_, refl}
 use mathlib.Core.Logic.{_⊎_, _↔_}
-use mathlib.Core.List.{List, [], _∷_, List·Memᴰ}
+use mathlib.Core.List.{List, [], _∷_}
 use Prim.Native.Nat.{ℕ, _+_, _≤_, _<_}
 use native.Mathlib.Omega.{arith}
 use borrow.Author.Tests.{eqb-false, not-true}
@@ -10,15 +10,11 @@ use lib.IntN.{ℤ, pos}
 use Rattle.weights.specs.declared.Measure.{Measure}
 use Rattle.weights.specs.declared.Measure.the-variants.{Cost, Days}
 use Rattle.weights.specs.declared.State.the-variants.{Made, Over, Unmade}
-use Rattle.weights.specs.declared.Label.{Label}
 use Rattle.weights.specs.Figures.{struck, ceiling, over, capped}
-use Rattle.weights.specs.Measures.{Algebra, cost, days, algebra, weigh}
-use Rattle.weights.specs.Labels.{stateOf, entryOf, aheadOf}
-use Rattle.weights.specs.Laws.{NoWorse, InRange, Lawful}
-use Rattle.weights.specs.Order.{Ranked}
+use Rattle.weights.specs.Measures.{cost, days, algebra}
+use Rattle.weights.specs.Labels.{stateOf, entryOf}
+use Rattle.weights.specs.Laws.{Lawful}
 use Rattle.weights.proofs.Laws.{lawful}
-use Rattle.weights.proofs.Weighing.{Pointwise, weigh-mono, superior}
-use Rattle.weights.proofs.Order.{ranked}
 use Rattle.weights.proofs.States.{unmade-state, over-state, made-state}
 use Rattle.refusal.specs.declared.Refusal.{Refusal}
 use Rattle.refusal.specs.declared.Refusal.the-variants.{Text, InputLength}
@@ -35,8 +31,11 @@ use Rattle.columns.specs.Right.{RightTable, WrongTable, RightLent}
 use Rattle.columns.proofs.Accepted.{both-accepted}
 use Rattle.columns.proofs.Exactly.{accepted-exactly, refused-exactly}
 use Rattle.columns.proofs.Gaps.{gaps-accepted}
+use Rattle.semiring.specs.Semiring.{Semiring}
+use Rattle.semiring.specs.Datalog.{Program, Provenance, BestWeight, representation}
+use Rattle.semiring.proofs.Datalog.{theorem-13}
 use Rattle.provenance.specs.Hypergraph.{Hypergraph, Stands, Derivation, Derivations, node, none, more, weight, depth, deepest, root, listing}
-use Rattle.provenance.specs.Labelling.{greatestDepth}
+use Rattle.provenance.specs.Labelling.{greatestDepth as greatestOf}
 use Rattle.provenance.specs.Counting.{total}
 use Rattle.provenance.specs.BestFirst.{labels}
 use Rattle.tables.specs.Table.{hypergraph}
@@ -55,6 +54,7 @@ use Rattle.bill.proofs.Bills.{part-accepted, is-bill, bill-printed}
 use Rattle.bill.proofs.Listing.{listing-amount}
 use Rattle.text.specs.Tables.{Table, closed}
 use Rattle.text.specs.Render.{Permitted}
+use Rattle.text.specs.Worked.{costText, daysText}
 use Rattle.readtable.specs.Read.{columnsRead, readTable}
 use Rattle.roundtrip.specs.RoundTrip.{Room, filledWith}
 use Rattle.roundtrip.proofs.RoundTrip.{read-after-write, write-after-read, read-accepted}
@@ -64,7 +64,7 @@ use Rattle.reader.specs.Walk.{Walks, Counted}
 use Rattle.reader.proofs.Walking.{walk-permitted, permitted-walk}
 use Rattle.report.specs.Report.{refusedLine, report}
 use Rattle.report.specs.Prints.{Prints, ReadsBack}
-use Rattle.report.specs.Examples.{costText, costList, daysText, daysList}
+use Rattle.report.specs.Examples.{costList, daysList}
 use Rattle.report.proofs.Closed.{answers-closed}
 use Rattle.report.proofs.Prints.{prints, reads-back}
 use Rattle.report.proofs.Examples.{worked-cost, worked-days}
@@ -74,6 +74,13 @@ use Rattle.input.proofs.Whole.{whole-reported}
 use Rattle.examples.specs.Case.{AllHold}
 use Rattle.examples.specs.Paper.{cases}
 use Rattle.examples.proofs.Paper.{every-case-holds}
+
+-- The source ---------------------------------------------------------------------------------------------------------------------------------------------------------
+
+-- "Source document 000 gives the meaning (Definitions 5, 7 and 8 …)": by its Theorem 13 the provenance of a program (Definition 5) is the best weight (Definition 10) in the
+-- weighted hypergraph (Definition 7) that represents it (Definition 8). Demand2 has the program that a table is, and its provenance
+pub best-weight : {S : Semiring} (q : Program S) (t : q .Atom) (x : S .Carrier) → Provenance q t x ↔ BestWeight (representation q) t x
+best-weight = theorem-13
 
 -- The table ----------------------------------------------------------------------------------------------------------------------------------------------------------
 
@@ -110,7 +117,7 @@ module _ {H : Hypergraph} (own : ℕ → ℕ) {v : ℕ} (d : Derivation H v) whe
   cost-is = listing-amount own Cost d
 
   -- "Days: the greatest of the line's own figure and the figures of its parts' make-ups"
-  pub days-is : weight days own d ≡ greatestDepth own (listing d)
+  pub days-is : weight days own d ≡ greatestOf own (listing d)
   days-is = listing-amount own Days d
 
 -- "A line with no parts has depth 1, any other 1 more than its deepest part"
@@ -138,19 +145,9 @@ module _ (w d : ℕ) where
   pub state-made : (stateOf w d ≡ Made) ↔ ((0 < d) × ¬ (w ≡ 1_000_000_000_001))
   state-made = made-state w d
 
--- "Laws of cost and days that agree are established a single time, over a measure": of a line's figure, and of the order of labels
+-- "Laws of cost and days that agree are established a single time, over a measure": everything about make-ups is proved of any algebra that has these laws
 pub laws : (m : Measure) → Lawful (algebra m)
 laws = lawful
-
-module _ {A : Algebra} (L : Lawful A) where
-  pub monotone : {own own′ : ℕ} {xs ys : List ℕ} → NoWorse (A .leq) own own′ → Pointwise A xs ys → NoWorse (A .leq) (weigh A own xs) (weigh A own′ ys)
-  monotone = weigh-mono L
-
-  pub no-better-than-its-parts : (own : ℕ) {x : ℕ} {xs : List ℕ} → List·Memᴰ x xs → InRange A x → NoWorse (A .leq) x (weigh A own xs)
-  no-better-than-its-parts = superior L
-
-  pub labels-ordered : (a b : Label) → Ranked A a b (aheadOf A a b)
-  labels-ordered = ranked L
 
 -- The calls ------------------------------------------------------------------------------------------------------------------------------------------------------------
 

@@ -16,6 +16,7 @@ use Rattle.refusal.specs.declared.MeasureChoice.the-variants as choice
 use Rattle.refusal.specs.Refusals.{measureOf}
 use Rattle.columns.specs.Columns.{Answers, columns, answers}
 use Rattle.columns.specs.Acceptance.{allBelow, edgeAcceptance, edgesAcceptance, acceptance, lentAcceptance}
+use Rattle.columns.specs.Worked.{worked}
 use Rattle.columns.specs.Same.{equal, sameAnswers}
 use Rattle.provenance.specs.Labelling.{each, greatestDepth, noneZero, offerOf}
 use Rattle.provenance.specs.BestFirst.{opening, next, turn, turns, best-first}
@@ -25,13 +26,12 @@ use Rattle.reprice.specs.Repricing.{lineAcceptance, repriceAcceptance, repriced
 use Rattle.bill.specs.Billing.{billOf, partAcceptance, billAcceptance, billed}
 use Rattle.text.specs.Tables.{listedInAll}
 use Rattle.text.specs.Render.{word, firstWord, Permitted}
+use Rattle.text.specs.Worked.{costText}
 use Rattle.text.specs.Machine.{limit, lineAt, digitOf, grown, instead, after, spell, ended, step, run, finish, parse}
 use Rattle.text.proofs.Permitted.{wrong-unpermitted}
 use Rattle.readtable.specs.Read.{roomFor, readInto, readTable}
 use Rattle.report.specs.Report.{refusedLine, report}
-use Rattle.report.specs.Examples.{costText}
 use Rattle.report.proofs.Reports.{report-long}
-use Rattle.examples.specs.Paper.{whole}
 
 -- "n = 1,025"
 pub refusal-1 : acceptance (columns 1_025 [] [] [] []) ≡ Refused TooManyVertices
@@ -64,7 +64,7 @@ unfolding acceptance edgesAcceptance edgeAcceptance allBelow
 refusal-6 = refl
 
 -- "n = 5, 4 places"
-pub refusal-7 : lentAcceptance whole (answers (0 ∷ 0 ∷ 0 ∷ 0 ∷ []) (0 ∷ 0 ∷ 0 ∷ 0 ∷ []) (0 ∷ 0 ∷ 0 ∷ 0 ∷ [])) ≡ Refused AnswerLength
+pub refusal-7 : lentAcceptance worked (answers (0 ∷ 0 ∷ 0 ∷ 0 ∷ []) (0 ∷ 0 ∷ 0 ∷ 0 ∷ []) (0 ∷ 0 ∷ 0 ∷ 0 ∷ [])) ≡ Refused AnswerLength
 unfolding lentAcceptance acceptance edgesAcceptance edgeAcceptance allBelow
 refusal-7 = refl
 
@@ -72,37 +72,37 @@ refusal-7 = refl
 abbrev pub with-figure : ℕ → Answers
 with-figure w = answers (1200 ∷ 300 ∷ 2000 ∷ w ∷ 0 ∷ []) (1 ∷ 1 ∷ 2 ∷ 3 ∷ 0 ∷ []) (0 ∷ 1 ∷ 2 ∷ 4 ∷ 0 ∷ [])
 
-priced : answersOf Cost whole ≡ with-figure 2600
+priced : answersOf Cost worked ≡ with-figure 2600
 unfolding answersOf best-first turns turn next opening offerOf noneZero aheadOf weigh fold each greatestDepth
 priced = refl
 
 -- "a figure off by 1"
-pub refusal-8 : repriced Cost whole (with-figure 2601) 1 500 .result ≡ Refused WrongAnswers
+pub refusal-8 : repriced Cost worked (with-figure 2601) 1 500 .result ≡ Refused WrongAnswers
 unfolding repriced repriceAcceptance lineAcceptance sameAnswers equal lentAcceptance acceptance edgesAcceptance edgeAcceptance allBelow
 refusal-8 = rw priced refl
 
 -- "line 6 of 6"
-pub refusal-9 : repriced Cost whole (with-figure 2600) 6 500 .result ≡ Refused NoSuchEdge
+pub refusal-9 : repriced Cost worked (with-figure 2600) 6 500 .result ≡ Refused NoSuchEdge
 unfolding repriced repriceAcceptance lineAcceptance lentAcceptance acceptance edgesAcceptance edgeAcceptance allBelow
 refusal-9 = refl
 
 -- "the struck mark"
-pub refusal-10 : repriced Cost whole (with-figure 2600) 1 1_000_000_001 .result ≡ Refused NewWeight
+pub refusal-10 : repriced Cost worked (with-figure 2600) 1 1_000_000_001 .result ≡ Refused NewWeight
 unfolding repriced repriceAcceptance lineAcceptance lentAcceptance acceptance edgesAcceptance edgeAcceptance allBelow
 refusal-10 = refl
 
 -- "part 5 of 5"
-pub refusal-11 : billed Cost whole (with-figure 2600) 5 [] .result ≡ extent.Refused NoSuchVertex
+pub refusal-11 : billed Cost worked (with-figure 2600) 5 [] .result ≡ extent.Refused NoSuchVertex
 unfolding billed billAcceptance partAcceptance lentAcceptance acceptance edgesAcceptance edgeAcceptance allBelow
 refusal-11 = refl
 
 -- "part 4 below"
-pub refusal-12 : billed Cost whole (with-figure 2600) 4 [] .result ≡ extent.Refused Underivable
+pub refusal-12 : billed Cost worked (with-figure 2600) 4 [] .result ≡ extent.Refused Underivable
 unfolding billed billAcceptance partAcceptance sameAnswers equal lentAcceptance acceptance edgesAcceptance edgeAcceptance allBelow
 refusal-12 = rw priced refl
 
 -- "6 lines, room 5"
-pub refusal-13 : billed Cost whole (with-figure 2600) 3 (0 ∷ 0 ∷ 0 ∷ 0 ∷ 0 ∷ []) .result ≡ extent.Refused BillRoom
+pub refusal-13 : billed Cost worked (with-figure 2600) 3 (0 ∷ 0 ∷ 0 ∷ 0 ∷ 0 ∷ []) .result ≡ extent.Refused BillRoom
 unfolding billed billAcceptance partAcceptance billOf bill bills sameAnswers equal lentAcceptance acceptance edgesAcceptance edgeAcceptance allBelow
 refusal-13 = rw priced refl
 

@@ -1,6 +1,6 @@
 -- Best-first (document 000, Algorithm 1), as an executable definition over the three answer columns: `vertices` turns from all unmade; a turn takes the first of
 -- the candidates of ready hyperedges whose head is unmade, and labels that head with it. This is what contracts equate the answer columns with.
--- And what each of its tests and choices tells. Assumes nothing.
+-- Assumes nothing: these are definitions.
 use Prim.Native.Nat.{ℕ, zero, suc}
 use lib.ListN.{getD, set, replicate}
 use lib.Dec.{eqb}

@@ -29,7 +29,7 @@ weightIn ls v = ls v .weight .0
 abbrev pub depthIn : (ℕ → Label) → ℕ → ℕ
 depthIn ls v = ls v .depth
 
--- of a tail: the weights, a vertex listed twice counted twice; the greatestDepth depth; and whether every vertex is made
+-- of a tail: the weights, a vertex listed twice counted twice; the greatest of its depths, 0 if it is empty; and whether every vertex is made
 unfoldable pub each : (weight : ℕ → ℕ) → List ℕ → List ℕ
 each w [] = []
 each w (v ∷ vs) = w v ∷ each w vs

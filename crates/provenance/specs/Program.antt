@@ -1,6 +1,6 @@
 -- The annotated Datalog program that a table is (document 000, before Definition 5): each line is a rule, from its own figure and the parts that it lists. The
--- paper's "There, facts carry the weight; here a line's own figure stands for one more fact that only this line uses". And that the program's trees are the
--- derivations, with the own figures along the listing at their leaves. Assumes nothing.
+-- paper's "There, facts carry the weight; here a line's own figure stands for one more fact that only this line uses". Its trees are the make-ups, with the
+-- own figures along the listing at their leaves (proofs). Assumes nothing: these are definitions.
 use mathlib.Core.List.{List, _∷_, map}
 use Prim.Native.Nat.{ℕ, _<_}
 use Rattle.semiring.specs.Datalog.{Program}

@@ -1,6 +1,5 @@
--- Support: at a fixpoint each made vertex has its chosen make-up, which is thrifty and has the label's figure, depth and line; and the listing of the chosen
--- make-up, the bill, can be computed from the labels. The paper's "Its chosen make-up uses the chosen line of every part in it". By induction on depth.
--- Assumes nothing.
+-- The chosen make-up of a part, and its bill as it is computed from the labels. The paper's "Its chosen make-up uses the chosen line of every part in it". Assumes
+-- nothing: these are definitions.
 use mathlib.Core.Path.{_≡_}
 use mathlib.Core.List.{List, [], _∷_, _++_}
 use Prim.Native.Nat.{ℕ, zero, suc, _+_}

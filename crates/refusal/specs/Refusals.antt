@@ -1,5 +1,5 @@
 -- What a refusal's number and place are, and the one number that a caller in C gets. The paper's table of refusals, and "The calls" for C.
--- Assumes nothing: these are definitions, and the law `exact` of one of them.
+-- Assumes nothing: these are definitions.
 use lib.Dec.{eqb}
 use Rattle.weights.specs.declared.Measure.the-variants.{Cost, Days}
 use Rattle.weights.specs.Choice.{pick}

@@ -10,48 +10,46 @@ use Rattle.weights.specs.Labels.{aheadOf}
 use Rattle.refusal.specs.declared.Acceptance.the-variants.{Accepted}
 use Rattle.provenance.specs.Labelling.{each, greatestDepth, noneZero, offerOf}
 use Rattle.provenance.specs.BestFirst.{opening, next, turn, turns, best-first}
-use Rattle.columns.specs.Columns.{Columns, columns}
+use Rattle.columns.specs.Worked.{worked}
 use Rattle.columns.specs.Acceptance.{allBelow, edgeAcceptance, edgesAcceptance, acceptance}
 use Rattle.settle.specs.Settling.{answersOf}
 use Rattle.text.specs.Tables.{edgesFrom}
 use Rattle.text.specs.Render.{digitsOn, digits, word, firstWord as opened, measureText, header, ownText, tailText, edgeText, edgesText, tableText, render}
 use Rattle.text.specs.Machine.{run, finish, parse}
+use Rattle.text.specs.Worked.{costText, daysText}
 use Rattle.readtable.specs.Read.{readInto}
 use Rattle.report.specs.Report.{mostInput, names, stateWord, row, rows, list, refusedWord, refusedLine, listedAs, readInput, report}
 use Rattle.report.proofs.Reports.{report-short, report-rendered}
-use Rattle.report.specs.Examples.{costText, costList, daysText, daysList}
-
-worked : Columns
-worked = columns 5 (0 ∷ 1 ∷ 2 ∷ 2 ∷ 3 ∷ 4 ∷ []) (1200 ∷ 300 ∷ 500 ∷ 2100 ∷ 0 ∷ 10 ∷ []) (0 ∷ 0 ∷ 0 ∷ 0 ∷ 0 ∷ 2 ∷ 2 ∷ 0 ∷ 2 ∷ 3 ∷ 5 ∷ 1 ∷ []) (0 ∷ 1 ∷ 2 ∷ 1 ∷ 1 ∷ 4 ∷ [])
+use Rattle.report.specs.Examples.{costList, daysList}
 
 accepted : acceptance worked ≡ Accepted
-unfolding worked allBelow edgeAcceptance edgesAcceptance acceptance
+unfolding allBelow edgeAcceptance edgesAcceptance acceptance
 accepted = refl
 
 rendered-cost : render Cost worked ≡ costText
-unfolding worked costText edgesFrom digitsOn digits word opened measureText header ownText tailText edgeText edgesText tableText
+unfolding costText edgesFrom digitsOn digits word opened measureText header ownText tailText edgeText edgesText tableText
 rendered-cost = refl
 
 listed-cost : list (answersOf Cost worked) 5 ≡ costList
-unfolding worked costList fold weigh aheadOf each greatestDepth noneZero offerOf opening next turn turns best-first answersOf digitsOn digits names stateWord row rows list
+unfolding costList fold weigh aheadOf each greatestDepth noneZero offerOf opening next turn turns best-first answersOf digitsOn digits names stateWord row rows list
 listed-cost = refl
 
 pub worked-cost : report costText ≡ costList
-unfolding worked costText
+unfolding costText
 worked-cost =
     let s : length (render Cost worked) ≤ mostInput = let e = ap length rendered-cost in omega arith in
     ap report (sym rendered-cost) ∙ report-rendered Cost worked accepted s ∙ listed-cost
 
 rendered-days : render Days worked ≡ daysText
-unfolding worked daysText edgesFrom digitsOn digits word opened measureText header ownText tailText edgeText edgesText tableText
+unfolding daysText edgesFrom digitsOn digits word opened measureText header ownText tailText edgeText edgesText tableText
 rendered-days = refl
 
 listed-days : list (answersOf Days worked) 5 ≡ daysList
-unfolding worked daysList fold weigh aheadOf each greatestDepth noneZero offerOf opening next turn turns best-first answersOf digitsOn digits names stateWord row rows list
+unfolding daysList fold weigh aheadOf each greatestDepth noneZero offerOf opening next turn turns best-first answersOf digitsOn digits names stateWord row rows list
 listed-days = refl
 
 pub worked-days : report daysText ≡ daysList
-unfolding worked daysText
+unfolding daysText
 worked-days =
     let s : length (render Days worked) ≤ mostInput = let e = ap length rendered-days in omega arith in
     ap report (sym rendered-days) ∙ report-rendered Days worked accepted s ∙ listed-days

@@ -71,7 +71,7 @@ pub report-short : (input : List ℕ) → length input ≤ mostInput → report 
 unfolding report
 report-short input h = rw (le-ltb mostInput (length input) h)
 
--- The largest output fits the room -------------------------------------------------------------------------------------------------------------
+-- Every output fits the room --------------------------------------------------------------------------------------------------------------------
 
 -- the place that a reading tells
 abbrev placeIn : Reading → ℕ

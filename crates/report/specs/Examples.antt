@@ -1,17 +1,6 @@
--- The paper's worked text and its list, byte for byte, in cost and in days; and the empty input. The paper's "A table priced whole". Assumes nothing.
+-- The list of the paper's worked text, byte for byte, in cost and in days. The paper's "A table priced whole". Assumes nothing.
 use Prim.Native.Nat.{ℕ}
 use mathlib.Core.List.{List, [], _∷_}
-
--- the paper's text
-unfoldable pub costText : List ℕ
-costText =
-    112 ∷ 97 ∷ 114 ∷ 116 ∷ 115 ∷ 32 ∷ 53 ∷ 10
-    ∷ 48 ∷ 32 ∷ 49 ∷ 50 ∷ 48 ∷ 48 ∷ 10
-    ∷ 49 ∷ 32 ∷ 51 ∷ 48 ∷ 48 ∷ 10
-    ∷ 50 ∷ 32 ∷ 53 ∷ 48 ∷ 48 ∷ 32 ∷ 48 ∷ 32 ∷ 49 ∷ 10
-    ∷ 50 ∷ 32 ∷ 50 ∷ 49 ∷ 48 ∷ 48 ∷ 10
-    ∷ 51 ∷ 32 ∷ 48 ∷ 32 ∷ 50 ∷ 32 ∷ 49 ∷ 32 ∷ 49 ∷ 10
-    ∷ 52 ∷ 32 ∷ 49 ∷ 48 ∷ 32 ∷ 52 ∷ 10 ∷ []
 
 -- the paper's list
 unfoldable pub costList : List ℕ
@@ -23,18 +12,7 @@ costList =
     ∷ 51 ∷ 32 ∷ 109 ∷ 97 ∷ 100 ∷ 101 ∷ 32 ∷ 50 ∷ 54 ∷ 48 ∷ 48 ∷ 32 ∷ 51 ∷ 32 ∷ 52 ∷ 10
     ∷ 52 ∷ 32 ∷ 117 ∷ 110 ∷ 109 ∷ 97 ∷ 100 ∷ 101 ∷ 32 ∷ 48 ∷ 32 ∷ 48 ∷ 32 ∷ 48 ∷ 10 ∷ []
 
--- the same table in days
-unfoldable pub daysText : List ℕ
-daysText =
-    112 ∷ 97 ∷ 114 ∷ 116 ∷ 115 ∷ 32 ∷ 53 ∷ 32 ∷ 100 ∷ 97 ∷ 121 ∷ 115 ∷ 10
-    ∷ 48 ∷ 32 ∷ 49 ∷ 50 ∷ 48 ∷ 48 ∷ 10
-    ∷ 49 ∷ 32 ∷ 51 ∷ 48 ∷ 48 ∷ 10
-    ∷ 50 ∷ 32 ∷ 53 ∷ 48 ∷ 48 ∷ 32 ∷ 48 ∷ 32 ∷ 49 ∷ 10
-    ∷ 50 ∷ 32 ∷ 50 ∷ 49 ∷ 48 ∷ 48 ∷ 10
-    ∷ 51 ∷ 32 ∷ 48 ∷ 32 ∷ 50 ∷ 32 ∷ 49 ∷ 32 ∷ 49 ∷ 10
-    ∷ 52 ∷ 32 ∷ 49 ∷ 48 ∷ 32 ∷ 52 ∷ 10 ∷ []
-
--- and its list
+-- and of the same table in days
 unfoldable pub daysList : List ℕ
 daysList =
     112 ∷ 97 ∷ 114 ∷ 116 ∷ 32 ∷ 115 ∷ 116 ∷ 97 ∷ 116 ∷ 101 ∷ 32 ∷ 102 ∷ 105 ∷ 103 ∷ 117 ∷ 114 ∷ 101 ∷ 32 ∷ 100 ∷ 101 ∷ 112 ∷ 116 ∷ 104 ∷ 32 ∷ 108 ∷ 105 ∷ 110 ∷ 101 ∷ 10

@@ -27,7 +27,7 @@ use Rattle.readtable.specs.Read.{ReadOutcome, columnsRead, readTable}
 abbrev pub mostInput : ℕ
 mostInput = 65535
 
--- the most bytes of an output: the names, and 1,024 rows of 34; `report-fits` of Laws
+-- a bound on the bytes of an output (`report-fits`): the names, and 1,024 rows of 34, as if every part had four digits
 abbrev pub mostOutput : ℕ
 mostOutput = 34845
 

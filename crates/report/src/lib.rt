@@ -28,7 +28,8 @@ ghost use Rattle.report.specs.Pieces.{Lent, lentColumns};
 // The most bytes of an input.
 pub const MOST_INPUT: usize = 65535;
 
-// The most bytes of an output: the names, and 1,024 rows of 34.
+// A bound on the bytes of an output: the names, and 1,024 rows of 34, as if every part had four
+// digits.
 pub const MOST_OUTPUT: usize = 34845;
 
 // A state's word behind a space.

@@ -180,7 +180,7 @@ module _ (m : Measure) (c : Columns) (a : Answers) (e : ℕ) where
   never : true ≡ false → ¬ Unit {0}
   never p u = let z : _≡_ {A = ℕ} 0 1 = cc in omega arith
 
-  -- "and strike an unstruck line": the sameAnswers, with no figure to test
+  -- "and strike an unstruck line": the same, with no figure to test
   pub strike-exactly : (strikeAcceptance m c a e ≡ Accepted) ↔ RightChange m c a e (Unit {0})
   unfolding strikeAcceptance
   strike-exactly = (chain-right m c a e true (Unit {0}) ok never, right-chain m c a e true (Unit {0}) ok never)

@@ -32,7 +32,7 @@ answersAcceptance m c a = test (sameAnswers a (answersOf m c)) WrongAnswers Acce
 unfoldable pub repriceAcceptance : Measure → Columns → Answers → (e w : ℕ) → Acceptance
 repriceAcceptance m c a e w = andThen (lineAcceptance c a e) (test (leb w greatest) NewWeight (answersAcceptance m c a))
 
--- striking line e: the sameAnswers without 10
+-- striking line e: the same without 10
 unfoldable pub strikeAcceptance : Measure → Columns → Answers → ℕ → Acceptance
 strikeAcceptance m c a e = andThen (lineAcceptance c a e) (answersAcceptance m c a)
 

@@ -1,5 +1,5 @@
--- "Gaps may stand between spans and their contents are never looked at": a table with other contents in its gaps has the sameAnswers answers, and settling and the
--- answer check have the sameAnswers outcome, accepted or refused. Assumes nothing.
+-- "Gaps may stand between spans and their contents are never looked at": a table with other contents in its gaps has the same answers, and settling and the
+-- answer check have the same outcome, accepted or refused. Assumes nothing.
 use mathlib.Core.Path.{_≡_, refl, sym, _∙_, ap, ap₂}
 use mathlib.Core.List.{List}
 use Prim.Native.Nat.{ℕ}

@@ -179,7 +179,7 @@ fn edge_right(
     keeps_up(measure, l, o)
 }
 
-// The sameAnswers of every vertex.
+// The same of every vertex.
 fn vertices_right(
     measure: Measure,
     heads: &[u64],
@@ -207,7 +207,7 @@ fn vertices_right(
     true
 }
 
-// The sameAnswers of every hyperedge.
+// The same of every hyperedge.
 fn edges_right(
     measure: Measure,
     heads: &[u64],
@@ -263,7 +263,7 @@ pub fn answers_right(
     edges_right(measure, heads, own, spans, tails, weights, depths, edges)
 }
 
-// The sameAnswers of any table, or why it is refused.
+// The same of any table, or why it is refused: yes or no, and never 8.
 pub fn check_answers(
     measure: Measure,
     n: u64,

@@ -4,35 +4,26 @@ use mathlib.Core.List.{List, [], _∷_}
 use Prim.Native.Nat.{ℕ}
 use Rattle.weights.specs.declared.Measure.the-variants.{Cost, Days}
 use Rattle.columns.specs.Columns.{Columns, columns}
+use Rattle.columns.specs.Worked.{worked}
 use Rattle.text.specs.Tables.{edge, edgesFrom, tableOf, closed, listedInAll, headsOf, ownsOf, spansFrom, tailsOf}
 use Rattle.text.specs.Render.{digitsOn, digits, word, firstWord, measureText, header, ownText, tailText, edgeText, edgesText, tableText, render}
+use Rattle.text.specs.Worked.{costText}
 use Rattle.text.specs.Machine.{limit, lineAt, digitOf, grown, instead, after, spell, ended, step, run, Whole, Wrong, finish, parse}
 
 -- the paper's table, with gaps before the first span, between two and behind the last
-worked : Columns
-worked = columns 5 (0 ∷ 1 ∷ 2 ∷ 2 ∷ 3 ∷ 4 ∷ []) (1200 ∷ 300 ∷ 500 ∷ 2100 ∷ 0 ∷ 10 ∷ []) (0 ∷ 0 ∷ 1 ∷ 0 ∷ 1 ∷ 2 ∷ 3 ∷ 0 ∷ 3 ∷ 3 ∷ 7 ∷ 1 ∷ []) (9 ∷ 0 ∷ 1 ∷ 2 ∷ 1 ∷ 1 ∷ 9 ∷ 4 ∷ 9 ∷ [])
+gapped : Columns
+gapped = columns 5 (worked .heads) (worked .own) (0 ∷ 0 ∷ 1 ∷ 0 ∷ 1 ∷ 2 ∷ 3 ∷ 0 ∷ 3 ∷ 3 ∷ 7 ∷ 1 ∷ []) (9 ∷ 0 ∷ 1 ∷ 2 ∷ 1 ∷ 1 ∷ 9 ∷ 4 ∷ 9 ∷ [])
 
--- its text: `parts 5`, `0 1200`, `1 300`, `2 500 0 1`, `2 2100`, `3 0 2 1 1`, `4 10 4`
-workedText : List ℕ
-workedText =
-    112 ∷ 97 ∷ 114 ∷ 116 ∷ 115 ∷ 32 ∷ 53 ∷ 10
-    ∷ 48 ∷ 32 ∷ 49 ∷ 50 ∷ 48 ∷ 48 ∷ 10
-    ∷ 49 ∷ 32 ∷ 51 ∷ 48 ∷ 48 ∷ 10
-    ∷ 50 ∷ 32 ∷ 53 ∷ 48 ∷ 48 ∷ 32 ∷ 48 ∷ 32 ∷ 49 ∷ 10
-    ∷ 50 ∷ 32 ∷ 50 ∷ 49 ∷ 48 ∷ 48 ∷ 10
-    ∷ 51 ∷ 32 ∷ 48 ∷ 32 ∷ 50 ∷ 32 ∷ 49 ∷ 32 ∷ 49 ∷ 10
-    ∷ 52 ∷ 32 ∷ 49 ∷ 48 ∷ 32 ∷ 52 ∷ 10 ∷ []
-
-rendered : render Cost worked ≡ workedText
-unfolding worked workedText edgesFrom digitsOn digits word firstWord measureText header ownText tailText edgeText edgesText tableText
+rendered : render Cost gapped ≡ costText
+unfolding gapped costText edgesFrom digitsOn digits word firstWord measureText header ownText tailText edgeText edgesText tableText
 rendered = refl
 
-read-back : parse workedText ≡ Whole (tableOf Cost worked)
-unfolding worked workedText edgesFrom word firstWord listedInAll limit lineAt digitOf grown instead after spell ended step run finish parse
+read-back : parse costText ≡ Whole (tableOf Cost gapped)
+unfolding gapped costText edgesFrom word firstWord listedInAll limit lineAt digitOf grown instead after spell ended step run finish parse
 read-back = refl
 
-gaps-closed : closed worked ≡ columns 5 (0 ∷ 1 ∷ 2 ∷ 2 ∷ 3 ∷ 4 ∷ []) (1200 ∷ 300 ∷ 500 ∷ 2100 ∷ 0 ∷ 10 ∷ []) (0 ∷ 0 ∷ 0 ∷ 0 ∷ 0 ∷ 2 ∷ 2 ∷ 0 ∷ 2 ∷ 3 ∷ 5 ∷ 1 ∷ []) (0 ∷ 1 ∷ 2 ∷ 1 ∷ 1 ∷ 4 ∷ [])
-unfolding worked edgesFrom headsOf ownsOf spansFrom tailsOf
+gaps-closed : closed gapped ≡ worked
+unfolding gapped edgesFrom headsOf ownsOf spansFrom tailsOf
 gaps-closed = refl
 
 -- `parts 5 days`, LF, `0 -`, LF

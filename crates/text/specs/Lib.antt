@@ -5,3 +5,4 @@ pub mod Rows
 pub mod Places
 pub mod Permitted
 pub mod Prefixes
+pub mod Worked

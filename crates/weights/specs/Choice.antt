@@ -1,4 +1,4 @@
--- A choice by a test, and its laws. Assumes nothing.
+-- A choice by a test. Assumes nothing: this is a definition.
 use mathlib.Core.Bool.{Bool, true, false}
 
 abbrev pub pick : {A : Type 0} → Bool → A → A → A

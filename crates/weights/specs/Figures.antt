@@ -20,6 +20,7 @@ ceiling = 1_000_000_000_000
 abbrev pub over : ℕ
 over = 1_000_000_000_001
 
+-- "A sum above the ceiling, 1,000,000,000,000, becomes 1,000,000,000,001": `over` is the number behind the ceiling, so it is the least of the sum and `over`
 abbrev pub capped : ℕ → ℕ
 capped x = min x over
 

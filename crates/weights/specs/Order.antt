@@ -1,4 +1,5 @@
--- The order of labels, by weight, then by depth, then by hyperedge: the relation behind the test `aheadOf`. It is total. Assumes nothing.
+-- The order of labels, by weight, then by depth, then by hyperedge: the relation behind the test `aheadOf`, and what the test tells. Assumes nothing: these
+-- are definitions.
 use mathlib.Core.Bool.{Bool, true, false}
 use Prim.Native.Nat.{_≤_}
 use Rattle.weights.specs.declared.Label.{Label}

@@ -11,13 +11,13 @@ pub struct Vertex(pub u64);
 
 pub struct Hyperedge(pub u64);
 
-// How the weights of a derivation are joined: costs are added, and of days the greatest counts.
+// The paper's measure: by cost the figures of a make-up are added, by days the greatest counts.
 pub enum Measure {
     Cost,
     Days,
 }
 
-// A figure.
+// The paper's figure: an own figure of a line, or the figure of a part.
 pub struct Weight(pub u64);
 
 impl Weight {
@@ -110,8 +110,8 @@ impl Weight {
     }
 }
 
-// What is known of a vertex: the weight, the depth and the root of its chosen derivation. Depth 0
-// is unmade, and then all three are 0.
+// The three numbers of a part's entry: the figure, the depth and the chosen line, which is the root
+// of its chosen make-up. Depth 0 is unmade, and then all three are 0.
 pub struct Label {
     pub weight: Weight,
     pub depth: u64,
@@ -145,13 +145,14 @@ pub fn ahead(measure: Measure, a: Label, b: Label) -> bool
     a.edge.0 <= b.edge.0
 }
 
+// The paper's state of a part.
 pub enum State {
     Made,
     Over,
     Unmade,
 }
 
-// A vertex's entry: its label, and the state that the label's numbers tell.
+// A part's entry: its state, which the three numbers tell, and the numbers.
 pub struct Entry {
     pub state: State,
     pub weight: Weight,
