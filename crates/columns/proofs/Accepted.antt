@@ -1,12 +1,13 @@
 -- What holds of an accepted table: its lengths and limits, of each line its head, own figure, span and listed parts. Assumes nothing.
-use mathlib.Core.Path.{_≡_, refl, subst}
+use mathlib.Core.Path.{_≡_, refl, sym, _∙_, subst}
 use mathlib.Core.List.{List, [], _∷_}
 use mathlib.Core.Bool.{Bool, true, false}
 use mathlib.Core.Logic.{⊎-elim}
 use Prim.Native.Nat.{ℕ, zero, suc, _+_, _*_, _≤_, _<_}
 use native.Mathlib.Nat.{eq-or-lt-of-le}
 use native.Mathlib.Omega.{arith}
-use lib.ListN.{length, getD}
+use lib.ListN.{length, getD, drop, length-take, length-drop}
+use lib.Seq.{getD-take, getD-drop}
 use lib.Dec.{ltb}
 use borrow.Author.Tests.{ltb-true, leb-true, eqb-true, lt-ltb, le-leb, eq-eqb}
 use Rattle.weights.specs.declared.Hyperedge.{Hyperedge}
@@ -39,6 +40,20 @@ pub below-all : (n : ℕ) (vs : List ℕ) → ((k : ℕ) → k < length vs → g
 unfolding allBelow
 below-all n [] f = refl
 below-all n (v ∷ vs) f = rw (lt-ltb _ _ (f 0 (omega arith)), below-all n vs (λ k h. f (suc k) (omega arith)))
+
+-- place k of a part of a column, and the part's length
+pub part-at : (offset size : ℕ) (xs : List ℕ) (k : ℕ) → k < size → getD (part offset size xs) k 0 ≡ getD xs (offset + k) 0
+part-at offset size xs k h = getD-take size (drop offset xs) k 0 h ∙ getD-drop offset xs k 0
+
+pub part-length : (offset size : ℕ) (xs : List ℕ) → offset + size ≤ length xs → length (part offset size xs) ≡ size
+part-length offset size xs h = omega (arith, length-take size (drop offset xs), length-drop offset xs)
+
+-- what is below n throughout is so in a part
+pub part-below : (n offset size : ℕ) (xs : List ℕ) → offset + size ≤ length xs → allBelow n xs ≡ true → allBelow n (part offset size xs) ≡ true
+part-below n offset size xs h p =
+    below-all n (part offset size xs) (λ k i.
+    let l : k < size = omega (arith, part-length offset size xs h) in
+    subst (λ (x : ℕ). x < n) (sym (part-at offset size xs k l)) (below-at n xs p (offset + k) (omega arith)))
 
 -- a line that is accepted
 pub record AcceptedEdge (n h o offset size end : ℕ) (tails : List ℕ) : Type 0 where

@@ -2,31 +2,22 @@
 use mathlib.Core.Path.{_≡_, refl, sym, _∙_, ap, subst}
 use mathlib.Core.Bool.{Bool, true, false}
 use mathlib.Core.Logic.{_↔_, ⊎-elim}
-use mathlib.Core.List.{List}
 use Prim.Native.Nat.{ℕ, zero, suc, _+_, _-_, _*_, _≤_, _<_}
 use native.Mathlib.Nat.{eq-or-lt-of-le}
 use native.Mathlib.Numerals.{add-one}
 use native.Mathlib.Omega.{arith}
-use lib.ListN.{length, getD, drop, length-take, length-drop}
-use lib.Seq.{getD-take, getD-drop}
+use lib.ListN.{length}
 use lib.Dec.{ltb, leb, eqb}
 use borrow.Author.Tests.{ltb-true, ltb-false, leb-true, leb-false, eqb-true, eqb-false, lt-ltb, le-ltb, le-leb, lt-leb, eq-eqb}
 use Rattle.weights.specs.Figures.{struck}
 use Rattle.refusal.specs.declared.Refusal.{Refusal}
 use Rattle.refusal.specs.declared.Acceptance.{Acceptance}
 use Rattle.refusal.specs.declared.Acceptance.the-variants.{Accepted, Refused}
-use Rattle.columns.specs.Columns.{Answers, Columns, headAt, ownAt, offsetAt, lengthAt, part, tailAt}
+use Rattle.columns.specs.Columns.{Answers, Columns, headAt, ownAt, offsetAt, lengthAt, tailAt}
 use Rattle.columns.specs.Acceptance.{mostVertices, mostEdges, mostListed, longestTail, test, allBelow, edgeAcceptance, edgeAt, edgesAcceptance, acceptance, lentAcceptance}
-use Rattle.columns.proofs.Accepted.{both-accepted, below-at, below-all, edge-accepted, edge-accepts, table-accepted, columns-accepted, columns-accept}
+use Rattle.columns.proofs.Accepted.{both-accepted, below-at, below-all, part-at, part-length, edge-accepted, edge-accepts, table-accepted, columns-accepted, columns-accept}
 use Rattle.columns.specs.Right.{Few, Level, endBefore, RightHead, RightOwn, RightSpan, RightTail, RightEdge, RightTable, WrongEdge, FirstWrong, WrongTable, RightLent, WrongLent}
 use Rattle.columns.proofs.Refuses.{Refuses, none-refuses, test-refuses, then-refuses}
-
--- place k of a part of a column, and the part's length
-part-at : (offset size : ℕ) (xs : List ℕ) (k : ℕ) → k < size → getD (part offset size xs) k 0 ≡ getD xs (offset + k) 0
-part-at offset size xs k h = getD-take size (drop offset xs) k 0 h ∙ getD-drop offset xs k 0
-
-part-length : (offset size : ℕ) (xs : List ℕ) → offset + size ≤ length xs → length (part offset size xs) ≡ size
-part-length offset size xs h = omega (arith, length-take size (drop offset xs), length-drop offset xs)
 
 -- of tests that refuse alike one fails
 one-fails : (b : Bool) (r : Refusal) (a : Acceptance) → (b ≡ true → a ≡ Refused r) → test b r a ≡ Refused r

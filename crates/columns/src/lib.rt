@@ -22,23 +22,25 @@ pub const MOST_LISTED: usize = 16384;
 
 pub const LONGEST_TAIL: u64 = 16;
 
-// Whether each number of a list is below n.
+// Whether each number of a list is below n. The list is looked through to its end, without a branch
+// for each number: long columns are nearly always right.
 pub fn all_below(n: u64, list: &[u64]) -> bool
     ensures { λ r. ⌜ r ≡ allBelow n (now (list .entry)) ⌝ }
 {
+    let mut above: u64 = 0;
     let mut k = 0;
     while k < list.len() {
         if list[k] >= n {
-            return false;
+            above = 1;
         }
         k += 1;
     }
-    true
+    above == 0
 }
 
 // What is wrong with hyperedge e, whose tail is `size` vertices from `offset` on, where the tail
-// before it ends at `end`. `offset + size` could wrap, so it is not computed before it is known to
-// be within the column.
+// before it ends at `end`. `offset + size` could wrap, so it is not computed before the offset is
+// known to be within the column. Where the column is below n throughout, `clean`, no tail is read.
 fn check_edge(
     n: u64,
     e: Hyperedge,
@@ -48,7 +50,9 @@ fn check_edge(
     size: u64,
     end: u64,
     tails: &[u64],
+    clean: bool,
 ) -> Acceptance
+    requires { ⌜ clean ≡ allBelow n (now tails) ⌝ }
     ensures { λ r. ⌜ r ≡ edgeAcceptance n e (head .0) (own .0) offset size end (now (tails .entry)) ⌝ }
 {
     if head.0 >= n {
@@ -67,11 +71,15 @@ fn check_edge(
     if offset > all {
         return Acceptance::Refused(Refusal::Span(e));
     }
-    if size > all - offset {
+    let stop = offset + size;
+    if stop > all {
         return Acceptance::Refused(Refusal::Span(e));
     }
+    if clean {
+        return Acceptance::Accepted;
+    }
     let from = offset as usize;
-    let to = from + size as usize;
+    let to = stop as usize;
     if all_below(n, &tails[from..to]) {
         Acceptance::Accepted
     } else {
@@ -79,13 +87,15 @@ fn check_edge(
     }
 }
 
-// Whether every hyperedge is accepted, or the first refusal.
+// Whether every hyperedge is accepted, or the first refusal. The column of tails is looked through
+// once; a number in a gap may be n or more, and then the tails are read one by one.
 fn check_edges(n: u64, heads: &[u64], own: &[u64], spans: &[u64], tails: &[u64]) -> Acceptance
     requires { ⌜ (length (now own) ≡ length (now heads)) × (length (now spans) ≡ 2 * length (now heads)) ⌝ }
     ensures { λ r.
         let c = columns n (now (heads .entry)) (now (own .entry)) (now (spans .entry)) (now (tails .entry)) in
         ⌜ r ≡ edgesAcceptance c (length (now (heads .entry))) 0 0 ⌝ }
 {
+    let clean = all_below(n, tails);
     let mut end: u64 = 0;
     let mut i = 0;
     while i < heads.len() {
@@ -102,6 +112,7 @@ fn check_edges(n: u64, heads: &[u64], own: &[u64], spans: &[u64], tails: &[u64])
             size,
             end,
             tails,
+            clean,
         );
         match a {
             Acceptance::Refused(r) => return Acceptance::Refused(r),

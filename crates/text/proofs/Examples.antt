@@ -1,7 +1,6 @@
 -- The paper's worked text, and texts that break the form: what the definitions give for them. Assumes nothing.
 use mathlib.Core.Path.{_≡_, refl}
-use mathlib.Core.List.{List, [], _∷_}
-use Prim.Native.Nat.{ℕ}
+use mathlib.Core.List.{[], _∷_}
 use Rattle.weights.specs.declared.Measure.the-variants.{Cost, Days}
 use Rattle.columns.specs.Columns.{Columns, columns}
 use Rattle.columns.specs.Worked.{worked}

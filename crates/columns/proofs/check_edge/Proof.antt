@@ -1,12 +1,13 @@
 -- `columns::check_edge` meets its contract: at each `return` the tests that led there say which test of `edgeAcceptance` is the first to fail. Assumes nothing.
 use mathlib.Core.Path.{_≡_, sym, _∙_, ap}
-use Prim.Native.Nat.{ℕ, _+_, _-_, _≤_, _<_}
+use Prim.Native.Nat.{ℕ, _+_, _-_, _<_}
 use native.Mathlib.Omega.{arith}
 use borrow.Author.Needs.{needs}
 use lib.ListN.{length}
 use Rattle.columns.specs.Columns.{part}
 use Rattle.columns.specs.Acceptance.{edgeAcceptance, allBelow}
 use Rattle.columns.proofs.Laws.{tests}
+use Rattle.columns.proofs.Accepted.{part-below}
 use Rattle.columns.proofs.check_edge.Statement.{statement}
 use Rattle.columns.proofs.check_edge.Tie as tie
 
@@ -35,32 +36,36 @@ returns-5 c =
 
 returns-6 : tie.Need-returns-6
 unfolding edgeAcceptance
-returns-6 c =
-    let a = c .before .before .before .before .before .before .before .before .before .before .args in
-    let h : length (a .tails .now) < a .offset + a .size = omega arith in
-    search tests
+returns-6 c = search tests
 
--- the part that is lent is the hyperedge's tail
-tail-is : (c : tie.After-all-below) → let a = c .before .before .before .before .before .before .before .before .before .before .before .before .args in c .all-below .result ≡ allBelow (a .n) (part (a .offset) (a .size) (a .tails .now))
-tail-is c =
-    let a = c .before .before .before .before .before .before .before .before .before .before .before .before .args in
-    let e : a .offset + a .size - a .offset ≡ a .size = omega arith in
-    c .all-below .ensures ∙ ap (λ (k : ℕ). allBelow (a .n) (part (a .offset) k (a .tails .now))) e
+-- past the tests of the span its tail alone is left to be looked at
+abbrev entry : tie.Else6 → tie.Start
+entry c = c .before .before .before .before .before .before .before .before .before .before
 
 returns-7 : tie.Need-returns-7
 unfolding edgeAcceptance
 returns-7 c =
-    let a = c .before .before .before .before .before .before .before .before .before .before .before .before .before .args in
-    let h : a .offset + a .size ≤ length (a .tails .now) = omega arith in
-    let t = sym (tail-is (c .before)) ∙ c .if7 .taken in
+    let a = entry (c .before) .args in
+    let t = part-below (a .n) (a .offset) (a .size) (a .tails .now) (c .before .if6 .left) (sym (entry (c .before) .pre) ∙ c .if7 .taken) in
     search (tests, t)
+
+-- the part that is lent is the hyperedge's tail
+tail-is : (c : tie.After-all-below) → let a = entry (c .before .before .before) .args in c .all-below .result ≡ allBelow (a .n) (part (a .offset) (a .size) (a .tails .now))
+tail-is c =
+    let a = entry (c .before .before .before) .args in
+    let e : a .offset + a .size - a .offset ≡ a .size = omega arith in
+    c .all-below .ensures ∙ ap (λ (k : ℕ). allBelow (a .n) (part (a .offset) k (a .tails .now))) e
 
 returns-8 : tie.Need-returns-8
 unfolding edgeAcceptance
 returns-8 c =
-    let a = c .before .before .before .before .before .before .before .before .before .before .before .before .before .args in
-    let h : a .offset + a .size ≤ length (a .tails .now) = omega arith in
-    let t = sym (tail-is (c .before)) ∙ c .if7 .left in
+    let t = sym (tail-is (c .before)) ∙ c .if8 .taken in
+    search (tests, t)
+
+returns-9 : tie.Need-returns-9
+unfolding edgeAcceptance
+returns-9 c =
+    let t = sym (tail-is (c .before)) ∙ c .if8 .left in
     search (tests, t)
 
 pub check-edge-spec : {M : Type 1} → statement M
@@ -72,12 +77,13 @@ check-edge-spec =
     returns-3
     returns-4
     returns-5
-    returns-6
     (λ c. search needs)
+    returns-6
+    returns-7
     (λ c. search needs)
     (λ c. search needs)
     (λ c. search needs)
     (λ c. search needs)
     (λ c κs. search needs)
-    returns-7
-    returns-8)
+    returns-8
+    returns-9)

@@ -14,16 +14,16 @@ use Rattle.columns.proofs.Accepted.{edge-accepted}
 use Rattle.columns.proofs.Laws.{edges-step, edges-stop, edges-end}
 
 abbrev Inv-loop : tie.InvT-loop
-Inv-loop n heads own spans tails end₀ i₀ end i =
+Inv-loop n heads own spans tails clean end₀ i₀ end i =
     (i ≤ length heads) × (edgesAcceptance (columns n heads own spans tails) (length heads - i) i end ≡ edgesAcceptance (columns n heads own spans tails) (length heads) 0 0)
 
 abbrev μ-loop : tie.MeasureT-loop
-μ-loop n heads own spans tails end₀ i₀ end i = length heads - i
+μ-loop n heads own spans tails clean end₀ i₀ end i = length heads - i
 
 -- the columns, seen from the loop
 abbrev table : tie.At-loop Inv-loop μ-loop → Columns
 table c =
-    let a = c .before .before .before .before .before .args in
+    let a = c .before .before .before .before .before .before .args in
     columns (a .n) (a .heads .now) (a .own .now) (a .spans .now) (a .tails .now)
 
 loop-holds : tie.Need-loop-holds Inv-loop μ-loop
@@ -31,8 +31,10 @@ loop-holds c = (omega arith, rw sub-zero)
 
 returns : tie.Need-returns Inv-loop μ-loop
 returns c =
-    let l = c .before .before .before .before .before .before .before .before .before in
-    edges-stop (table l) _ _ _ _ (c .before .before .before .before .before .before .before .before .loop-test .taken) (sym (c .before .before .before .check-edge .ensures) ∙ c .before .a .given .1) ∙ l .loop .inv .1
+    let p = c .before .before .before in
+    let t = p .before .before .before .before .before in
+    let l = t .before in
+    edges-stop (table l) _ _ _ _ (t .loop-test .taken) (sym (p .check-edge .ensures) ∙ c .before .a .given .1) ∙ l .loop .inv .1
 
 enum-told : tie.Need-enum-told Inv-loop μ-loop
 enum-told c = search needs
@@ -58,6 +60,7 @@ check-edges-spec =
     (tie.spec
     Inv-loop
     μ-loop
+    (λ c κs. search needs)
     loop-holds
     (λ c. search needs)
     (λ c. search needs)
