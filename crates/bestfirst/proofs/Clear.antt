@@ -35,6 +35,7 @@ module _ {m : Measure} {c : Columns} {a : Answers} {s : Lines} {q : List ℕ} (u
   emptied = record {
     sizes = k .sizes;
     unmade = deep-none;
+    untouched = k .untouched;
     empty = λ v h. ap (λ (z : List ℕ). cell z v) (k .first) ∙ getD-replicate mostVertices v end 0 (omega (arith, table-accepted c (u .turning .usable .accepted) .few));
     nothing = k .queue;
   }

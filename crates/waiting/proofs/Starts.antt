@@ -1,28 +1,31 @@
 -- Before the first turn: nothing waits at first, and one hyperedge after another waits or is offered. Assumes nothing.
 use Prim.Native.Nat.{ℕ, _+_, _≤_, _<_}
-use mathlib.Core.Path.{_≡_, sym, _∙_, ap, subst}
+use mathlib.Core.Path.{_≡_, refl, sym, _∙_, ap, subst}
 use mathlib.Core.Logic.{_⊎_, inl, inr, _≢_}
 use mathlib.Core.Bool.{true, false}
 use mathlib.Core.List.{List, [], List·Memᴰ·not-nil}
 use native.Mathlib.Omega.{arith}
 use native.Mathlib.Decide.{ℕ-discrete}
-use lib.ListN.{length}
+use lib.ListN.{length, set}
+use lib.Seq.{getD-set-other, set-getD}
 use Rattle.weights.specs.declared.Measure.{Measure}
+use Rattle.weights.specs.declared.Measure.the-variants.{Cost, Days}
 use Rattle.weights.proofs.Choice.{apart}
 use Rattle.weights.specs.Figures.{isStruck}
 use Rattle.weights.specs.Measures.{algebra}
 use Rattle.columns.specs.Columns.{Columns, headAt, ownAt, offsetAt, lengthAt, tailAt, cell}
 use Rattle.minima.specs.Minima.{Grouped}
 use Rattle.minima.proofs.Laws.{no-keys, no-keys-grouped}
-use Rattle.waiting.specs.Lines.{Lines, pushed, Carried, Gone, Pushable, ended, kept, Moved, stays, waits, Went, Offerable, Going, Starting, Rested, Empty}
+use Rattle.waiting.specs.Lines.{Lines, lines, pushed, Linkable, Linked, Untouched, Carried, Gone, ended, kept, Moved, stays, waits, Went, Offerable, Going, Starting, Rested, Empty}
 use Rattle.waiting.proofs.Keeping.{carried-none, pushed-sizes, went-stays, went-waits}
-use Rattle.waiting.proofs.Steps.{few, edge-room, head-key, tail-length, tail-at, tail-below, edge-fits, went-on, pushable}
+use Rattle.waiting.proofs.Steps.{few, edge-room, head-key, tail-length, tail-at, tail-below, edge-fits, went-on, linkable, pushable}
 use Rattle.waiting.proofs.Walking.{waiting-on}
 
 pub nothing-waits : {m : Measure} {c : Columns} {ws ds : List ℕ} {s : Lines} {q : List ℕ} → Empty c ds s q → Starting m c ws ds s q 0
 nothing-waits {q = q} x = record {
   sizes = x .sizes;
   unmade = x .unmade;
+  untouched = λ e h. x .untouched e;
   waiting = record {
     lists = λ v. [];
     chained = λ v h z. ended (x .empty v h);
@@ -31,6 +34,27 @@ nothing-waits {q = q} x = record {
     grouped = subst Grouped (sym (x .nothing)) no-keys-grouped;
     offers = λ u h. inl (ap (λ (z : List ℕ). cell z u) (x .nothing) ∙ no-keys u h);
   };
+}
+
+-- before a hyperedge starts, what it has passed joins to 0 by either measure
+unit-none : (m : Measure) → 0 ≡ algebra m .unit
+unit-none Cost = refl
+unit-none Days = refl
+
+-- so the lists alone tell it from one that waits for the first vertex of its tail
+linked-pushed : (s : Lines) (v e : ℕ) {first next : List ℕ} → Untouched s e → Linked (s .first) (s .next) v e first next
+    → lines first next (s .at) (s .joined) (s .deepest) ≡ pushed s v e 0 0 0
+linked-pushed s v e u l = λ i. record { first = l .first i; next = l .next i; at = none (s .at) (u .at) i; joined = none (s .joined) (u .joined) i; deepest = none (s .deepest) (u .deepest) i }
+  where
+    none : (xs : List ℕ) → cell xs e ≡ 0 → xs ≡ set xs e 0
+    none xs z = sym (set-getD xs e 0) ∙ ap (set xs e) z
+
+-- another hyperedge that waits stores nothing of it
+pushed-untouched : (s : Lines) (v e i j g x : ℕ) → x ≢ e → Untouched s x → Untouched (pushed s v e i j g) x
+pushed-untouched s v e i j g x n u = record {
+  at = getD-set-other (s .at) e x i 0 n ∙ u .at;
+  joined = getD-set-other (s .joined) e x j 0 n ∙ u .joined;
+  deepest = getD-set-other (s .deepest) e x g 0 n ∙ u .deepest;
 }
 
 next-or : (i x : ℕ) → i ≤ x → (x ≡ i) ⊎ (i + 1 ≤ x)
@@ -43,7 +67,12 @@ next-or i x h = go (ℕ-discrete x i)
 module _ {m : Measure} {c : Columns} {ws ds : List ℕ} {s : Lines} {q : List ℕ} {i : ℕ} (x : Starting m c ws ds s q i) where
   -- a struck hyperedge is passed over
   pub struck-next : isStruck (ownAt c i) ≡ true → Starting m c ws ds s q (i + 1)
-  struck-next t = record { sizes = x .sizes; unmade = x .unmade; waiting = waiting-on (λ e h u b. go e u (next-or i e b)) (λ e b. omega arith) (x .waiting) }
+  struck-next t = record {
+    sizes = x .sizes;
+    unmade = x .unmade;
+    untouched = λ e h. x .untouched e (omega arith);
+    waiting = waiting-on (λ e h u b. go e u (next-or i e b)) (λ e b. omega arith) (x .waiting);
+  }
     where
       go : (e : ℕ) → isStruck (ownAt c e) ≡ false → (e ≡ i) ⊎ (i + 1 ≤ e) → i + 1 ≤ e
       go e u (inl p) = apart (sym u ∙ ap (λ (z : ℕ). isStruck (ownAt c z)) p ∙ t)
@@ -69,12 +98,16 @@ module _ {m : Measure} {c : Columns} {ws ds : List ℕ} {s : Lines} {q : List �
         let z : offsetAt c i + 0 ≡ offsetAt c i = omega arith in
         (omega (arith, tail-length o i h), tail-at o i h 0 (omega arith) ∙ ap (cell (c .tails)) z)
 
-    pub first-pushable : {j : ℕ} → j ≡ algebra m .unit → lengthAt c i ≢ 0 → Pushable s (cell (c .tails) (offsetAt c i)) i 0 0
-    first-pushable {j} p n = pushable o (going p) (cell (c .tails) (offsetAt c i)) 0 j 0 (gone-none p) (tail-first n .0) (tail-first n .1)
+    -- so it waits for the first vertex of its tail, and nothing is to be stored of what it passed
+    pub first-linkable : lengthAt c i ≢ 0 → Linkable (s .first) (s .next) (cell (c .tails) (offsetAt c i)) i
+    first-linkable n = linkable (pushable o (going (unit-none m)) (cell (c .tails) (offsetAt c i)) 0 0 0 (gone-none (unit-none m)) (tail-first n .0) (tail-first n .1))
 
-    -- so it waits for the first vertex of its tail
-    pub first-waits : {s′ : Lines} {j : ℕ} → j ≡ algebra m .unit → lengthAt c i ≢ 0 → s′ ≡ pushed s (cell (c .tails) (offsetAt c i)) i 0 j 0 → Went (algebra m) c (cell ws) (cell ds) i s s′ q q
-    first-waits {j = j} p n y = went-on (algebra m) c (cell ws) (cell ds) i q (cell (c .tails) (offsetAt c i)) 0 j 0 (gone-none p) (tail-first n .0) (tail-first n .1) y
+    pub first-waits : {first next : List ℕ} → lengthAt c i ≢ 0 → Linked (s .first) (s .next) (cell (c .tails) (offsetAt c i)) i first next
+        → Went (algebra m) c (cell ws) (cell ds) i s (lines first next (s .at) (s .joined) (s .deepest)) q q
+    first-waits n y =
+        let v = cell (c .tails) (offsetAt c i) in
+        let g = gone-none (unit-none m) in
+        went-on (algebra m) c (cell ws) (cell ds) i q v 0 0 0 g (tail-first n .0) (tail-first n .1) (linked-pushed s v i (x .untouched i (omega arith)) y)
 
     pub went-next : {s′ : Lines} {q′ : List ℕ} → Went (algebra m) c (cell ws) (cell ds) i s s′ q q′ → Starting m c ws ds s′ q′ (i + 1)
     went-next {s′} {q′} y = go (y .moved)
@@ -84,12 +117,14 @@ module _ {m : Measure} {c : Columns} {ws ds : List ℕ} {s : Lines} {q : List �
             subst (λ (a : Lines). Starting m c ws ds a q′ (i + 1)) (sym z) (record {
               sizes = x .sizes;
               unmade = x .unmade;
+              untouched = λ e l. x .untouched e (omega arith);
               waiting = went-stays (algebra m) c (cell ws) (cell ds) (head-key o) (λ e k. edge-fits o e k m) (x .waiting) i h (y .heard) (next-or i) (λ e b. omega arith) b;
             })
         go (waits k j g b z a r) =
             subst (λ (a : Lines). Starting m c ws ds a q′ (i + 1)) (sym r) (record {
               sizes = pushed-sizes (algebra m) c (cell ws) (cell ds) s (cell (tailAt c i) k) i k j g (x .sizes) (edge-room o i h) (omega (arith, few o i h, tail-below o i h k b));
               unmade = x .unmade;
+              untouched = λ e l. pushed-untouched s (cell (tailAt c i) k) i k j g e (λ p. omega arith) (x .untouched e (omega arith));
               waiting = went-waits (algebra m) c (cell ws) (cell ds) (head-key o) (λ e k. edge-fits o e k m) (x .waiting) i h (y .heard) (next-or i) (λ e b. omega arith)
                   k j g (x .sizes) (edge-room o i h) (tail-below o i h) (few o i h) (omega arith) (λ b. omega arith) u b z a;
             })

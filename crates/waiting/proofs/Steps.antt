@@ -30,7 +30,7 @@ use Rattle.minima.specs.Minima.{keys}
 use Rattle.queue.specs.Keys.{Fits, Fitting, nothing, found}
 use Rattle.queue.specs.Queue.{offered}
 use Rattle.queue.proofs.Laws.{open-fits, open-unmade, open-made}
-use Rattle.waiting.specs.Lines.{Passable, Lines, places, pushed, Carried, Gone, stays, waits, Went, Offerable, Going, Pushable}
+use Rattle.waiting.specs.Lines.{Passable, Lines, places, pushed, Carried, Gone, stays, waits, Went, Offerable, Going, Linkable, Pushable}
 use Rattle.waiting.proofs.Keeping.{extends-refl}
 
 pub places-few : (k : ℕ) → k ≤ 256 → places k ≡ 256
@@ -153,3 +153,6 @@ pushable {e = e} r y v i j g p l x = record {
   place = omega (arith, tail-length r e (y .numbered), short r e (y .numbered));
   depth = omega (arith, p .passed .shallow);
 }
+
+pub linkable : {s : Lines} {v e i g : ℕ} → Pushable s v e i g → Linkable (s .first) (s .next) v e
+linkable p = record { vertex = omega (arith, p .sizes .first, p .vertex); edge = omega (arith, p .sizes .next, p .edge); small = p .small }

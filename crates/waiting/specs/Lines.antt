@@ -58,6 +58,17 @@ pub record Sizes (k : ℕ) (s : Lines) : Type 0 where
 abbrev pub pushed : Lines → (v e i j g : ℕ) → Lines
 pushed s v e i j g = record { first = set (s .first) v e; next = set (s .next) e (cell (s .first) v); at = set (s .at) e i; joined = set (s .joined) e j; deepest = set (s .deepest) e g }
 
+-- the same of the two columns of the lists
+pub record Linked (fs ns : List ℕ) (v e : ℕ) (fs′ ns′ : List ℕ) : Type 0 where
+  pub first : fs′ ≡ set fs v e
+  pub next : ns′ ≡ set ns e (cell fs v)
+
+-- nothing is stored of hyperedge e, which is what it has passed before it starts
+pub record Untouched (s : Lines) (e : ℕ) : Type 0 where
+  pub at : cell (s .at) e ≡ 0
+  pub joined : cell (s .joined) e ≡ 0
+  pub deepest : cell (s .deepest) e ≡ 0
+
 -- Labels -----------------------------------------------------------------------------------------------------------------------------------------------
 
 -- later labels: what is made stays as it is
@@ -134,6 +145,12 @@ module _ (A : Algebra) (c : Columns) (w d : ℕ → ℕ) where
 
 -- What functions ask -----------------------------------------------------------------------------------------------------------------------------------
 
+-- lists with room for hyperedge e
+pub record Linkable (first next : List ℕ) (v e : ℕ) : Type 0 where
+  pub vertex : v < length first
+  pub edge : e < length next
+  pub small : e < 65536
+
 -- columns with room for it
 pub record Pushable (s : Lines) (v e i g : ℕ) : Type 0 where
   pub edges : ℕ
@@ -168,6 +185,7 @@ pub record Wakeful (m : Measure) (c : Columns) (ws ds : List ℕ) (s : Lines) (e
 pub record Starting (m : Measure) (c : Columns) (ws ds : List ℕ) (s : Lines) (q : List ℕ) (i : ℕ) : Type 0 where
   pub sizes : Sizes (length (c .heads)) s
   pub unmade : (v : ℕ) → cell ds v ≡ 0
+  pub untouched : (e : ℕ) → i ≤ e → Untouched s e
   pub waiting : Waiting (algebra m) c (cell ws) (cell ds) s q (λ e. i ≤ e)
 
 -- vertex v is made, and what waited for it is still to be looked at
@@ -183,9 +201,10 @@ pub record Rested (m : Measure) (c : Columns) (ws ds : List ℕ) (s : Lines) (q 
   pub sizes : Sizes (length (c .heads)) s
   pub waiting : Waiting (algebra m) c (cell ws) (cell ds) s q (λ e. ⊥)
 
--- no vertex is made, nothing waits, and nothing is queued
+-- no vertex is made, nothing is stored, nothing waits, and nothing is queued
 pub record Empty (c : Columns) (ds : List ℕ) (s : Lines) (q : List ℕ) : Type 0 where
   pub sizes : Sizes (length (c .heads)) s
   pub unmade : (v : ℕ) → cell ds v ≡ 0
+  pub untouched : (e : ℕ) → Untouched s e
   pub empty : (v : ℕ) → v < c .vertices → cell (s .first) v ≡ end
   pub nothing : q ≡ replicate size none

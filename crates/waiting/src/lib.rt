@@ -14,7 +14,7 @@ ghost use lib.ListN.{length};
 ghost use Rattle.weights.specs.Measures.{algebra};
 ghost use Rattle.columns.specs.Lent.{lent};
 ghost use Rattle.columns.specs.Columns.{cell};
-ghost use Rattle.waiting.specs.Lines.{plain, Passable, lines, pushed, Carried, Gone, Pushable, Offerable, Going, Went, Wakeful, Starting, Waking, Rested, Empty};
+ghost use Rattle.waiting.specs.Lines.{plain, Passable, lines, pushed, Carried, Gone, Linkable, Linked, Pushable, Offerable, Going, Went, Wakeful, Starting, Waking, Rested, Empty};
 
 // In place of a hyperedge, at the end of a list.
 const END: u16 = 65535;
@@ -69,6 +69,17 @@ fn go_on(measure: Measure, from: Reached, tail: &[u64], weights: &[u64], depths:
     }
 }
 
+// Hyperedge e is put first in the list of vertex v.
+fn link(e: Hyperedge, v: usize, first: &mut [u16], next: &mut [u16])
+    requires { ⌜ Linkable (now first) (now next) v (e .0) ⌝ }
+    ensures { λ r. ⌜ Linked (now (first .entry)) (now (next .entry)) v (e .0) (now (first .exit)) (now (next .exit)) ⌝ }
+{
+    let i = e.0 as usize;
+    let before = first[v];
+    next[i] = before;
+    first[v] = i as u16;
+}
+
 // Hyperedge e waits for vertex v, having come so far.
 fn wait(
     e: Hyperedge,
@@ -88,12 +99,10 @@ fn wait(
 {
     let i = e.0 as usize;
     let weight = to.joined;
-    let before = first[v];
     at[i] = to.at as u16;
     joined[i] = weight.0;
     deepest[i] = to.deepest as u16;
-    next[i] = before;
-    first[v] = i as u16;
+    link(e, v, first, next);
 }
 
 // Hyperedge e, whose head is unmade, goes on from where it is: it waits again, or is offered.
@@ -258,7 +267,8 @@ pub fn wake_all(
     }
 }
 
-// Hyperedge e, unless it is struck, waits for the first vertex of its tail or is offered.
+// Hyperedge e, unless it is struck, waits for the first vertex of its tail or is offered. To wait it
+// is linked alone: what it has passed is 0 in every column, and the columns start with that.
 fn begin(
     measure: Measure,
     e: Hyperedge,
@@ -289,19 +299,19 @@ fn begin(
     if struck {
         return;
     }
+    let offset = spans[2 * i] as usize;
+    let size = spans[2 * i + 1];
+    if size != 0 {
+        let v = tails[offset] as usize;
+        link(e, v, first, next);
+        return;
+    }
     let unit = Weight::unit(measure);
     let from = Reached {
         at: 0,
         joined: unit,
         deepest: 0,
     };
-    let offset = spans[2 * i] as usize;
-    let size = spans[2 * i + 1];
-    if size != 0 {
-        let v = tails[offset] as usize;
-        wait(e, v, from, first, next, at, joined, deepest);
-        return;
-    }
     advance(
         measure,
         e,

@@ -10,10 +10,14 @@ use Rattle.weights.specs.Figures.{isStruck}
 use Rattle.columns.specs.Columns.{cell}
 use Rattle.columns.proofs.Usable.{edge-in}
 use Rattle.waiting.proofs.Steps.{tails-few}
-use Rattle.waiting.proofs.Starts.{struck-next, going, first-pushable, first-waits, went-next}
+use Rattle.waiting.proofs.Starts.{struck-next, going, first-linkable, first-waits, went-next}
+
+-- the start, seen from the test of the mark
+abbrev entry : tie.After-is-struck → tie.Start
+entry c = c .before .before .before .before .before .before .before .before .before .before .before .before .before .before
 
 -- past the test the hyperedge is not struck
-unstruck : (c : tie.Else1) → isStruck (cell (c .before .before .before .before .before .before .before .before .before .before .before .before .before .before .before .args .own .now) (c .before .before .before .before .before .before .before .before .before .before .before .before .before .before .before .args .e .0)) ≡ false
+unstruck : (c : tie.Else1) → isStruck (cell (entry (c .before) .args .own .now) (entry (c .before) .args .e .0)) ≡ false
 unstruck c = sym (c .before .is-struck .ensures) ∙ c .if1 .left
 
 shared-slice-read-figure : tie.Need-shared-slice-read-figure
@@ -22,58 +26,58 @@ shared-slice-read-figure c =
     omega (arith, edge-in (p .pre .0 .usable) (p .args .e .0) (p .pre .1 .0) .own)
 
 returns : tie.Need-returns
-returns c = struck-next (c .before .before .before .before .before .before .before .before .before .before .before .before .before .before .before .pre .1 .1) (sym (c .before .is-struck .ensures) ∙ c .if1 .taken)
+returns c = struck-next (entry (c .before) .pre .1 .1) (sym (c .before .is-struck .ensures) ∙ c .if1 .taken)
 
 shared-slice-read-offset : tie.Need-shared-slice-read-offset
 shared-slice-read-offset c =
-    let p = c .before .before .before .before .before .before .before .before .before .before .before .before .before .before .before .before .before in
+    let p = entry (c .before .before) in
     omega (arith, edge-in (p .pre .0 .usable) (p .args .e .0) (p .pre .1 .0) .placed .span)
 
 shared-slice-read-size : tie.Need-shared-slice-read-size
 shared-slice-read-size c =
-    let p = c .before .before .before .before .before .before .before .before .before .before .before .before .before .before .before .before .before .before in
+    let p = entry (c .before .before .before) in
     omega (arith, edge-in (p .pre .0 .usable) (p .args .e .0) (p .pre .1 .0) .placed .span)
 
 mul-v : tie.Need-mul-v
 mul-v c =
-    let p = c .before .before .before .before .before .before .before .before .before .before .before .before .before .before .before .before .before .before .before in
+    let p = entry (c .before .before .before .before) in
     omega (arith, edge-in (p .pre .0 .usable) (p .args .e .0) (p .pre .1 .0) .placed .within, c .if2 .taken, tails-few (p .pre .0) (p .args .e .0) (p .pre .1 .0))
 
 shared-slice-read-v : tie.Need-shared-slice-read-v
 shared-slice-read-v c =
-    let p = c .before .before .before .before .before .before .before .before .before .before .before .before .before .before .before .before .before .before .before .before in
+    let p = entry (c .before .before .before .before .before) in
     omega (arith, edge-in (p .pre .0 .usable) (p .args .e .0) (p .pre .1 .0) .placed .within, c .before .if2 .taken)
 
-wait-requires : tie.Need-wait-requires
-wait-requires c κs =
-    let p = c .before .before .before .before .before .before in
-    let q = p .before .before .before in
-    let r = q .before in
-    let s = r .before .before .before .before .before .before .before .before .before .before .before .before .before .before .before in
-    first-pushable (s .pre .1 .1) (s .pre .0) (s .pre .1 .0) (unstruck (r)) (q .unit .ensures) (p .if2 .taken)
+link-requires : tie.Need-link-requires
+link-requires c κs =
+    let t = c .before .before .before in
+    let l = t .before .before .before in
+    let p = entry (l .before) in
+    first-linkable (p .pre .1 .1) (p .pre .0) (p .pre .1 .0) (unstruck l) (t .if2 .taken)
 
 returns-2 : tie.Need-returns-2
 returns-2 c =
-    let p = c .before .before .before .before .before .before .before .before .before .before in
-    let q = p .before .before .before .before .before .before .before in
-    let r = q .before .before .before in
-    let s = r .before in
-    let u = s .before .before .before .before .before .before .before .before .before .before .before .before .before .before .before in
-    went-next (u .pre .1 .1) (u .pre .0) (u .pre .1 .0) (unstruck (s)) (first-waits (u .pre .1 .1) (u .pre .0) (u .pre .1 .0) (unstruck (s)) (r .unit .ensures) (q .if2 .taken) (p .wait .ensures))
+    let k = c .before .before .before .before in
+    let t = k .before .before .before .before in
+    let l = t .before .before .before in
+    let p = entry (l .before) in
+    let w = first-waits (p .pre .1 .1) (p .pre .0) (p .pre .1 .0) (unstruck l) (t .if2 .taken) (k .link .ensures) in
+    went-next (p .pre .1 .1) (p .pre .0) (p .pre .1 .0) (unstruck l) w
 
 advance-requires : tie.Need-advance-requires
 advance-requires c κs =
-    let p = c .before .before .before .before .before .before .before .before .before in
-    let q = p .before in
-    let r = q .before .before .before .before .before .before .before .before .before .before .before .before .before .before .before in
-    (r .pre .0, going (r .pre .1 .1) (r .pre .0) (r .pre .1 .0) (unstruck (q)) (p .unit .ensures))
+    let u = c .before .before .before .before .before .before in
+    let l = u .before .before .before .before in
+    let p = entry (l .before) in
+    (p .pre .0, going (p .pre .1 .1) (p .pre .0) (p .pre .1 .0) (unstruck l) (u .unit .ensures))
 
 returns-3 : tie.Need-returns-3
 returns-3 c =
-    let p = c .before .before .before .before .before .before .before .before .before .before .before .before in
-    let q = p .before .before .before .before .before .before .before .before .before .before .before in
-    let r = q .before .before .before .before .before .before .before .before .before .before .before .before .before .before .before in
-    went-next (r .pre .1 .1) (r .pre .0) (r .pre .1 .0) (unstruck (q)) (p .advance .ensures)
+    let a = c .before .before .before .before .before .before .before .before .before .before .before .before in
+    let u = a .before .before .before .before .before .before .before in
+    let l = u .before .before .before .before in
+    let p = entry (l .before) in
+    went-next (p .pre .1 .1) (p .pre .0) (p .pre .1 .0) (unstruck l) (a .advance .ensures)
 
 pub begin-spec : {M : Type 1} → statement M
 begin-spec =
@@ -83,7 +87,6 @@ begin-spec =
     shared-slice-read-figure
     (λ c κs. search needs)
     returns
-    (λ c κs. search needs)
     (λ c. search needs)
     (λ c. search needs)
     shared-slice-read-offset
@@ -93,13 +96,11 @@ begin-spec =
     shared-slice-read-size
     mul-v
     shared-slice-read-v
-    wait-requires
-    (λ c. search needs)
-    (λ c. search needs)
-    (λ c. search needs)
+    link-requires
     (λ c. search needs)
     (λ c. search needs)
     returns-2
+    (λ c κs. search needs)
     advance-requires
     (λ c. search needs)
     (λ c. search needs)
