@@ -6,7 +6,6 @@
 -- with, for every input. `Fixed` says that no input is both right and wrong, or wrong in two ways. What is lent to be read can't be written; `tt` stands where nothing else
 -- is lent. Assumes nothing.
 use mathlib.Core.Path.{_≡_, refl, sym, _∙_}
-use mathlib.Core.Bool.{Bool, true, false}
 use mathlib.Core.Logic.{_⊎_, inl, inr, _↔_}
 use mathlib.Core.List.{List, [], _∷_, _++_}
 use Prim.Native.Nat.{ℕ, _≤_, _<_}
@@ -32,17 +31,15 @@ use Rattle.columns.specs.Acceptance.{acceptance, lentAcceptance}
 use Rattle.columns.specs.Filled.{filled}
 use Rattle.columns.specs.Owed.{Owed}
 use Rattle.columns.specs.Right.{RightTable, WrongTable, RightLent, WrongLent}
-use Rattle.columns.specs.Same.{sameAnswers}
 use Rattle.columns.proofs.Accepted.{refused}
 use Rattle.columns.proofs.Exactly.{accepted-exactly, refused-exactly, lent-exactly, lent-refused-exactly}
 use Rattle.columns.proofs.Owed.{check-table-owes, check-lent-owes}
 use Rattle.columns.proofs.Refuses.{same-refusal}
 use Rattle.provenance.specs.BestFirst.{labels}
 use Rattle.settle.specs.Settling.{answersOf, settled}
-use Rattle.settle.specs.Checking.{verdict as told, checked}
+use Rattle.settle.specs.Checking.{checked}
 use Rattle.settle.specs.Defined.{AllMean}
-use Rattle.settle.proofs.Exactly.{same-exactly, same-fails}
-use Rattle.settle.proofs.Owed.{settle-owes, entry-owes, entry-beyond}
+use Rattle.settle.proofs.Owed.{settle-owes, check-answers-owes, entry-owes, entry-beyond}
 use Rattle.reprice.specs.Repricing.{repriceAcceptance, strikeAcceptance, repriced, stricken}
 use Rattle.reprice.specs.Changes.{RightChange, WrongChange, lentTo}
 use Rattle.reprice.proofs.Changes.{reprice-exactly, reprice-refused-exactly, reprice-owes, strike-exactly, strike-refused-exactly, strike-owes}
@@ -93,15 +90,7 @@ module _ (m : Measure) (c : Columns) (a : Answers) where
   -- "Check answers: yes exactly if they are the ones defined above, whoever wrote them." 1 to 7; "no, and not 8, for wrong ones"
   pub check-answers : Owed verdict.Refused (tt {0}) ((RightLent c a × AllMean m c a) ⊎ (RightLent c a × ¬ AllMean m c a)) (elim [ inl _ ↦ verdict.Yes | inr _ ↦ verdict.No ]) (λ _. tt {0})
       (WrongLent c a) (checked m c a) (tt {0})
-  unfolding checked
-  check-answers = go (lentAcceptance c a) (sameAnswers a (answersOf m c)) refl refl
-    where
-      go : (x : Acceptance) (b : Bool) → lentAcceptance c a ≡ x → sameAnswers a (answersOf m c) ≡ b
-          → Owed verdict.Refused (tt {0}) ((RightLent c a × AllMean m c a) ⊎ (RightLent c a × ¬ AllMean m c a)) (elim [ inl _ ↦ verdict.Yes | inr _ ↦ verdict.No ]) (λ _. tt {0})
-          (WrongLent c a) (told x b) (tt {0})
-      go (Refused r) b p q = Owed.refused (lent-refused-exactly c a r .0 p)
-      go Accepted true p q = Owed.accepted (inl (lent-exactly c a .0 p, same-exactly m c a p .0 q))
-      go Accepted false p q = Owed.accepted (inr (lent-exactly c a .0 p, same-fails m c a p .0 q))
+  check-answers = check-answers-owes m c a
 
 -- an entry is refused for no columns and no part; beyond the columns it is that of an unmade part
 module _ (a : Answers) (v : ℕ) where

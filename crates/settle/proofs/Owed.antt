@@ -1,5 +1,7 @@
 -- Demand 1 of settling, of the answer check and of an entry. Assumes nothing.
 use mathlib.Core.Path.{_≡_, refl, ap}
+use mathlib.Core.Bool.{Bool, true, false}
+use mathlib.Core.Logic.{_⊎_, inl, inr}
 use Prim.Native.Nat.{ℕ, _≤_}
 use native.Mathlib.Omega.{arith}
 use lib.ListN.{List·getD-eq-default}
@@ -17,6 +19,8 @@ use Rattle.columns.specs.Same.{sameAnswers}
 use Rattle.columns.proofs.Exactly.{lent-exactly, lent-refused-exactly}
 use Rattle.settle.specs.Settling.{answersOf, outcome, settled}
 use Rattle.settle.specs.Checking.{verdict as told, checked}
+use Rattle.settle.specs.Defined.{AllMean}
+use Rattle.settle.proofs.Exactly.{same-exactly, same-fails}
 
 module _ (m : Measure) (c : Columns) (a : Answers) where
   -- settle: "Settle a table into the answer columns"
@@ -29,15 +33,18 @@ module _ (m : Measure) (c : Columns) (a : Answers) where
       go Accepted p = Owed.accepted (lent-exactly c a .0 p)
       go (Refused r) p = Owed.refused (lent-refused-exactly c a r .0 p)
 
-  -- check answers, which writes nothing: `yes-exactly` and `no-exactly` say which of the two
-  pub check-answers-owes : Owed verdict.Refused (tt {0}) (RightLent c a) (λ _. told Accepted (sameAnswers a (answersOf m c))) (λ _. tt {0}) (WrongLent c a) (checked m c a) (tt {0})
+  -- check answers, which writes nothing: yes where every label means what the paper says, and no where one does not
+  pub check-answers-owes : Owed verdict.Refused (tt {0}) ((RightLent c a × AllMean m c a) ⊎ (RightLent c a × ¬ AllMean m c a)) (elim [ inl _ ↦ verdict.Yes | inr _ ↦ verdict.No ])
+      (λ _. tt {0}) (WrongLent c a) (checked m c a) (tt {0})
   unfolding checked
-  check-answers-owes = go (lentAcceptance c a) refl
+  check-answers-owes = go (lentAcceptance c a) (sameAnswers a (answersOf m c)) refl refl
     where
-      go : (x : Acceptance) → lentAcceptance c a ≡ x
-          → Owed verdict.Refused (tt {0}) (RightLent c a) (λ _. told Accepted (sameAnswers a (answersOf m c))) (λ _. tt {0}) (WrongLent c a) (told x (sameAnswers a (answersOf m c))) (tt {0})
-      go Accepted p = Owed.accepted (lent-exactly c a .0 p)
-      go (Refused r) p = Owed.refused (lent-refused-exactly c a r .0 p)
+      go : (x : Acceptance) (b : Bool) → lentAcceptance c a ≡ x → sameAnswers a (answersOf m c) ≡ b
+          → Owed verdict.Refused (tt {0}) ((RightLent c a × AllMean m c a) ⊎ (RightLent c a × ¬ AllMean m c a)) (elim [ inl _ ↦ verdict.Yes | inr _ ↦ verdict.No ])
+          (λ _. tt {0}) (WrongLent c a) (told x b) (tt {0})
+      go (Refused r) b p q = Owed.refused (lent-refused-exactly c a r .0 p)
+      go Accepted true p q = Owed.accepted (inl (lent-exactly c a .0 p, same-exactly m c a p .0 q))
+      go Accepted false p q = Owed.accepted (inr (lent-exactly c a .0 p, same-fails m c a p .0 q))
 
 -- an entry is the label's at v with its state, and no lent columns are refused
 pub entry-owes : (a : Answers) (v : ℕ) → Owed (λ _. entryOf unmade) (tt {0}) (Unit {0}) (λ _. entryOf (labels a v)) (λ _. tt {0}) (λ _. ⊥) (entryOf (labels a v)) (tt {0})
