@@ -1,9 +1,9 @@
 -- Before the first turn: the columns to work in are clear, so nothing waits and nothing is queued. Assumes nothing.
 use Prim.Native.Nat.{ℕ, _<_}
-use mathlib.Core.Path.{_≡_, _∙_, ap}
+use mathlib.Core.Path.{_≡_, refl, sym, _∙_, ap}
 use mathlib.Core.List.{List}
 use native.Mathlib.Omega.{arith}
-use lib.ListN.{length, length-replicate, getD-replicate}
+use lib.ListN.{length, replicate, length-replicate, getD-replicate}
 use Rattle.weights.specs.declared.Measure.{Measure}
 use Rattle.columns.specs.Columns.{Answers, Columns, cell}
 use Rattle.provenance.specs.BestFirst.{turns}
@@ -12,8 +12,19 @@ use Rattle.columns.specs.Acceptance.{mostVertices}
 use Rattle.columns.proofs.Accepted.{table-accepted}
 use Rattle.minima.specs.Minima.{none, size}
 use Rattle.queue.specs.Keys.{heavy}
-use Rattle.waiting.specs.Lines.{end, Lines, Offerable, Rested, Empty}
+use Rattle.waiting.specs.Lines.{end, Lines, lines, places, Offerable, Rested, Empty}
 use Rattle.bestfirst.specs.Turns.{Blank, Begun, Cleared}
+
+-- columns that are made for the purpose, with as many places for hyperedges as a table of so many asks for
+pub clear-columns : (edges r : ℕ) → places edges ≡ r → Cleared edges (lines (replicate mostVertices end) (replicate r 0) (replicate r 0) (replicate r 0) (replicate r 0)) (replicate size none)
+clear-columns edges r p =
+    let l : length {A = ℕ} (replicate r 0) ≡ places edges = length-replicate {A = ℕ} r 0 ∙ sym p in
+    record {
+      sizes = record { first = length-replicate mostVertices end; next = l; at = l; joined = l; deepest = l };
+      untouched = λ e. record { at = zeros r e; joined = zeros r e; deepest = zeros r e };
+      first = refl;
+      queue = refl;
+    }
 
 module _ {m : Measure} {c : Columns} {a : Answers} {s : Lines} {q : List ℕ} (u : Blank m c a) (k : Cleared (length (c .heads)) s q) where
   light : (v : ℕ) → cell (a .weights) v < heavy

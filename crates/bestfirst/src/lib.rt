@@ -12,7 +12,7 @@ ghost use Rattle.columns.specs.Columns.{answers, cell};
 ghost use Rattle.tables.specs.Table.{hypergraph};
 ghost use Rattle.columns.specs.Lent.{lent};
 ghost use Rattle.waiting.specs.Lines.{fewEdges, lines};
-ghost use Rattle.bestfirst.specs.Turns.{Placeable, Waits, Underway, Blank, Begun, Cleared};
+ghost use Rattle.bestfirst.specs.Turns.{Placeable, Waits, Underway, Blank, Begun};
 
 // The head of a label's hyperedge gets the label; gives that head.
 fn store(
@@ -142,66 +142,8 @@ fn turns(
     }
 }
 
-// Best-first with the columns that it works in: the lists of what waits, and a queue.
-fn label_with(
-    measure: Measure,
-    heads: &[u64],
-    own: &[u64],
-    spans: &[u64],
-    tails: &[u64],
-    weights: &mut [u64],
-    depths: &mut [u64],
-    edges: &mut [u64],
-    first: &mut [u16],
-    next: &mut [u16],
-    at: &mut [u16],
-    joined: &mut [u64],
-    deepest: &mut [u16],
-    queue: &mut [u64],
-)
-    requires { let c = lent (now heads) (now own) (now spans) (now tails) (now depths) in
-        let a = answers (now weights) (now depths) (now edges) in
-        let s = lines (now first) (now next) (now at) (now joined) (now deepest) in
-        ⌜ (Blank measure c a) × Cleared (length (now heads)) s (now queue) ⌝ }
-    ensures { λ r.
-        let c = lent (now (heads .entry)) (now (own .entry)) (now (spans .entry)) (now (tails .entry)) (now (depths .entry)) in
-        let a′ = answers (now (weights .exit)) (now (depths .exit)) (now (edges .exit)) in
-        ⌜ a′ ≡ best-first (algebra measure) (hypergraph c) (cell (now (own .entry))) ⌝ }
-{
-    waiting::start(
-        measure,
-        heads,
-        own,
-        spans,
-        tails,
-        weights,
-        depths,
-        first,
-        next,
-        at,
-        joined,
-        deepest,
-        queue,
-    );
-    turns(
-        measure,
-        heads,
-        own,
-        spans,
-        tails,
-        weights,
-        depths,
-        edges,
-        first,
-        next,
-        at,
-        joined,
-        deepest,
-        queue,
-    );
-}
-
-// A table of few hyperedges: as every place has to be cleared, it is given few.
+// Best-first with columns of its own to work in: the lists of what waits, and a queue. A table of few
+// hyperedges is given few places, as every place has to be cleared.
 fn label_few(
     measure: Measure,
     heads: &[u64],
@@ -226,7 +168,22 @@ fn label_few(
     let mut joined = [0u64; 256];
     let mut deepest = [0u16; 256];
     let mut queue = [18446744073709551615u64; 1168];
-    label_with(
+    waiting::start(
+        measure,
+        heads,
+        own,
+        spans,
+        tails,
+        weights,
+        depths,
+        &mut first,
+        &mut next,
+        &mut at,
+        &mut joined,
+        &mut deepest,
+        &mut queue,
+    );
+    turns(
         measure,
         heads,
         own,
@@ -244,7 +201,7 @@ fn label_few(
     );
 }
 
-// Any other.
+// The same of any other table.
 fn label_many(
     measure: Measure,
     heads: &[u64],
@@ -269,7 +226,22 @@ fn label_many(
     let mut joined = [0u64; 4096];
     let mut deepest = [0u16; 4096];
     let mut queue = [18446744073709551615u64; 1168];
-    label_with(
+    waiting::start(
+        measure,
+        heads,
+        own,
+        spans,
+        tails,
+        weights,
+        depths,
+        &mut first,
+        &mut next,
+        &mut at,
+        &mut joined,
+        &mut deepest,
+        &mut queue,
+    );
+    turns(
         measure,
         heads,
         own,

@@ -1,23 +1,24 @@
--- `bestfirst::label_many` meets its contract: its own columns are clear at first. Assumes nothing.
+-- `bestfirst::label_many` meets its contract: its own columns are clear at first, and what starts leaves what the turns ask for. Assumes nothing.
 use borrow.Author.Needs.{needs}
-use mathlib.Core.Path.{refl, sym}
 use Rattle.bestfirst.proofs.label_many.Statement.{statement}
 use Rattle.bestfirst.proofs.label_many.Tie as tie
-use Rattle.provenance.proofs.Existence.{zeros}
 use Rattle.waiting.proofs.Steps.{places-many}
+use Rattle.bestfirst.proofs.Clear.{clear-columns, offerable, emptied, ready}
 
-label-with-requires : tie.Need-label-with-requires
-label-with-requires c κs =
-    let entry = c .before .before .before .before .before .before .before .before .before .before .before .before .before .before .before .before .pre in
-    let p = sym (places-many _ (entry .1)) in (
-      entry .0,
-      record {
-        sizes = record { first = search needs; next = p; at = p; joined = p; deepest = p };
-        untouched = λ e. record { at = zeros 4096 e; joined = zeros 4096 e; deepest = zeros 4096 e };
-        first = refl;
-        queue = refl;
-      },
-    )
+abbrev entry : tie.After-queue → tie.Start
+entry c = c .before .before .before .before .before .before .before .before .before .before .before .before .before .before .before
+
+start-requires : tie.Need-start-requires
+start-requires c κs =
+    let p = entry c .pre in
+    let k = clear-columns _ 4096 (places-many _ (p .1)) in
+    (offerable (p .0) k, emptied (p .0) k)
+
+turns-requires : tie.Need-turns-requires
+turns-requires c κs =
+    let q = c .before .before .before .before .before .before .before .before .before .before .before .before .before .before .before in
+    let p = entry (q .before) .pre in
+    ready (p .0) (clear-columns _ 4096 (places-many _ (p .1))) (q .start .ensures)
 
 pub label-many-spec : {M : Type 1} → statement M
 label-many-spec =
@@ -29,7 +30,14 @@ label-many-spec =
     (λ c. search needs)
     (λ c. search needs)
     (λ c. search needs)
-    label-with-requires
+    start-requires
+    (λ c. search needs)
+    (λ c. search needs)
+    (λ c. search needs)
+    (λ c. search needs)
+    (λ c. search needs)
+    (λ c. search needs)
+    turns-requires
     (λ c. search needs)
     (λ c. search needs)
     (λ c. search needs)
