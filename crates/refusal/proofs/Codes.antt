@@ -5,18 +5,19 @@ use mathlib.Core.List.{List, [], _∷_}
 use Prim.Native.Nat.{ℕ}
 use lib.ListN.{getD}
 use Rattle.refusal.specs.declared.Refusal.{Refusal}
-use Rattle.refusal.specs.declared.Refusal.the-variants.{TooManyVertices, Lengths, Head, Own, Span, Tail, AnswerLength, WrongAnswers, NoSuchEdge, NewWeight, NoSuchVertex, Underivable, BillRoom, Text, TextRoom, MeasureNumber, InputLength}
+use Rattle.refusal.specs.declared.Refusal.the-variants.{TooManyVertices, Lengths, Head, Own, Span, Tail, AnswerLength, WrongAnswers, NoSuchEdge, NewWeight, NoSuchVertex, Underivable, BillRoom, Text, TextRoom, MeasureNumber, InputLength, ColumnRoom, WrongIndex}
 use Rattle.refusal.specs.declared.Code.{Code}
 use Rattle.refusal.specs.Refusals.{codeOf}
 
 -- the refusals with place p, by number, from 1 on
 abbrev numberedAt : ℕ → List Refusal
 numberedAt p =
-    InputLength ∷ TooManyVertices ∷ Lengths ∷ Head (record { 0 = p }) ∷ Own (record { 0 = p }) ∷ Span (record { 0 = p }) ∷ Tail (record { 0 = p })
-    ∷ AnswerLength ∷ WrongAnswers ∷ NoSuchEdge ∷ NewWeight ∷ NoSuchVertex ∷ Underivable ∷ BillRoom ∷ Text (record { 0 = p }) ∷ TextRoom ∷ MeasureNumber ∷ []
+    WrongIndex ∷ TooManyVertices ∷ Lengths ∷ Head (record { 0 = p }) ∷ Own (record { 0 = p }) ∷ Span (record { 0 = p }) ∷ Tail (record { 0 = p })
+    ∷ AnswerLength ∷ WrongAnswers ∷ NoSuchEdge ∷ NewWeight ∷ NoSuchVertex ∷ Underivable ∷ BillRoom ∷ Text (record { 0 = p }) ∷ TextRoom ∷ MeasureNumber
+    ∷ InputLength ∷ ColumnRoom ∷ []
 
 abbrev refusalOf : Code → Refusal
-refusalOf c = getD (numberedAt (c .place)) (c .number) InputLength
+refusalOf c = getD (numberedAt (c .place)) (c .number) WrongIndex
 
 refusal-code : (r : Refusal) → refusalOf (codeOf r) ≡ r
 refusal-code TooManyVertices = refl
@@ -36,6 +37,8 @@ refusal-code (Text line) = refl
 refusal-code TextRoom = refl
 refusal-code MeasureNumber = refl
 refusal-code InputLength = refl
+refusal-code ColumnRoom = refl
+refusal-code WrongIndex = refl
 
 pub codes-differ : (r s : Refusal) → codeOf r ≡ codeOf s → r ≡ s
 codes-differ r s e = sym (refusal-code r) ∙ ap refusalOf e ∙ refusal-code s

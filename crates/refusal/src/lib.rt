@@ -44,6 +44,10 @@ pub enum Refusal {
     MeasureNumber,
     // 17: a program's input that is too long.
     InputLength,
+    // 18: a column that has no room.
+    ColumnRoom,
+    // 19: an index that is not this table's.
+    WrongIndex,
 }
 
 // A refusal's number, and its place: the hyperedge or the text line that it names, else 0.
@@ -83,6 +87,8 @@ impl Refusal {
             Refusal::TextRoom => Code::of(15, 0),
             Refusal::MeasureNumber => Code::of(16, 0),
             Refusal::InputLength => Code::of(17, 0),
+            Refusal::ColumnRoom => Code::of(18, 0),
+            Refusal::WrongIndex => Code::of(19, 0),
         }
     }
 
@@ -124,7 +130,7 @@ pub enum Verdict {
     Refused(Refusal),
 }
 
-// What printing a bill and writing a text return: the length of what was written.
+// What printing a bill, writing a text and indexing a table return: the length of what was written.
 pub enum Extent {
     Length(u64),
     Refused(Refusal),
@@ -142,6 +148,18 @@ pub struct Header {
 // What reading a text returns.
 pub enum Reading {
     Table(Header),
+    Refused(Refusal),
+}
+
+// How many hyperedges and listed vertices of lent columns are in use.
+pub struct Counts {
+    pub edges: u64,
+    pub listed: u64,
+}
+
+// What appending a line returns: the new counts.
+pub enum Appending {
+    Counts(Counts),
     Refused(Refusal),
 }
 

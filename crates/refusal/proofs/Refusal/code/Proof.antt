@@ -58,11 +58,21 @@ returns-16 c = c .of16 .ensures ∙ sym (ap codeOf (c .before .enum-told11 .give
 returns-17 : tie.Need-returns-17
 returns-17 c = c .of17 .ensures ∙ sym (ap codeOf (c .before .enum-told12 .given .1))
 
+returns-18 : tie.Need-returns-18
+returns-18 c = c .of18 .ensures ∙ sym (ap codeOf (c .before .enum-told13 .given .1))
+
+returns-19 : tie.Need-returns-19
+returns-19 c = c .of19 .ensures ∙ sym (ap codeOf (c .before .enum-told14 .given .1))
+
 pub code-spec : {M : Type 1} → statement M
 code-spec =
     tie.close
     (tie.spec
     enum-told
+    (λ c κs. search needs)
+    (λ c. search needs)
+    (λ c κs. search needs)
+    (λ c. search needs)
     (λ c κs. search needs)
     (λ c. search needs)
     (λ c κs. search needs)
@@ -112,4 +122,6 @@ code-spec =
     returns-14
     returns-15
     returns-16
-    returns-17)
+    returns-17
+    returns-18
+    returns-19)
