@@ -1,20 +1,24 @@
 -- The laws of the test whether columns are the same, place for place. Assumes nothing.
-use mathlib.Core.Path.{_≡_, refl}
+use mathlib.Core.Path.{_≡_, refl, ap}
 use mathlib.Core.Bool.{Bool, true, false}
 use mathlib.Core.List.{List, [], _∷_}
-use Prim.Native.Nat.{ℕ}
+use Prim.Native.Nat.{ℕ, _+_, _≤_, _<_}
+use native.Mathlib.Numerals.{add-one}
+use native.Mathlib.Omega.{arith}
+use lib.ListN.{length, getD, drop, drop-of-length-le}
+use lib.Seq.{drop-cons}
 use lib.Dec.{eqb}
-use borrow.Author.Tests.{eqb-true, eq-eqb}
+use borrow.Author.Tests.{eqb-true, eq-eqb, ne-eqb}
 use Rattle.weights.proofs.Choice.{apart, both-true}
 use Rattle.columns.specs.Columns.{Answers}
 use Rattle.columns.specs.Same.{equal, sameAnswers}
 
-equal-refl : (xs : List ℕ) → equal xs xs ≡ true
+pub equal-refl : (xs : List ℕ) → equal xs xs ≡ true
 unfolding equal
 equal-refl [] = refl
 equal-refl (x ∷ xs) = rw (eq-eqb x x refl, equal-refl xs)
 
-equal-true : (xs ys : List ℕ) → equal xs ys ≡ true → xs ≡ ys
+pub equal-true : (xs ys : List ℕ) → equal xs ys ≡ true → xs ≡ ys
 unfolding equal
 equal-true [] [] e = refl
 equal-true [] (y ∷ ys) e = apart e
@@ -24,6 +28,28 @@ equal-true (x ∷ xs) (y ∷ ys) e =
     let p = eqb-true x y (t .0) in
     let q = equal-true xs ys (t .1) in
     λ i. p i ∷ q i
+
+-- columns of different lengths are not the same
+pub equal-lengths : (xs ys : List ℕ) → ¬ (length xs ≡ length ys) → false ≡ equal xs ys
+equal-lengths xs ys n = go (equal xs ys) refl
+  where
+    go : (x : Bool) → equal xs ys ≡ x → false ≡ x
+    go true e = absurd (n (ap length (equal-true xs ys e)))
+    go false e = refl
+
+-- of two columns from place i on: one place more that is the same, one that is not, and none left
+module _ (xs ys : List ℕ) (i : ℕ) (l : length xs ≡ length ys) where
+  pub equal-more : i < length xs → getD xs i 0 ≡ getD ys i 0 → equal (drop (i + 1) xs) (drop (i + 1) ys) ≡ equal (drop i xs) (drop i ys)
+  unfolding equal
+  equal-more h p = let k : i < length ys = omega arith in rw (add-one i, drop-cons xs i 0 h, drop-cons ys i 0 k, eq-eqb _ _ p)
+
+  pub equal-stop : i < length xs → ¬ (getD xs i 0 ≡ getD ys i 0) → false ≡ equal (drop i xs) (drop i ys)
+  unfolding equal
+  equal-stop h n = let k : i < length ys = omega arith in rw (drop-cons xs i 0 h, drop-cons ys i 0 k, ne-eqb _ _ n)
+
+  pub equal-end : length xs ≤ i → true ≡ equal (drop i xs) (drop i ys)
+  unfolding equal
+  equal-end h = let k : length ys ≤ i = omega arith in rw (drop-of-length-le xs h, drop-of-length-le ys k)
 
 pub same-refl : (a : Answers) → sameAnswers a a ≡ true
 unfolding sameAnswers

@@ -7,3 +7,4 @@ pub mod Gaps
 pub mod Owed
 pub mod Lent
 pub mod Worked
+pub mod Longer

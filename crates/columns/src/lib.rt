@@ -7,10 +7,12 @@ use weights::Hyperedge;
 use weights::Vertex;
 use weights::Weight;
 ghost use mathlib.Core.Path.{_≡_};
-ghost use Prim.Native.Nat.{_*_};
+ghost use Prim.Native.Nat.{_*_, _≤_};
 ghost use lib.ListN.{length, replicate};
 ghost use Rattle.columns.specs.Columns.{columns, answers, tailOf};
+ghost use Rattle.columns.specs.Filled.{filled};
 ghost use Rattle.columns.specs.Lent.{Placed};
+ghost use Rattle.columns.specs.Same.{equal};
 ghost use Rattle.columns.specs.Acceptance.{allBelow, edgeAcceptance, edgesAcceptance, acceptance, lentAcceptance};
 
 // The greatest numbers of vertices, of hyperedges, of listed vertices in all and of one hyperedge.
@@ -199,4 +201,33 @@ pub fn set_all(column: &mut [u64], x: u64)
         column[i] = x;
         i += 1;
     }
+}
+
+// These numbers become the start of a lent column; what stands behind them stays.
+pub fn put(new: &[u64], column: &mut [u64])
+    requires { ⌜ length (now new) ≤ length (now column) ⌝ }
+    ensures { λ r. ⌜ now (column .exit) ≡ filled (now (new .entry)) (now (column .entry)) ⌝ }
+{
+    let mut i = 0;
+    while i < new.len() {
+        column[i] = new[i];
+        i += 1;
+    }
+}
+
+// Whether two columns are the same.
+pub fn equal(xs: &[u64], ys: &[u64]) -> bool
+    ensures { λ r. ⌜ r ≡ equal (now (xs .entry)) (now (ys .entry)) ⌝ }
+{
+    if xs.len() != ys.len() {
+        return false;
+    }
+    let mut i = 0;
+    while i < xs.len() {
+        if xs[i] != ys[i] {
+            return false;
+        }
+        i += 1;
+    }
+    true
 }

@@ -20,7 +20,13 @@ pub record Readable (n : ℕ) (spans tails : List ℕ) : Type 0 where
   pub even : length spans ≡ 2 * pairsIn spans
   pub each : (e : ℕ) → e < pairsIn spans → TailReadable n spans tails e
 
--- a table whose tails can be read, two places for each vertex, and room for every use
+-- a table whose tails can be read, two places for each vertex, and a number of uses that does not wrap
+pub record Measurable (spans tails index : List ℕ) : Type 0 where
+  pub readable : Readable (pairsIn index) spans tails
+  pub even : length index ≡ 2 * pairsIn index
+  pub fits : length (useList (tailOf spans tails) (pairsIn spans) (pairsIn index)) ≤ 18446744073709551615
+
+-- the same with room for every use
 pub record Indexable (spans tails index list : List ℕ) : Type 0 where
   pub readable : Readable (pairsIn index) spans tails
   pub even : length index ≡ 2 * pairsIn index

@@ -5,8 +5,8 @@ ghost use mathlib.Core.Path.{_≡_};
 ghost use Prim.Native.Nat.{_+_, _*_, _≤_};
 ghost use lib.ListN.{length};
 ghost use Rattle.columns.specs.Columns.{tailOf};
-ghost use Rattle.uses.specs.Uses.{pairsIn, indexed};
-ghost use Rattle.uses.specs.Indexable.{Readable, Indexable, counted, Counting, running, Placeable, placed, endsIn, FilledTo, Filling, Offset};
+ghost use Rattle.uses.specs.Uses.{useList, pairs, pairsIn, useOffset, indexed};
+ghost use Rattle.uses.specs.Indexable.{Readable, Measurable, Indexable, counted, Counting, running, Placeable, placed, endsIn, FilledTo, Filling, Offset};
 
 // Counts hyperedge e as a use of each vertex that it lists. The first place of a vertex is a mark
 // meanwhile: the last hyperedge counted there, and 1 more.
@@ -97,8 +97,21 @@ fn fill_edge(e: Hyperedge, spans: &[u64], tails: &[u64], index: &mut [u64], list
     }
 }
 
+// Leaves where the uses of each vertex will start, with lengths of 0; returns how many uses there are.
+pub fn offsets(spans: &[u64], tails: &[u64], index: &mut [u64]) -> u64
+    requires { ⌜ Measurable (now spans) (now tails) (now index) ⌝ }
+    ensures { λ r.
+        let tail = tailOf (now (spans .entry)) (now (tails .entry)) in
+        let m = pairsIn (now (spans .entry)) in
+        let n = pairsIn (now (index .entry)) in
+        ⌜ (r ≡ length (useList tail m n)) × (now (index .exit) ≡ pairs (useOffset tail m) (λ v. 0) n) ⌝ }
+{
+    count(spans, tails, index);
+    place(index)
+}
+
 // Fills the list, each vertex's uses from its offset on; the lengths then stand in the index.
-fn fill(spans: &[u64], tails: &[u64], index: &mut [u64], list: &mut [u64])
+pub fn fill(spans: &[u64], tails: &[u64], index: &mut [u64], list: &mut [u64])
     requires { ⌜ Offset (now spans) (now tails) (now index) (now list) ⌝ }
     ensures { λ r. ⌜ FilledTo (tailOf (now (spans .entry)) (now (tails .entry))) (pairsIn (now (spans .entry))) (pairsIn (now (index .entry))) (pairsIn (now (spans .entry))) (now (index .exit)) (now (list .exit)) (now (list .entry)) ⌝ }
 {
@@ -116,8 +129,7 @@ pub fn index_uses(spans: &[u64], tails: &[u64], index: &mut [u64], list: &mut [u
     requires { ⌜ Indexable (now spans) (now tails) (now index) (now list) ⌝ }
     ensures { λ r. ⌜ record { total = r; index = now (index .exit); list = now (list .exit) } ≡ indexed (tailOf (now (spans .entry)) (now (tails .entry))) (pairsIn (now (spans .entry))) (pairsIn (now (index .entry))) (now (list .entry)) ⌝ }
 {
-    count(spans, tails, index);
-    let total = place(index);
+    let total = offsets(spans, tails, index);
     fill(spans, tails, index, list);
     total
 }
