@@ -154,13 +154,13 @@ module _ (c : Columns) (l : NewLine) (p : acceptance c ≡ Accepted) where
             within = omega (arith, span-before-end c right e h, longer-listed);
           };
           tail = λ k q.
-          let i : k < lengthAt c e = omega arith in
-          let b = span-before-end c right e h in
-          let a : getD (longer c l .tails) (offsetAt (longer c l) e + k) 0 ≡ getD (c .tails) (offsetAt c e + k) 0 =
-          ap (λ (x : ℕ). getD (longer c l .tails) (x + k) 0) o
-          ∙ List·getD-append (take (endOf c) (c .tails)) (l .tail) 0 (offsetAt c e + k) (omega (arith, start-length))
-          ∙ getD-take (endOf c) (c .tails) (offsetAt c e + k) 0 (omega arith) in
-          omega (arith, r .tail k i);
+              let i : k < lengthAt c e = omega arith in
+              let b = span-before-end c right e h in
+              let a : getD (longer c l .tails) (offsetAt (longer c l) e + k) 0 ≡ getD (c .tails) (offsetAt c e + k) 0 =
+              ap (λ (x : ℕ). getD (longer c l .tails) (x + k) 0) o
+              ∙ List·getD-append (take (endOf c) (c .tails)) (l .tail) 0 (offsetAt c e + k) (omega (arith, start-length))
+              ∙ getD-take (endOf c) (c .tails) (offsetAt c e + k) 0 (omega arith) in
+              omega (arith, r .tail k i);
         }
 
     new-right : RightEdge (longer c l) (length (c .heads))
@@ -176,11 +176,11 @@ module _ (c : Columns) (l : NewLine) (p : acceptance c ≡ Accepted) where
             within = omega (arith, longer-listed);
           };
           tail = λ k q.
-          let i : k < length (l .tail) = omega arith in
-          let a : getD (longer c l .tails) (offsetAt (longer c l) (length (c .heads)) + k) 0 ≡ getD (l .tail) k 0 =
-          ap (λ (x : ℕ). getD (longer c l .tails) (x + k) 0) (o ∙ sym start-length)
-          ∙ getD-append-add (take (endOf c) (c .tails)) (l .tail) k 0 in
-          omega (arith, g .listed k i);
+              let i : k < length (l .tail) = omega arith in
+              let a : getD (longer c l .tails) (offsetAt (longer c l) (length (c .heads)) + k) 0 ≡ getD (l .tail) k 0 =
+              ap (λ (x : ℕ). getD (longer c l .tails) (x + k) 0) (o ∙ sym start-length)
+              ∙ getD-append-add (take (endOf c) (c .tails)) (l .tail) k 0 in
+              omega (arith, g .listed k i);
         }
 
     pub longer-accepted : acceptance (longer c l) ≡ Accepted
@@ -193,9 +193,9 @@ module _ (c : Columns) (l : NewLine) (p : acceptance c ≡ Accepted) where
         tails = omega (arith, longer-listed);
       };
       each = λ e h. ⊎-elim
-      (λ q. subst (RightEdge (longer c l)) (sym q) new-right)
-      (λ q. old-right e q)
-      (eq-or-below e (omega (arith, longer-count)));
+          (λ q. subst (RightEdge (longer c l)) (sym q) new-right)
+          (λ q. old-right e q)
+          (eq-or-below e (omega (arith, longer-count)));
     })
       where
         eq-or-below : (e : ℕ) → e ≤ length (c .heads) → (e ≡ length (c .heads)) ⊎ (e < length (c .heads))

@@ -8,3 +8,4 @@ pub mod Laws
 pub mod Lists
 pub mod Pairs
 pub mod Room
+pub mod Hits

@@ -1,4 +1,4 @@
--- An accepted table can be indexed where the list has a place for each listed vertex: spans do not overlap, so no more uses than listed vertices. Assumes nothing.
+-- An accepted table can be indexed, and has no more uses than listed vertices: spans do not overlap. A hyperedge more adds as many uses as it lists vertices. Assumes nothing.
 use mathlib.Core.Path.{_≡_, refl, _∙_, ap, subst₂}
 use mathlib.Core.Bool.{true}
 use mathlib.Core.List.{List, [], _∷_}
@@ -17,16 +17,16 @@ use Rattle.columns.specs.Acceptance.{allBelow, edgeAt, edgesAcceptance, accepta
 use Rattle.columns.proofs.Accepted.{below-at, below-all, both-accepted, edge-accepted, table-accepted}
 use Rattle.uses.specs.Uses.{usesBelow, useList, pairsIn}
 use Rattle.uses.proofs.Laws.{Indexed}
-use Rattle.uses.specs.Indexable.{Indexable}
+use Rattle.uses.specs.Indexable.{Readable, Measurable, Indexable}
 use Rattle.uses.proofs.Pairs.{same-or-not}
 use Rattle.uses.proofs.Lists.{uses-same, more-length, offset-next}
 
 -- how many of the vertices below n are in a list
-unfoldable hits : ℕ → List ℕ → ℕ
+unfoldable pub hits : ℕ → List ℕ → ℕ
 hits zero vs = 0
 hits (suc n) vs = hits n vs + pick (member n vs) 1 0
 
-hits-none : (n : ℕ) → hits n [] ≡ 0
+pub hits-none : (n : ℕ) → hits n [] ≡ 0
 unfolding hits member
 hits-none zero = refl
 hits-none (suc n) = let h = hits-none n in omega arith
@@ -50,7 +50,7 @@ hits-few n (w ∷ vs) = omega (arith, hits-few n vs, hits-more n w vs)
 count-more : (tail : ℕ → List ℕ) (v k : ℕ) → length (usesBelow tail v (suc k)) ≡ length (usesBelow tail v k) + pick (member v (tail k)) 1 0
 count-more tail v k = ⊎-elim (λ p. rw p (more-length tail v k p)) (λ p. rw p (ap length (uses-same tail v k p) ∙ omega arith)) (true-or-false (member v (tail k)))
 
-list-more : (tail : ℕ → List ℕ) (m n : ℕ) → length (useList tail (suc m) n) ≡ length (useList tail m n) + hits n (tail m)
+pub list-more : (tail : ℕ → List ℕ) (m n : ℕ) → length (useList tail (suc m) n) ≡ length (useList tail m n) + hits n (tail m)
 unfolding useList hits
 list-more tail m zero = refl
 list-more tail m (suc n) = omega (arith, offset-next tail m n, offset-next tail (suc m) n, list-more tail m n, count-more tail n m)
@@ -90,20 +90,29 @@ module _ (c : Columns) (p : acceptance c ≡ Accepted) (index : List ℕ) (n : �
   wider : (vs : List ℕ) → allBelow (c .vertices) vs ≡ true → allBelow n vs ≡ true
   wider vs b = below-all n vs (λ k h. omega (arith, below-at (c .vertices) vs b k h))
 
-  -- what indexing asks, of an accepted table
-  pub table-indexable : (list : List ℕ) → length (c .tails) ≤ length list → Indexable (c .spans) (c .tails) index list
-  table-indexable list room =
+  table-readable : Readable (pairsIn index) (c .spans) (c .tails)
+  table-readable =
       let z = table-accepted c p in
       let s = spans-in in
       let v = pairs-in index n two in
       record {
-        readable = record {
-          even = omega (arith, z .spans);
-          each = λ e h. let g = z .each e (omega arith) .1 in record { within = g .within; listed = rw v (wider (tailAt c e) (g .listed)) };
-        };
-        even = omega arith;
-        room = rw (s, v) (omega (arith, list-fits c n p));
+        even = omega (arith, z .spans);
+        each = λ e h. let g = z .each e (omega arith) .1 in record { within = g .within; listed = rw v (wider (tailAt c e) (g .listed)) };
       }
+
+  -- what measuring and indexing ask, of an accepted table
+  pub table-measurable : Measurable (c .spans) (c .tails) index
+  table-measurable =
+      let s = spans-in in
+      let v = pairs-in index n two in
+      let t = table-accepted c p .tails in
+      record { readable = table-readable; even = omega arith; fits = rw (s, v) (omega (arith, list-fits c n p)) }
+
+  pub table-indexable : (list : List ℕ) → length (useList (tailAt c) (length (c .heads)) n) ≤ length list → Indexable (c .spans) (c .tails) index list
+  table-indexable list room =
+      let s = spans-in in
+      let v = pairs-in index n two in
+      record { readable = table-readable; even = omega arith; room = rw (s, v) room }
 
   -- and what it leaves, in the table's own numbers
   pub table-indexed : {total : ℕ} {ix list old : List ℕ} → Indexed (tailAt c) (pairsIn (c .spans)) (pairsIn index) old total ix list → Indexed (tailAt c) (length (c .heads)) n old total ix list

@@ -1,8 +1,8 @@
 -- The index of uses: for each vertex the hyperedges that list it, ascending and each once, struck ones too, in one list; and a column of pairs that says where the
 -- uses of a vertex stand there: the offset, then the length. Assumes nothing: these are definitions.
 use mathlib.Core.List.{List, [], _∷_, _++_}
-use Prim.Native.Nat.{ℕ, zero, suc, _/_}
-use lib.ListN.{length}
+use Prim.Native.Nat.{ℕ, zero, suc, _+_, _/_}
+use lib.ListN.{length, getD, take}
 use Rattle.weights.specs.Choice.{pick}
 use Rattle.weights.specs.Lists.{member}
 use Rattle.columns.specs.Filled.{filled}
@@ -44,3 +44,8 @@ pub record Index : Type 0 where
 
 unfoldable pub indexed : (tail : ℕ → List ℕ) → (m n : ℕ) → (old : List ℕ) → Index
 indexed tail m n old = record { total = length (useList tail m n); index = usePairs tail m n; list = filled (useList tail m n) old }
+
+-- how many different numbers stand in the first i places of a list
+unfoldable pub distinctIn : List ℕ → ℕ → ℕ
+distinctIn vs zero = 0
+distinctIn vs (suc i) = distinctIn vs i + pick (member (getD vs i 0) (take i vs)) 0 1

@@ -1,11 +1,13 @@
 // The index of uses: which hyperedges list a vertex. Two passes over the tails, counting and then
 // filling; no tail is searched for a vertex that it lists twice.
 use weights::Hyperedge;
+use weights::Vertex;
 ghost use mathlib.Core.Path.{_≡_};
 ghost use Prim.Native.Nat.{_+_, _*_, _≤_};
 ghost use lib.ListN.{length};
 ghost use Rattle.columns.specs.Columns.{tailOf};
-ghost use Rattle.uses.specs.Uses.{useList, pairs, pairsIn, useOffset, indexed};
+ghost use Rattle.weights.specs.Lists.{member};
+ghost use Rattle.uses.specs.Uses.{useList, pairs, pairsIn, useOffset, indexed, distinctIn};
 ghost use Rattle.uses.specs.Indexable.{Readable, Measurable, Indexable, counted, Counting, running, Placeable, placed, endsIn, FilledTo, Filling, Offset};
 
 // Counts hyperedge e as a use of each vertex that it lists. The first place of a vertex is a mark
@@ -132,4 +134,34 @@ pub fn index_uses(spans: &[u64], tails: &[u64], index: &mut [u64], list: &mut [u
     let total = offsets(spans, tails, index);
     fill(spans, tails, index, list);
     total
+}
+
+// Whether v stands in a list.
+fn stands_in(list: &[u64], v: Vertex) -> bool
+    ensures { λ r. ⌜ r ≡ member (v .0) (now (list .entry)) ⌝ }
+{
+    let mut i = 0;
+    while i < list.len() {
+        if list[i] == v.0 {
+            return true;
+        }
+        i += 1;
+    }
+    false
+}
+
+// How many different vertices a list has: those that do not stand before their place.
+pub fn distinct(list: &[u64]) -> u64
+    ensures { λ r. ⌜ r ≡ distinctIn (now (list .entry)) (length (now (list .entry))) ⌝ }
+{
+    let mut k: u64 = 0;
+    let mut i = 0;
+    while i < list.len() {
+        let v = Vertex(list[i]);
+        if !stands_in(&list[..i], v) {
+            k += 1;
+        }
+        i += 1;
+    }
+    k
 }
