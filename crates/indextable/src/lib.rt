@@ -1,0 +1,85 @@
+// The index of a table that is lent as columns: which lines need a part.
+use refusal::Acceptance;
+use refusal::Extent;
+use refusal::Refusal;
+ghost use mathlib.Core.Path.{_≡_};
+ghost use Prim.Native.Nat.{_*_, _≤_};
+ghost use lib.ListN.{length, take};
+ghost use Rattle.columns.specs.Columns.{columns, tailOf};
+ghost use Rattle.uses.specs.Uses.{pairsIn};
+ghost use Rattle.uses.specs.Indexable.{Measurable};
+ghost use Rattle.indextable.specs.Index.{indexBy, indexRoom, indexOutcome, tableIndexed};
+
+// The index at the start of the two columns, and its list's length; or 18, and they are as they were.
+// It is worked out in `pairs`, two places for each part, so that the list's length is known before a
+// place is written.
+fn index_with(
+    spans: &[u64],
+    tails: &[u64],
+    pairs: &mut [u64],
+    index: &mut [u64],
+    list: &mut [u64],
+) -> Extent
+    requires { ⌜ Measurable (now spans) (now tails) (now pairs) ⌝ }
+    ensures { λ r.
+        let n = pairsIn (now (pairs .entry)) in
+        let x = indexBy (tailOf (now (spans .entry)) (now (tails .entry))) (pairsIn (now (spans .entry))) n in
+        let i = now (index .entry) in
+        let l = now (list .entry) in
+        ⌜ record { result = r; index = now (index .exit); list = now (list .exit) } ≡ indexOutcome x i l (indexRoom n (length (x .list)) i l) ⌝ }
+{
+    if index.len() < pairs.len() {
+        return Extent::Refused(Refusal::ColumnRoom);
+    }
+    let total = uses::offsets(spans, tails, pairs);
+    if (list.len() as u64) < total {
+        return Extent::Refused(Refusal::ColumnRoom);
+    }
+    uses::fill(spans, tails, pairs, list);
+    columns::put(pairs, index);
+    Extent::Length(total)
+}
+
+// The same, in the start of a room.
+fn index_in(
+    n: u64,
+    spans: &[u64],
+    tails: &[u64],
+    room: &mut [u64],
+    index: &mut [u64],
+    list: &mut [u64],
+) -> Extent
+    requires { ⌜ (Measurable (now spans) (now tails) (take (2 * n) (now room))) × (2 * n ≤ length (now room)) ⌝ }
+    ensures { λ r.
+        let x = indexBy (tailOf (now (spans .entry)) (now (tails .entry))) (pairsIn (now (spans .entry))) n in
+        let i = now (index .entry) in
+        let l = now (list .entry) in
+        ⌜ record { result = r; index = now (index .exit); list = now (list .exit) } ≡ indexOutcome x i l (indexRoom n (length (x .list)) i l) ⌝ }
+{
+    let places = 2 * n as usize;
+    index_with(spans, tails, &mut room[..places], index, list)
+}
+
+// Leaves the index of a table at the start of the two columns, a pair of offset and length for each
+// part and the list, and returns the list's length; or refuses and leaves the columns as they are.
+pub fn index_table(
+    n: u64,
+    heads: &[u64],
+    own: &[u64],
+    spans: &[u64],
+    tails: &[u64],
+    index: &mut [u64],
+    list: &mut [u64],
+) -> Extent
+    ensures { λ r.
+        let c = columns n (now (heads .entry)) (now (own .entry)) (now (spans .entry)) (now (tails .entry)) in
+        ⌜ record { result = r; index = now (index .exit); list = now (list .exit) } ≡ tableIndexed c (now (index .entry)) (now (list .entry)) ⌝ }
+{
+    let a = columns::check_table(n, heads, own, spans, tails);
+    match a {
+        Acceptance::Refused(r) => return Extent::Refused(r),
+        Acceptance::Accepted => {}
+    }
+    let mut room = [0u64; 2048];
+    index_in(n, spans, tails, &mut room, index, list)
+}
