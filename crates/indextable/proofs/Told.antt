@@ -22,7 +22,7 @@ use Rattle.uses.specs.Uses.{useList, useOffset}
 use Rattle.uses.proofs.Pairs.{pairs-ext, last-or-below}
 use Rattle.uses.proofs.Lists.{offset-next}
 use Rattle.uses.proofs.Laws.{Indexed, index-length, offset-is, length-is, offset-start, offset-gapless, use-sound, use-complete, use-ascend}
-use Rattle.indextable.specs.Index.{indexOf, isIndex}
+use Rattle.indextable.specs.Index.{indexOf, beginWith, isIndex}
 use Rattle.indextable.specs.Told.{offsetIn, lengthIn, entryIn, IsEntry, Needs, Told}
 
 module _ (c : Columns) where
@@ -198,7 +198,7 @@ module _ (c : Columns) (accepted : acceptance c ≡ Accepted) where
 
   -- the test of 19 passes exactly for columns that begin with an index of the table
   pub index-exactly : (index list : List ℕ) → (isIndex c index list ≡ true) ↔ ((k : ℕ) × Told c (take (2 * c .vertices) index) (take k list))
-  unfolding isIndex
+  unfolding beginWith
   index-exactly index list = (
     λ e.
         let t = both-true {a = equal (take (2 * c .vertices) index) (indexOf c .pairs)} e in

@@ -3,11 +3,11 @@
 -- isn't this table's". Assumes nothing: these are definitions.
 use mathlib.Core.Bool.{Bool, false}
 use mathlib.Core.List.{List}
-use Prim.Native.Nat.{ℕ, _*_}
+use Prim.Native.Nat.{ℕ, _+_, _*_}
 use lib.ListN.{length, take}
 use lib.Dec.{leb}
 use Rattle.weights.specs.Choice.{pick}
-use Rattle.refusal.specs.declared.Refusal.the-variants.{ColumnRoom}
+use Rattle.refusal.specs.declared.Refusal.the-variants.{ColumnRoom, WrongIndex}
 use Rattle.refusal.specs.declared.Acceptance.{Acceptance}
 use Rattle.refusal.specs.declared.Acceptance.the-variants as answer
 use Rattle.refusal.specs.declared.Extent.{Extent}
@@ -30,14 +30,20 @@ indexBy tail m n = record { pairs = usePairs tail m n; list = useList tail m n }
 abbrev pub indexOf : Columns → TableIndex
 indexOf c = indexBy (tailAt c) (length (c .heads)) (c .vertices)
 
--- two columns begin with the index of the table; what stands behind it is not looked at
-unfoldable pub isIndex : Columns → (index list : List ℕ) → Bool
-isIndex c index list =
-    pick (equal (take (2 * c .vertices) index) (indexOf c .pairs)) (equal (take (length (indexOf c .list)) list) (indexOf c .list)) false
+-- two columns begin with an index of n parts; what stands behind it is not looked at
+unfoldable pub beginWith : (n : ℕ) → TableIndex → (index list : List ℕ) → Bool
+beginWith n x index list = pick (equal (take (2 * n) index) (x .pairs)) (equal (take (length (x .list)) list) (x .list)) false
+
+abbrev pub isIndex : Columns → (index list : List ℕ) → Bool
+isIndex c = beginWith (c .vertices) (indexOf c)
 
 -- 18: the columns have room for the pairs of n parts and for a list of k lines
 unfoldable pub indexRoom : (n k : ℕ) → (index list : List ℕ) → Acceptance
 indexRoom n k index list = test (leb (2 * n) (length index)) ColumnRoom (test (leb k (length list)) ColumnRoom answer.Accepted)
+
+-- 18, of an index that is to have so many lines more in its list; then 19: the columns begin with the index as it is
+unfoldable pub heldAcceptance : (n more : ℕ) → TableIndex → (index list : List ℕ) → Acceptance
+heldAcceptance n more x index list = andThen (indexRoom n (length (x .list) + more) index list) (test (beginWith n x index list) WrongIndex answer.Accepted)
 
 -- 1 to 6, then 18
 unfoldable pub indexAcceptance : Columns → (index list : List ℕ) → Acceptance

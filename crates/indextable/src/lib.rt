@@ -8,7 +8,8 @@ ghost use lib.ListN.{length, take};
 ghost use Rattle.columns.specs.Columns.{columns, tailOf};
 ghost use Rattle.uses.specs.Uses.{pairsIn};
 ghost use Rattle.uses.specs.Indexable.{Measurable};
-ghost use Rattle.indextable.specs.Index.{indexBy, indexRoom, indexOutcome, tableIndexed};
+ghost use Rattle.indextable.specs.Index.{indexBy, indexRoom, indexOutcome, heldAcceptance, tableIndexed};
+ghost use Rattle.indextable.specs.Checkable.{Checkable, Held};
 
 // The index at the start of the two columns, and its list's length; or 18, and they are as they were.
 // It is worked out in `pairs`, two places for each part, so that the list's length is known before a
@@ -82,4 +83,79 @@ pub fn index_table(
     }
     let mut room = [0u64; 2048];
     index_in(n, spans, tails, &mut room, index, list)
+}
+
+// 18 and 19: whether the two columns have room for an index with so many lines more in its list, and
+// begin with the index as it is, which is built in `pairs` and `lines`.
+fn held_with(
+    spans: &[u64],
+    tails: &[u64],
+    more: u64,
+    pairs: &mut [u64],
+    lines: &mut [u64],
+    index: &[u64],
+    list: &[u64],
+) -> Acceptance
+    requires { ⌜ Held (now spans) (now tails) more (now pairs) (now lines) ⌝ }
+    ensures { λ r.
+        let n = pairsIn (now (pairs .entry)) in
+        let x = indexBy (tailOf (now (spans .entry)) (now (tails .entry))) (pairsIn (now (spans .entry))) n in
+        ⌜ r ≡ heldAcceptance n more x (now (index .entry)) (now (list .entry)) ⌝ }
+{
+    let places = pairs.len();
+    if index.len() < places {
+        return Acceptance::Refused(Refusal::ColumnRoom);
+    }
+    let total = uses::index_uses(spans, tails, pairs, lines);
+    if (list.len() as u64) < total + more {
+        return Acceptance::Refused(Refusal::ColumnRoom);
+    }
+    if !columns::equal(&index[..places], pairs) {
+        return Acceptance::Refused(Refusal::WrongIndex);
+    }
+    let size = total as usize;
+    if !columns::equal(&list[..size], &lines[..size]) {
+        return Acceptance::Refused(Refusal::WrongIndex);
+    }
+    Acceptance::Accepted
+}
+
+// The same, in the start of a room.
+fn held_in(
+    n: u64,
+    spans: &[u64],
+    tails: &[u64],
+    more: u64,
+    room: &mut [u64],
+    lines: &mut [u64],
+    index: &[u64],
+    list: &[u64],
+) -> Acceptance
+    requires { ⌜ (Held (now spans) (now tails) more (take (2 * n) (now room)) (now lines)) × (2 * n ≤ length (now room)) ⌝ }
+    ensures { λ r.
+        let x = indexBy (tailOf (now (spans .entry)) (now (tails .entry))) (pairsIn (now (spans .entry))) n in
+        ⌜ r ≡ heldAcceptance n more x (now (index .entry)) (now (list .entry)) ⌝ }
+{
+    let places = 2 * n as usize;
+    held_with(spans, tails, more, &mut room[..places], lines, index, list)
+}
+
+// Whether the two columns hold the index of an accepted table, with room for a line that lists so
+// many different parts.
+pub fn check_index(
+    n: u64,
+    spans: &[u64],
+    tails: &[u64],
+    more: u64,
+    index: &[u64],
+    list: &[u64],
+) -> Acceptance
+    requires { ⌜ Checkable n (now spans) (now tails) more ⌝ }
+    ensures { λ r.
+        let x = indexBy (tailOf (now (spans .entry)) (now (tails .entry))) (pairsIn (now (spans .entry))) n in
+        ⌜ r ≡ heldAcceptance n more x (now (index .entry)) (now (list .entry)) ⌝ }
+{
+    let mut room = [0u64; 2048];
+    let mut lines = [0u64; 16384];
+    held_in(n, spans, tails, more, &mut room, &mut lines, index, list)
 }

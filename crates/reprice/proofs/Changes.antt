@@ -27,7 +27,8 @@ use Rattle.settle.specs.Settling.{answersOf}
 use Rattle.settle.proofs.Demands.{answers-mean, answers-sized}
 use Rattle.settle.proofs.Exactly.{same-exactly, same-fails, yes-exactly}
 use Rattle.settle.proofs.States.{answers-state}
-use Rattle.reprice.specs.Repricing.{stands, lineAcceptance, answersAcceptance, repriceAcceptance, strikeAcceptance, ChangeOutcome, changed, repriced, stricken}
+use Rattle.settle.specs.Checking.{answersAcceptance}
+use Rattle.reprice.specs.Repricing.{stands, lineAcceptance, repriceAcceptance, strikeAcceptance, ChangeOutcome, changed, repriced, stricken}
 use Rattle.reprice.specs.Changes.{Named, RightChange, WrongChange, ChangeOwes, Leaves}
 
 -- the test of 9

@@ -20,7 +20,8 @@ use Rattle.columns.proofs.Repriced.{acceptance-kept}
 use Rattle.columns.specs.Same.{sameAnswers}
 use Rattle.settle.specs.Settling.{answersOf}
 use Rattle.settle.proofs.Settled.{told-accepted, told-answers}
-use Rattle.reprice.specs.Repricing.{stands, lineAcceptance, answersAcceptance, repriceAcceptance, strikeAcceptance, ChangeOutcome, changed, Changeable, repriced, stricken}
+use Rattle.settle.specs.Checking.{answersAcceptance}
+use Rattle.reprice.specs.Repricing.{stands, lineAcceptance, repriceAcceptance, strikeAcceptance, ChangeOutcome, changed, Changeable, repriced, stricken}
 
 -- an accepted line
 module _ (c : Columns) (a : Answers) (e : ℕ) (p : lineAcceptance c a e ≡ Accepted) where

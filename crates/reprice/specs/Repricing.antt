@@ -7,14 +7,14 @@ use lib.Dec.{ltb, leb}
 use Rattle.weights.specs.declared.Measure.{Measure}
 use Rattle.weights.specs.Choice.{pick}
 use Rattle.weights.specs.Figures.{greatest, struck, isStruck}
-use Rattle.refusal.specs.declared.Refusal.the-variants.{WrongAnswers, NoSuchEdge, NewWeight}
+use Rattle.refusal.specs.declared.Refusal.the-variants.{NoSuchEdge, NewWeight}
 use Rattle.refusal.specs.declared.Acceptance.{Acceptance}
 use Rattle.refusal.specs.declared.Acceptance.the-variants.{Accepted, Refused}
 use Rattle.columns.specs.Columns.{Answers, Columns, ownAt, withOwn}
 use Rattle.columns.specs.Acceptance.{test, andThen, lentAcceptance}
 use Rattle.columns.proofs.Accepted.{AcceptedColumns}
-use Rattle.columns.specs.Same.{sameAnswers}
 use Rattle.settle.specs.Settling.{answersOf}
+use Rattle.settle.specs.Checking.{answersAcceptance}
 
 -- line e exists and is not struck
 abbrev pub stands : Columns → ℕ → Bool
@@ -23,10 +23,6 @@ stands c e = pick (ltb e (length (c .heads))) (not (isStruck (ownAt c e))) false
 -- 1 to 6, 7, then 9
 unfoldable pub lineAcceptance : Columns → Answers → ℕ → Acceptance
 lineAcceptance c a e = andThen (lentAcceptance c a) (test (stands c e) NoSuchEdge Accepted)
-
--- 8: the lent answers are this table's
-abbrev pub answersAcceptance : Measure → Columns → Answers → Acceptance
-answersAcceptance m c a = test (sameAnswers a (answersOf m c)) WrongAnswers Accepted
 
 -- repricing line e to w: 1 to 6, 7, 9, 10, 8
 unfoldable pub repriceAcceptance : Measure → Columns → Answers → (e w : ℕ) → Acceptance

@@ -7,7 +7,8 @@ use weights::Measure;
 use weights::Weight;
 ghost use mathlib.Core.Path.{_≡_};
 ghost use Rattle.columns.specs.Columns.{columns, answers};
-ghost use Rattle.reprice.specs.Repricing.{lineAcceptance, answersAcceptance, changed, Changeable, repriced, stricken};
+ghost use Rattle.settle.specs.Checking.{answersAcceptance};
+ghost use Rattle.reprice.specs.Repricing.{lineAcceptance, changed, Changeable, repriced, stricken};
 
 // Whether table, answer columns and line are accepted: 1 to 6, 7, 9.
 fn check_line(
