@@ -2,3 +2,4 @@ pub mod Checks
 pub mod Lists
 pub mod Storing
 pub mod Renewing
+pub mod Appended

@@ -121,16 +121,16 @@ module _ (c : Columns) (k : Counts) (a : Answers) (l : NewLine) (g : Appendable 
         (p .1 .1 .1 ∙ ap (λ (z : ℕ). take z (c .tails) ++ filled (l .tail) (drop z (c .tails))) e)
 
   -- the lengths of the longer table are the new counts
-  heads-next : length (next .heads) ≡ k .edges + 1
+  pub heads-next : length (next .heads) ≡ k .edges + 1
   heads-next = longer-count held l (g .table) ∙ ap (λ (z : ℕ). z + 1) lines-held
 
-  own-next : length (next .own) ≡ k .edges + 1
+  pub own-next : length (next .own) ≡ k .edges + 1
   own-next = length-append (held .own) (l .own ∷ []) ∙ ap (λ (z : ℕ). z + 1) (length-take-le (k .edges) (c .own) (g .counted .own))
 
-  spans-next : length (next .spans) ≡ 2 * (k .edges + 1)
+  pub spans-next : length (next .spans) ≡ 2 * (k .edges + 1)
   spans-next = omega (arith, length-append (held .spans) (endOf held ∷ length (l .tail) ∷ []), length-take-le (2 * k .edges) (c .spans) (g .counted .spanned .spans))
 
-  tails-next : length (next .tails) ≡ newEnd c k + length (l .tail)
+  pub tails-next : length (next .tails) ≡ newEnd c k + length (l .tail)
   tails-next = longer-listed held l (g .table) ∙ ap (λ (z : ℕ). z + length (l .tail)) end-held
 
   pub cut-is : inUse (over next c) (newCounts c k l) ≡ next
