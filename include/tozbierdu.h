@@ -60,7 +60,8 @@ extern "C" {
 /*
  * The refusals. The first that applies is returned, tried in the order 16, 1, 2, then 3, 4, 5 and 6
  * of line 0, of line 1 and on, then 7, 9, 10, 11, 8, 12, 13. The place is the line for 3 to 6 and
- * otherwise 0. Numbers 14, 15 and 17 are of texts, and no call here returns them.
+ * otherwise 0. Numbers 14, 15 and 17 are of texts, 18 and 19 of an index and of appending a line; no
+ * call here returns them.
  */
 enum tozbierdu_refusal {
     TOZBIERDU_REFUSED_PARTS = 1,           /* n is above 1024 */
@@ -79,7 +80,9 @@ enum tozbierdu_refusal {
     TOZBIERDU_REFUSED_TEXT = 14,           /* a text breaks the form or a limit */
     TOZBIERDU_REFUSED_TEXT_ROOM = 15,      /* a column or the room of a text is too short */
     TOZBIERDU_REFUSED_MEASURE = 16,        /* the measure is neither cost nor days */
-    TOZBIERDU_REFUSED_INPUT = 17           /* a program's input is too long */
+    TOZBIERDU_REFUSED_INPUT = 17,          /* a program's input is too long */
+    TOZBIERDU_REFUSED_COLUMN_ROOM = 18,    /* a column has no room */
+    TOZBIERDU_REFUSED_INDEX = 19           /* the lent index is not this table's */
 };
 
 /* Whether a result is a refusal's. */

@@ -2,8 +2,10 @@
 //! The last line is 'N passed, M failed'; the exit status is 1 if a test failed.
 
 mod answers;
+mod append;
 mod bill;
 mod calls;
+mod index;
 mod model;
 mod random;
 mod reprice;
@@ -32,6 +34,9 @@ const TESTS: &[&[Test]] = &[
     answers::stale::TESTS,
     reprice::counting::TESTS,
     reprice::raising::TESTS,
+    index::TESTS,
+    append::TESTS,
+    append::refusals::TESTS,
     text::TESTS,
     text::rooms::TESTS,
     text::broken::TESTS,

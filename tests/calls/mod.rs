@@ -1,6 +1,7 @@
 //! The calls of the library. Every column is lent between guard words; a wrapper answers Err if a
 //! guard has changed, or a column that the call must leave as it is.
 
+pub mod growth;
 pub mod lending;
 pub mod texts;
 

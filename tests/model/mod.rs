@@ -1,5 +1,6 @@
 //! A table and its labelling as plain data, with the limits of the specification.
 
+pub mod growth;
 pub mod solver;
 pub mod text;
 pub mod trees;

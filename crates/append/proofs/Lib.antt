@@ -3,3 +3,4 @@ pub mod Lists
 pub mod Storing
 pub mod Renewing
 pub mod Appended
+pub mod Example

@@ -8,6 +8,9 @@ use borrow.Author.Tests.{eq-eqb, ne-eqb}
 use Rattle.weights.specs.declared.Measure.{Measure}
 use Rattle.weights.specs.declared.Entry.{Entry}
 use Rattle.refusal.specs.declared.Refusal.{Refusal}
+use Rattle.refusal.specs.declared.Counts.{Counts}
+use Rattle.refusal.specs.declared.Appending.{Appending}
+use Rattle.refusal.specs.declared.Appending.the-variants as appending
 use Rattle.refusal.specs.declared.Header.{Header}
 use Rattle.refusal.specs.declared.Reading.{Reading}
 use Rattle.refusal.specs.declared.Reading.the-variants as reading
@@ -20,10 +23,13 @@ use Rattle.refusal.specs.Refusals.{codeOf, resultOf, acceptanceResult, verdictR
 use Rattle.columns.specs.Columns.{Answers, Columns}
 use Rattle.settle.specs.Checking.{checked}
 use Rattle.reprice.specs.Repricing.{stricken}
+use Rattle.columns.specs.Longer.{NewLine}
+use Rattle.indextable.specs.Index.{IndexOutcome}
+use Rattle.append.specs.Appending.{leaves, appended}
 use Rattle.readtable.specs.Read.{ReadOutcome}
 use Rattle.writetable.specs.Write.{writeTable}
 use Rattle.counter.specs.Results.{changeResult}
-use Rattle.harness.specs.Results.{checkedResult, strickenResult, entryWritten, measureNumber, headerWritten, readResult, writeResult, writtenResult}
+use Rattle.harness.specs.Results.{checkedResult, strickenResult, entryWritten, measureNumber, headerWritten, readResult, writeResult, writtenResult, indexedResult, countsWritten, leftGrown, appendedResult}
 
 module _ {o : MeasureChoice} (c : Columns) (a : Answers) {n : ℕ} where
   pub checked-refused : {r : Refusal} → o ≡ choice.Refused r → n ≡ resultOf (codeOf r) → n ≡ checkedResult o c a
@@ -86,3 +92,33 @@ module _ {o : MeasureChoice} (c : Columns) (room : List ℕ) {n : ℕ} where
   pub write-measure : {m : Measure} {x : Extent} {room′ : List ℕ} → o ≡ choice.Measure m → n ≡ extentResult x → record { answer = x; room = room′ } ≡ writeTable m c room
       → record { result = n; left = room′ } ≡ writtenResult o c room
   write-measure p q e = rw (p, q) (ap writeResult e)
+
+-- indexing
+pub indexed-number : {x : IndexOutcome} {e : Extent} {i l : List ℕ} {n : ℕ} → record { result = e; index = i; list = l } ≡ x → n ≡ extentResult e → record { result = n; index = i; list = l } ≡ indexedResult x
+indexed-number p q = rw q (ap indexedResult p)
+
+-- the new counts
+two : (xs : List ℕ) (e l : ℕ) → length xs ≡ 2 → set (set xs 0 e) 1 l ≡ e ∷ l ∷ []
+two [] e l h = absurd (omega arith)
+two (x ∷ []) e l h = absurd (omega arith)
+two (x ∷ (y ∷ [])) e l h = refl
+two (x ∷ (y ∷ (z ∷ zs))) e l h = absurd (omega arith)
+
+module _ (k : Counts) (room : List ℕ) where
+  pub counts-written : length room ≡ 2 → set (set room 0 (k .edges)) 1 (k .listed) ≡ countsWritten k room
+  counts-written h = rw (eq-eqb (length room) 2 h) (two room (k .edges) (k .listed) h)
+
+  pub counts-unwritten : ¬ (length room ≡ 2) → room ≡ countsWritten k room
+  counts-unwritten n = rw (ne-eqb (length room) 2 n)
+
+-- appending, by the measure's number and then by its answer
+module _ {o : MeasureChoice} (c : Columns) (k : Counts) (a : Answers) (index list : List ℕ) (l : NewLine) (room : List ℕ) where
+  pub append-measure : {r : Refusal} {n : ℕ} → o ≡ choice.Refused r → n ≡ resultOf (codeOf r) → leftGrown n c a index list room ≡ appendedResult o c k a index list l room
+  append-measure p q = rw (p, q)
+
+  module _ {m : Measure} (p : o ≡ choice.Measure m) {x : Appending} {c′ : Columns} {a′ : Answers} {i′ l′ : List ℕ} (e : leaves x c′ a′ i′ l′ ≡ appended m c k a index list l) where
+    pub append-refused : {r : Refusal} {n : ℕ} → x ≡ appending.Refused r → n ≡ resultOf (codeOf r) → leftGrown n c′ a′ i′ l′ room ≡ appendedResult o c k a index list l room
+    append-refused q s = rw (p, ← e, q, s)
+
+    pub append-counts : {k′ : Counts} {room′ : List ℕ} → x ≡ appending.Counts k′ → room′ ≡ countsWritten k′ room → leftGrown 0 c′ a′ i′ l′ room′ ≡ appendedResult o c k a index list l room
+    append-counts q s = rw (p, ← e, q, s)

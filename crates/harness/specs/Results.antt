@@ -9,6 +9,9 @@ use Rattle.weights.specs.declared.State.{State}
 use Rattle.weights.specs.declared.State.the-variants.{Made, Over, Unmade}
 use Rattle.weights.specs.declared.Entry.{Entry}
 use Rattle.weights.specs.Choice.{pick}
+use Rattle.refusal.specs.declared.Counts.{Counts}
+use Rattle.refusal.specs.declared.Appending.{Appending}
+use Rattle.refusal.specs.declared.Appending.the-variants as appending
 use Rattle.refusal.specs.declared.Header.{Header}
 use Rattle.refusal.specs.declared.Reading.{Reading}
 use Rattle.refusal.specs.declared.Reading.the-variants as reading
@@ -19,6 +22,9 @@ use Rattle.columns.specs.Columns.{Answers, Columns}
 use Rattle.settle.specs.Checking.{checked}
 use Rattle.reprice.specs.Repricing.{stricken}
 use Rattle.counter.specs.Results.{LeftOwn, changeResult, LeftRoom}
+use Rattle.columns.specs.Longer.{NewLine}
+use Rattle.indextable.specs.Index.{IndexOutcome}
+use Rattle.append.specs.Appending.{Grown, appended}
 use Rattle.readtable.specs.Read.{ReadOutcome}
 use Rattle.writetable.specs.Write.{WriteOutcome, writeTable}
 
@@ -70,3 +76,46 @@ writeResult x = record { result = extentResult (x .answer); left = x .room }
 abbrev pub writtenResult : MeasureChoice → Columns → List ℕ → LeftRoom
 writtenResult (Refused r) c room = record { result = resultOf (codeOf r); left = room }
 writtenResult (Measure m) c room = writeResult (writeTable m c room)
+
+-- a number, and the index
+pub record LeftIndex : Type 0 where
+  pub result : ℕ
+  pub index : List ℕ
+  pub list : List ℕ
+
+abbrev pub indexedResult : IndexOutcome → LeftIndex
+indexedResult o = record { result = extentResult (o .result); index = o .index; list = o .list }
+
+-- counts as they are lent, and as they are written where two places are lent
+abbrev pub usedCounts : (edges listed : ℕ) → Counts
+usedCounts edges listed = record { edges = edges; listed = listed }
+
+abbrev pub countsWritten : Counts → List ℕ → List ℕ
+countsWritten k room = pick (eqb (length room) 2) (k .edges ∷ k .listed ∷ []) room
+
+-- a number, and all that appending was lent
+pub record LeftGrown : Type 0 where
+  pub result : ℕ
+  pub table : Columns
+  pub answers : Answers
+  pub index : List ℕ
+  pub list : List ℕ
+  pub counts : List ℕ
+
+abbrev pub leftGrown : ℕ → Columns → Answers → (index list counts : List ℕ) → LeftGrown
+leftGrown r c a index list counts = record { result = r; table = c; answers = a; index = index; list = list; counts = counts }
+
+abbrev pub appendingResult : Appending → ℕ
+appendingResult (appending.Counts k) = 0
+appendingResult (appending.Refused r) = resultOf (codeOf r)
+
+abbrev pub appendingCounts : Appending → List ℕ → List ℕ
+appendingCounts (appending.Counts k) room = countsWritten k room
+appendingCounts (appending.Refused r) room = room
+
+abbrev pub grownResult : Grown → List ℕ → LeftGrown
+grownResult o room = leftGrown (appendingResult (o .result)) (o .table) (o .answers) (o .index) (o .list) (appendingCounts (o .result) room)
+
+abbrev pub appendedResult : MeasureChoice → Columns → Counts → Answers → (index list : List ℕ) → NewLine → List ℕ → LeftGrown
+appendedResult (Refused r) c k a index list l room = leftGrown (resultOf (codeOf r)) c a index list room
+appendedResult (Measure m) c k a index list l room = grownResult (appended m c k a index list l) room

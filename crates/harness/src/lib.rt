@@ -1,5 +1,7 @@
 // The calls that `counter` does not export, for the tests alone. Each gives one number, as a caller
 // in C gets it.
+use refusal::Appending;
+use refusal::Counts;
 use refusal::Header;
 use refusal::MeasureChoice;
 use refusal::Reading;
@@ -7,14 +9,17 @@ use weights::Hyperedge;
 use weights::Measure;
 use weights::State;
 use weights::Vertex;
+use weights::Weight;
 ghost use mathlib.Core.Path.{_≡_};
 ghost use Rattle.weights.specs.Labels.{entryOf};
 ghost use Rattle.refusal.specs.Refusals.{acceptanceResult, measureOf};
 ghost use Rattle.provenance.specs.BestFirst.{labels};
 ghost use Rattle.columns.specs.Columns.{columns, answers};
 ghost use Rattle.columns.specs.Acceptance.{acceptance};
+ghost use Rattle.columns.specs.Longer.{newLine};
+ghost use Rattle.indextable.specs.Index.{tableIndexed};
 ghost use Rattle.readtable.specs.Read.{readTable};
-ghost use Rattle.harness.specs.Results.{checkedResult, strickenResult, stateNumber, entryWritten, measureNumber, headerWritten, readResult, writtenResult};
+ghost use Rattle.harness.specs.Results.{checkedResult, strickenResult, stateNumber, entryWritten, measureNumber, headerWritten, readResult, writtenResult, indexedResult, countsWritten, usedCounts, leftGrown, appendedResult};
 
 #[no_mangle]
 pub extern "C" fn harness_check_table(
@@ -206,6 +211,101 @@ pub extern "C" fn harness_write_table(
         MeasureChoice::Measure(m) => {
             let x = writetable::write_table(m, n, heads, own, spans, tails, room);
             return x.result();
+        }
+    }
+}
+
+#[no_mangle]
+pub extern "C" fn harness_index_table(
+    n: u64,
+    heads: &[u64],
+    own: &[u64],
+    spans: &[u64],
+    tails: &[u64],
+    index: &mut [u64],
+    list: &mut [u64],
+) -> u64
+    ensures { λ r.
+        let c = columns n (now (heads .entry)) (now (own .entry)) (now (spans .entry)) (now (tails .entry)) in
+        let x = tableIndexed c (now (index .entry)) (now (list .entry)) in
+        ⌜ record { result = r; index = now (index .exit); list = now (list .exit) } ≡ indexedResult x ⌝ }
+{
+    let x = indextable::index_table(n, heads, own, spans, tails, index, list);
+    x.result()
+}
+
+// The new counts, in the room if two places are lent.
+fn write_counts(counts: Counts, room: &mut [u64])
+    ensures { λ r. ⌜ now (room .exit) ≡ countsWritten counts (now (room .entry)) ⌝ }
+{
+    if room.len() != 2 {
+        return;
+    }
+    room[0] = counts.edges;
+    room[1] = counts.listed;
+}
+
+#[no_mangle]
+pub extern "C" fn harness_append(
+    measure: u64,
+    n: u64,
+    heads: &mut [u64],
+    own: &mut [u64],
+    spans: &mut [u64],
+    tails: &mut [u64],
+    lines: u64,
+    listed: u64,
+    weights: &mut [u64],
+    depths: &mut [u64],
+    edges: &mut [u64],
+    index: &mut [u64],
+    list: &mut [u64],
+    head: u64,
+    figure: u64,
+    needed: &[u64],
+    counts: &mut [u64],
+) -> u64
+    ensures { λ r.
+        let c = columns n (now (heads .entry)) (now (own .entry)) (now (spans .entry)) (now (tails .entry)) in
+        let c′ = columns n (now (heads .exit)) (now (own .exit)) (now (spans .exit)) (now (tails .exit)) in
+        let a = answers (now (weights .entry)) (now (depths .entry)) (now (edges .entry)) in
+        let a′ = answers (now (weights .exit)) (now (depths .exit)) (now (edges .exit)) in
+        let k = usedCounts lines listed in
+        let l = newLine head figure (now (needed .entry)) in
+        let o = leftGrown r c′ a′ (now (index .exit)) (now (list .exit)) (now (counts .exit)) in
+        ⌜ o ≡ appendedResult (measureOf measure) c k a (now (index .entry)) (now (list .entry)) l (now (counts .entry)) ⌝ }
+{
+    let choice = refusal::measure_numbered(measure);
+    match choice {
+        MeasureChoice::Refused(r) => return r.result(),
+        MeasureChoice::Measure(m) => {
+            let a = append::append(
+                m,
+                n,
+                heads,
+                own,
+                spans,
+                tails,
+                Counts {
+                    edges: lines,
+                    listed,
+                },
+                weights,
+                depths,
+                edges,
+                index,
+                list,
+                Vertex(head),
+                Weight(figure),
+                needed,
+            );
+            match a {
+                Appending::Refused(r) => return r.result(),
+                Appending::Counts(k) => {
+                    write_counts(k, counts);
+                    return 0;
+                }
+            }
         }
     }
 }
