@@ -1,11 +1,9 @@
 /*
  * Indexing a table and appending a line by hand, without a proof: the index by counting, the library's
- * checks in its order, and the answers by plain C's best-first.
+ * checks in its order and once each, and the answers by plain C's best-first.
  */
-#include <string.h>
-
+#include "../plain.c"
 #include "growth.h"
-#include "../common.h"
 
 enum { NO_ROOM = 18, WRONG_INDEX = 19 };
 
@@ -92,7 +90,7 @@ static uint64_t new_line_refusal(const struct growth *g)
 }
 
 /* All but the answers; the columns are long enough for the counts. */
-static uint64_t check(const struct growth *g, uint64_t end)
+static uint64_t check_growth(const struct growth *g, uint64_t end)
 {
     uint64_t pairs[2 * TOZBIERDU_MOST_PARTS], list[TOZBIERDU_MOST_TAILS], total, result;
     struct view t = { g->n, g->lines, g->listed, g->heads, g->own, g->spans, g->tails };
@@ -115,12 +113,11 @@ static uint64_t check(const struct growth *g, uint64_t end)
 uint64_t plain_append(struct growth *g)
 {
     uint64_t end = g->lines == 0 ? 0 : g->spans[2 * g->lines - 2] + g->spans[2 * g->lines - 1], result;
-    struct view t;
+    struct view t = { g->n, g->lines, g->listed, g->heads, g->own, g->spans, g->tails };
 
-    if ((result = check(g, end)) != 0)
+    if ((result = check_growth(g, end)) != 0)
         return result;
-    result = plain.check_answers(g->measure, g->n, USED_COLUMNS(g), ANSWERS_OF(g));
-    if (result != 1)
+    if (!right(t, g->measure, g->figures, g->depths, g->chosen))
         return REFUSED(TOZBIERDU_REFUSED_ANSWERS, 0);
     g->heads[g->lines] = g->head;
     g->own[g->lines] = g->figure;
@@ -129,7 +126,9 @@ uint64_t plain_append(struct growth *g)
     memcpy(g->tails + end, g->needed, g->needed_count * sizeof *g->tails);
     g->lines++;
     g->listed = end + g->needed_count;
-    t = (struct view){ g->n, g->lines, g->listed, g->heads, g->own, g->spans, g->tails };
+    t.lines = g->lines;
+    t.listed = g->listed;
     build(&t, g->index, g->list);
-    return plain.settle(g->measure, g->n, USED_COLUMNS(g), ANSWERS_OF(g));
+    fill(t, g->measure, g->figures, g->depths, g->chosen);
+    return 0;
 }

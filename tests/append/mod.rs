@@ -58,7 +58,8 @@ fn from_nothing(trial: &Trial) -> Outcome {
         let measure = rng.pick(&MEASURES);
         let n = rng.between(1, 12);
         let mut growth = Growth::exact(measure, &Table::new(n), 0, 0, &[]);
-        growth.spare(40, 40, 80, 200, 3, 200, |place| place);
+        // Forty lines of 16 parts each at most.
+        growth.spare(40, 40, 80, 640, 3, 640, |place| place);
         for line in 1..=40 {
             let (head, figure, needed) = any_line(rng, n);
             growth = Growth { head, figure, needed, ..growth };

@@ -1,6 +1,6 @@
 -- What a bill is: theorems beside the contract. Where a part is accepted, its bill lists its chosen make-up: it is as long as that has nodes, each line stands in it
 -- as often as in the make-up, and its own figures come to the part's figure. The paper's "The calls": a bill's length is a count of the chosen make-up, and a line's
--- count is what demand 3 counts. Assumes nothing.
+-- count is what demand 3 counts. Assumes nothing: these are definitions.
 use mathlib.Core.Path.{_≡_}
 use mathlib.Core.List.{List, _++_}
 use Prim.Native.Nat.{ℕ}

@@ -1,5 +1,5 @@
 -- What a program in C can tell from the one number that a call gives it: below 2^32 it is an acceptance, and 0 or the bill's length; otherwise the quotient by 2^32 is the
--- refusal's number and the remainder its place. The paper's "The calls": "on a refusal the refusal's number times 4,294,967,296, plus the place". Assumes nothing.
+-- refusal's number and the remainder its place. The paper's "The calls": "on a refusal the refusal's number times 4,294,967,296, plus the place". Assumes nothing: these are definitions.
 use mathlib.Core.Path.{_≡_}
 use mathlib.Core.List.{List}
 use Prim.Native.Nat.{ℕ, _/_, _%_, _≤_, _<_}

@@ -1,4 +1,4 @@
--- How often a line stands in a bill, and what a bill costs: the sum over all lines of figure × count. These are plain numbers with no ceiling. Assumes nothing.
+-- How often a line stands in a bill, and what a bill costs: the sum over all lines of figure × count. These are plain numbers with no ceiling. Assumes nothing: these are definitions.
 use mathlib.Core.Path.{_≡_}
 use mathlib.Core.Logic.{_≢_}
 use mathlib.Core.List.{List, [], _∷_}

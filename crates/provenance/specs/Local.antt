@@ -1,5 +1,5 @@
 -- The local test of a labelling: one test for each vertex (its label is blank, or what its own hyperedge offers) and one for each hyperedge (its head's label does
--- not come after its offer). All pass exactly if the labelling is the fixpoint. This is how answers are checked without settling. Assumes nothing.
+-- not come after its offer). All pass exactly if the labelling is the fixpoint. This is how answers are checked without settling. Assumes nothing: these are definitions.
 use mathlib.Core.Bool.{Bool, true, false}
 use Prim.Native.Nat.{ℕ, zero, suc}
 use lib.Dec.{ltb, eqb}

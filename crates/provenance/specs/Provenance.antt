@@ -1,6 +1,6 @@
 -- Provenance: the figure of a part is Definition 5's provenance, the sum over derivations of the product over leaves, of the program that the table is, in the
 -- tropical semiring for cost and in the bottleneck semiring for days (document 000, Definitions 5 and 8, Theorems 13 and 14). In cost a provenance above the
--- ceiling becomes "over". A part is unmade exactly if the sum is empty. Assumes nothing.
+-- ceiling becomes "over". A part is unmade exactly if the sum is empty. Assumes nothing: these are definitions.
 use mathlib.Core.Path.{_≡_}
 use Prim.Native.Nat.{ℕ}
 use Rattle.semiring.specs.Datalog.{Provenance}

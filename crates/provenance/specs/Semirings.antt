@@ -1,5 +1,5 @@
 -- The semiring in which a measure computes: cost in the tropical semiring, up to the ceiling, and days in the bottleneck semiring. A measure's exact algebra is
--- the one without a ceiling. Assumes nothing.
+-- the one without a ceiling. Assumes nothing: these are definitions.
 use mathlib.Core.Path.{_≡_}
 use mathlib.Core.List.{List, map}
 use Prim.Native.Nat.{ℕ}

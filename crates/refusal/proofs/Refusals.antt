@@ -1,5 +1,5 @@
 -- What a refusal's number and place are, and the one number that a caller in C gets. The paper's table of refusals, and "The calls" for C.
--- Assumes nothing: these are definitions, and the law `exact` of one of them.
+-- These are their laws. Assumes nothing.
 use mathlib.Core.Path.{_≡_}
 use Prim.Native.Nat.{_+_, _*_, _≤_}
 use native.Mathlib.Omega.{arith}

@@ -1,4 +1,4 @@
--- What the functions below `report` ask of their caller, and the pieces in which a row and the line of a refusal are written. Assumes nothing.
+-- What the functions below `report` ask of their caller, and the pieces in which a row and the line of a refusal are written. Assumes nothing: these are definitions.
 use Prim.Native.Nat.{ℕ, _*_, _≤_}
 use mathlib.Core.List.{List}
 use lib.ListN.{length}

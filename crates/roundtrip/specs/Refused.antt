@@ -1,5 +1,5 @@
 -- A permitted text is read; what is not permitted is refused by 14, at the first text line that breaks a rule. The paper's "What is turned away", of what the
--- contract of `read_table` says. Assumes nothing.
+-- contract of `read_table` says. Assumes nothing: these are definitions.
 use Prim.Native.Nat.{ℕ}
 use mathlib.Core.List.{List}
 use Rattle.refusal.specs.declared.Refusal.the-variants.{Text}

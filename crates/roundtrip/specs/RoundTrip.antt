@@ -1,5 +1,5 @@
 -- "Read after write gives the table with its gaps closed; write after read gives the text back": the paper's "The text", of what the contracts of
--- `read_table` and `write_table` say. Assumes nothing.
+-- `read_table` and `write_table` say. Assumes nothing: these are definitions.
 use Prim.Native.Nat.{ℕ, _≤_}
 use mathlib.Core.List.{List}
 use lib.ListN.{length}

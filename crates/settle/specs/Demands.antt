@@ -1,4 +1,4 @@
--- What the answers of a table mean: demand 2, of what settling leaves, and the rule of the answer check. Assumes nothing.
+-- What the answers of a table mean: demand 2, of what settling leaves, and the rule of the answer check. Assumes nothing: these are definitions.
 use Prim.Native.Nat.{ℕ, _≤_}
 use Rattle.weights.specs.declared.Measure.{Measure}
 use Rattle.weights.specs.declared.Label.{Label}

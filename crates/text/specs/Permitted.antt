@@ -1,5 +1,5 @@
 -- A permitted text is read, and what is not permitted is refused at the first line that breaks a rule. The paper's "The text", and 14 of "What is turned
--- away". Assumes nothing.
+-- away". Assumes nothing: these are definitions.
 use Prim.Native.Nat.{ℕ, _<_}
 use mathlib.Core.List.{List}
 use Rattle.text.specs.Render.{Permitted}

@@ -1,5 +1,5 @@
 -- Which bytes begin a permitted text: those with which reading has not failed, and no others. So the first byte with which it fails is the first that can't
--- stand where it stands. Assumes nothing.
+-- stand where it stands. Assumes nothing: these are definitions.
 use Prim.Native.Nat.{ℕ}
 use mathlib.Core.List.{List, _++_}
 use Rattle.text.specs.Render.{Permitted}

@@ -1,5 +1,5 @@
 -- A table's columns and its hyperedges tell the same: columns without gaps give back the hyperedges that they are made of, a table is accepted exactly if
--- its hyperedges are within the limits, and closing the gaps changes neither. Assumes nothing.
+-- its hyperedges are within the limits, and closing the gaps changes neither. Assumes nothing: these are definitions.
 use Prim.Native.Nat.{ℕ, _≤_, _<_}
 use mathlib.Core.Path.{_≡_}
 use mathlib.Core.List.{List, [], _∷_}

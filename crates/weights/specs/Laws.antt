@@ -1,5 +1,5 @@
 -- The laws of a measure: its order is total; joining is monotone; within range it makes no weight better (document 000: superior), and it stays in range.
--- They are one record, and each measure is an instance of it: whatever stands on the record holds of every measure. Assumes nothing.
+-- They are one record, and each measure is an instance of it: whatever stands on the record holds of every measure. Assumes nothing: these are definitions.
 use mathlib.Core.Path.{_≡_}
 use mathlib.Core.Bool.{Bool, true, false}
 use Prim.Native.Nat.{ℕ}

@@ -1,5 +1,5 @@
 -- Room that is written from its start: the bytes so far, their number, and the laws of one byte more and of a piece more in the part that is lent on.
--- The paper's "Writing fills the text room from its start …; the room behind it keeps its bytes". Assumes nothing.
+-- The paper's "Writing fills the text room from its start …; the room behind it keeps its bytes". Assumes nothing: these are definitions.
 use Prim.Native.Nat.{ℕ, _-_, _≤_}
 use mathlib.Core.Path.{_≡_}
 use mathlib.Core.List.{List}
