@@ -93,7 +93,8 @@ module _ (m : Measure) (c : Columns) (k : Counts) (a : Answers) (index list : Li
         }
 
   -- by the result that was returned
-  told-accepted : (x : Acceptance) {k′ : Counts} → appendAcceptance m c k a index list l ≡ x → grown m c k a index list l x .result ≡ appending.Counts k′ → (appendAcceptance m c k a index list l ≡ Accepted) × (newCounts c k l ≡ k′)
+  told-accepted : (x : Acceptance) {k′ : Counts} → appendAcceptance m c k a index list l ≡ x
+      → grown m c k a index list l x .result ≡ appending.Counts k′ → (appendAcceptance m c k a index list l ≡ Accepted) × (newCounts c k l ≡ k′)
   told-accepted Accepted p e = (p, same-counts e)
   told-accepted (Refused r) p e = no-counts e
 
@@ -120,6 +121,7 @@ module _ (m : Measure) (c : Columns) (k : Counts) (a : Answers) (index list : Li
   unfolding appended
   appended-keeps r e = go (appendAcceptance m c k a index list l) e
     where
-      go : (x : Acceptance) → grown m c k a index list l x .result ≡ appending.Refused r → let o = grown m c k a index list l x in (o .table ≡ c) × ((o .answers ≡ a) × ((o .index ≡ index) × (o .list ≡ list)))
+      go : (x : Acceptance) → grown m c k a index list l x .result ≡ appending.Refused r → let o = grown m c k a index list l x in
+          (o .table ≡ c) × ((o .answers ≡ a) × ((o .index ≡ index) × (o .list ≡ list)))
       go Accepted e = no-counts (sym e)
       go (Refused s) e = (refl, (refl, (refl, refl)))

@@ -105,7 +105,8 @@ module _ (c : Columns) (k : Counts) (l : NewLine) where
   unfolding linesAcceptance
   lines-table r p q = rw (p, q)
 
-  pub lines-new : {a : Acceptance} → countsAcceptance c k (length (l .tail)) ≡ Accepted → acceptance (inUse c k) ≡ Accepted → a ≡ newLineAcceptance (c .vertices) (record { 0 = k .edges }) l → a ≡ linesAcceptance c k l
+  pub lines-new : {a : Acceptance} → countsAcceptance c k (length (l .tail)) ≡ Accepted → acceptance (inUse c k) ≡ Accepted
+      → a ≡ newLineAcceptance (c .vertices) (record { 0 = k .edges }) l → a ≡ linesAcceptance c k l
   unfolding linesAcceptance
   lines-new p q e = rw (p, q) e
 
@@ -181,14 +182,18 @@ module _ (m : Measure) (c : Columns) (k : Counts) (a : Answers) (index list : Li
   pub append-columns : (r : Refusal) → columnsAcceptance c k a l ≡ Refused r → Refused r ≡ appendAcceptance m c k a index list l
   append-columns r p = ap (λ (x : Acceptance). andThen x rest) (sym p) ∙ chain
 
-  pub append-held : columnsAcceptance c k a l ≡ Accepted → {r : Acceptance} → r ≡ andThen (heldAcceptance (c .vertices) (distinctIn (l .tail) (length (l .tail))) (indexOf (inUse c k)) index list) (answersAcceptance m (inUse c k) a) → r ≡ appendAcceptance m c k a index list l
+  pub append-held : columnsAcceptance c k a l ≡ Accepted → {r : Acceptance}
+      → r ≡ andThen (heldAcceptance (c .vertices) (distinctIn (l .tail) (length (l .tail))) (indexOf (inUse c k)) index list) (answersAcceptance m (inUse c k) a)
+      → r ≡ appendAcceptance m c k a index list l
   unfolding heldAcceptance
   append-held p e =
       let g = columns-passed c k l a p in
       let t = inUse c k in
       e
       ∙ held-then (indexRoom (c .vertices) (length (indexOf t .list) + distinctIn (l .tail) (length (l .tail))) index list) (isIndex t index list) WrongIndex (answersAcceptance m t a)
-      ∙ ap (λ (z : ℕ). andThen (indexRoom (c .vertices) z index list) (test (isIndex (inUse c k) index list) WrongIndex (answersAcceptance m (inUse c k) a))) (sym (longer-list (inUse c k) l (g .table) (g .line)))
+      ∙ ap
+          (λ (z : ℕ). andThen (indexRoom (c .vertices) z index list) (test (isIndex (inUse c k) index list) WrongIndex (answersAcceptance m (inUse c k) a)))
+          (sym (longer-list (inUse c k) l (g .table) (g .line)))
       ∙ ap (λ (x : Acceptance). andThen x rest) (sym p)
       ∙ chain
 

@@ -85,7 +85,9 @@ module _ (c : Columns) (a : Answers) (tail : List ℕ) (h : Holding c a tail) {m
       }
 
   -- its answer, in the table's own numbers
-  pub held-told : {x : Acceptance} (index list : List ℕ) → x ≡ heldAcceptance (c .vertices) more (indexBy (tailAt c) (pairsIn (c .spans)) (c .vertices)) index list → x ≡ heldAcceptance (c .vertices) (distinctIn tail (length tail)) (indexOf c) index list
+  pub held-told : {x : Acceptance} (index list : List ℕ)
+      → x ≡ heldAcceptance (c .vertices) more (indexBy (tailAt c) (pairsIn (c .spans)) (c .vertices)) index list
+      → x ≡ heldAcceptance (c .vertices) (distinctIn tail (length tail)) (indexOf c) index list
   held-told {x} index list q = subst₂ (λ (k m : ℕ). x ≡ heldAcceptance (c .vertices) k (indexBy (tailAt c) m (c .vertices)) index list) e spans-in q
 
   module _ (m : Measure) (index list : List ℕ) where

@@ -113,7 +113,9 @@ module _ (c : Columns) (k : Counts) (a : Answers) (l : NewLine) (g : Appendable 
     counts-are = λ i. record { edges = k .edges + 1; listed = e i + length (l .tail) }
 
     pub stored-at : {hs os ss ts : List ℕ}
-        → (hs ≡ set (c .heads) (k .edges) (l .head)) × ((os ≡ set (c .own) (k .edges) (l .own)) × ((ss ≡ set (set (c .spans) (2 * k .edges) end) (2 * k .edges + 1) (length (l .tail))) × (ts ≡ take end (c .tails) ++ filled (l .tail) (drop end (c .tails)))))
+        → (hs ≡ set (c .heads) (k .edges) (l .head))
+            × ((os ≡ set (c .own) (k .edges) (l .own))
+              × ((ss ≡ set (set (c .spans) (2 * k .edges) end) (2 * k .edges + 1) (length (l .tail))) × (ts ≡ take end (c .tails) ++ filled (l .tail) (drop end (c .tails)))))
         → columns (c .vertices) hs os ss ts ≡ over next c
     stored-at p =
         stored (p .0) (p .1 .0)
@@ -176,6 +178,7 @@ module _ (c : Columns) (k : Counts) (a : Answers) (l : NewLine) (g : Appendable 
         rw e (λ i. leaves (appending.Counts (q i)) (p i) (u′ i) (v′ i) (w′ i))
 
 -- a refusal leaves everything
-pub refused-grown : (m : Measure) (c : Columns) (k : Counts) (a : Answers) (index list : List ℕ) (l : NewLine) {r : Refusal} → appendAcceptance m c k a index list l ≡ answer.Refused r → leaves (appending.Refused r) c a index list ≡ appended m c k a index list l
+pub refused-grown : (m : Measure) (c : Columns) (k : Counts) (a : Answers) (index list : List ℕ) (l : NewLine) {r : Refusal}
+    → appendAcceptance m c k a index list l ≡ answer.Refused r → leaves (appending.Refused r) c a index list ≡ appended m c k a index list l
 unfolding appended
 refused-grown m c k a index list l p = rw p

@@ -29,7 +29,8 @@ use Rattle.append.specs.Appending.{leaves, appended}
 use Rattle.readtable.specs.Read.{ReadOutcome}
 use Rattle.writetable.specs.Write.{writeTable}
 use Rattle.counter.specs.Results.{changeResult}
-use Rattle.harness.specs.Results.{checkedResult, strickenResult, entryWritten, measureNumber, headerWritten, readResult, writeResult, writtenResult, indexedResult, countsWritten, leftGrown, appendedResult}
+use Rattle.harness.specs.Results.{checkedResult, strickenResult, entryWritten, measureNumber, headerWritten, readResult, writeResult,
+    writtenResult, indexedResult, countsWritten, leftGrown, appendedResult}
 
 module _ {o : MeasureChoice} (c : Columns) (a : Answers) {n : ℕ} where
   pub checked-refused : {r : Refusal} → o ≡ choice.Refused r → n ≡ resultOf (codeOf r) → n ≡ checkedResult o c a
@@ -94,7 +95,8 @@ module _ {o : MeasureChoice} (c : Columns) (room : List ℕ) {n : ℕ} where
   write-measure p q e = rw (p, q) (ap writeResult e)
 
 -- indexing
-pub indexed-number : {x : IndexOutcome} {e : Extent} {i l : List ℕ} {n : ℕ} → record { result = e; index = i; list = l } ≡ x → n ≡ extentResult e → record { result = n; index = i; list = l } ≡ indexedResult x
+pub indexed-number : {x : IndexOutcome} {e : Extent} {i l : List ℕ} {n : ℕ} → record { result = e; index = i; list = l } ≡ x → n ≡ extentResult e
+    → record { result = n; index = i; list = l } ≡ indexedResult x
 indexed-number p q = rw q (ap indexedResult p)
 
 -- the new counts

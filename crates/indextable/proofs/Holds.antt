@@ -31,7 +31,8 @@ module _ {spans tails pairs lines : List ℕ} {more : ℕ} (h : Held spans tails
   unfolding heldAcceptance indexRoom
   held-few l = rw (lt-leb (2 * pairsIn pairs) (length index) (omega (arith, h .indexable .even)))
 
-  module _ (fits : length pairs ≤ length index) {total : ℕ} {ps ls : List ℕ} (e : record { total = total; index = ps; list = ls } ≡ indexed (tailOf spans tails) (pairsIn spans) (pairsIn pairs) lines) where
+  module _ (fits : length pairs ≤ length index) {total : ℕ} {ps ls : List ℕ}
+      (e : record { total = total; index = ps; list = ls } ≡ indexed (tailOf spans tails) (pairsIn spans) (pairsIn pairs) lines) where
     made : Indexed (tailOf spans tails) (pairsIn spans) (pairsIn pairs) lines total ps ls
     made = parts-of e
 
@@ -78,12 +79,15 @@ module _ {spans tails pairs lines : List ℕ} {more : ℕ} (h : Held spans tails
       held-right q r = rw (roomy, sym same-pairs ∙ q, sym same-lists ∙ r)
 
 -- the start of a room tells the number of parts
-pub held-room : (tail : ℕ → List ℕ) (m n more : ℕ) (room : List ℕ) → 2 * n ≤ length room → (index list : List ℕ) {o : Acceptance} → o ≡ heldAcceptance (pairsIn (take (2 * n) room)) more (indexBy tail m (pairsIn (take (2 * n) room))) index list → o ≡ heldAcceptance n more (indexBy tail m n) index list
+pub held-room : (tail : ℕ → List ℕ) (m n more : ℕ) (room : List ℕ) → 2 * n ≤ length room → (index list : List ℕ) {o : Acceptance}
+    → o ≡ heldAcceptance (pairsIn (take (2 * n) room)) more (indexBy tail m (pairsIn (take (2 * n) room))) index list
+    → o ≡ heldAcceptance n more (indexBy tail m n) index list
 held-room tail m n more room h index list {o} e =
     subst (λ (k : ℕ). o ≡ heldAcceptance k more (indexBy tail m k) index list) (pairs-in (take (2 * n) room) n (length-take-le (2 * n) room h)) e
 
 -- what the check asks, of rooms that are long enough
-pub checkable-held : {n more : ℕ} {spans tails : List ℕ} → Checkable n spans tails more → (room lines : List ℕ) → 2 * n ≤ length room → 16384 ≤ length lines → Held spans tails more (take (2 * n) room) lines
+pub checkable-held : {n more : ℕ} {spans tails : List ℕ} → Checkable n spans tails more → (room lines : List ℕ) → 2 * n ≤ length room
+    → 16384 ≤ length lines → Held spans tails more (take (2 * n) room) lines
 checkable-held {n} {more} {spans} {tails} h room lines l k =
     let q = length-take-le (2 * n) room l in
     let p = pairs-in (take (2 * n) room) n q in

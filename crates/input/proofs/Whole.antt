@@ -24,7 +24,8 @@ pub full-refused : (input : List ℕ) (k : ℕ) → length input ≡ bufferLengt
 full-refused input k e = report-long input (omega arith)
 
 -- so a list is printed only of an input that was read to its end
-pub whole-reported : (input : List ℕ) (last : ℤ) → Ended (length input) last → (printed input last ≡ refusedLine (Text (record { 0 = 1 }))) ⊎ ((printed input last ≡ refusedLine InputLength) ⊎ ((last ≡ pos 0) × (printed input last ≡ report input)))
+pub whole-reported : (input : List ℕ) (last : ℤ) → Ended (length input) last
+    → (printed input last ≡ refusedLine (Text (record { 0 = 1 }))) ⊎ ((printed input last ≡ refusedLine InputLength) ⊎ ((last ≡ pos 0) × (printed input last ≡ report input)))
 whole-reported input (negsuc k) e = inl (failed-refused input k)
 whole-reported input (pos k) (inl z) = inr (inr (ap pos z, refl))
 whole-reported input (pos k) (inr f) = inr (inl (full-refused input k f))

@@ -105,7 +105,9 @@ module _ (m : Measure) (H : Hypergraph) (own w d : ℕ → ℕ) where
 
         down : keyOf (next′ (H .edges)) ≤ leastFrom q 0 keys
         down = least-greatest q 0 keys (keyOf (next′ (H .edges))) (next-at-most (H .edges) (omega arith))
-            (λ u l. omega (arith, from u l, with-greatest key (H .head) u (H .edges) (keyOf (next′ (H .edges))) (next-at-most (H .edges) (omega arith)) (λ e k p. next-lower (H .edges) e (omega arith) k)))
+            (λ u l. omega
+                (arith, from u l,
+                  with-greatest key (H .head) u (H .edges) (keyOf (next′ (H .edges))) (next-at-most (H .edges) (omega arith)) (λ e k p. next-lower (H .edges) e (omega arith) k)))
 
 -- Offering ------------------------------------------------------------------------------------------------------------------------------------------
 

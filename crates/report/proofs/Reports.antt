@@ -49,7 +49,9 @@ module _ (input : List ℕ) (g : Header) (e : readInput input .answer ≡ readin
   input-accepted = read-accepted input _ _ _ _ g e
 
   lent : lentAcceptance table (blank (g .vertices)) ≡ Accepted
-  lent = columns-accept table (blank (g .vertices)) input-accepted (record { weights = length-replicate (g .vertices) 0; depths = length-replicate (g .vertices) 0; edges = length-replicate (g .vertices) 0 })
+  lent =
+      columns-accept table (blank (g .vertices)) input-accepted
+        (record { weights = length-replicate (g .vertices) 0; depths = length-replicate (g .vertices) 0; edges = length-replicate (g .vertices) 0 })
 
   -- settling it is never refused
   pub read-settles : settled (g .measure) table (blank (g .vertices)) .result ≡ Accepted
@@ -98,7 +100,9 @@ listed-fits input = go (readInput input .answer) refl
         subst (λ (z : List ℕ). length z ≤ mostOutput) (sym q) (refused-most r p)
     go (reading.Table g) e =
         let a = input-accepted input g e in
-        let m = list-most (answersOf (g .measure) (columnsRead g (readInput input))) (answers-ranged (g .measure) (columnsRead g (readInput input)) a) (g .vertices) (table-accepted (columnsRead g (readInput input)) a .few) in
+        let m =
+            list-most (answersOf (g .measure) (columnsRead g (readInput input))) (answers-ranged (g .measure) (columnsRead g (readInput input)) a)
+              (g .vertices) (table-accepted (columnsRead g (readInput input)) a .few) in
         subst (λ (z : List ℕ). length z ≤ mostOutput) (sym (read-listed input g e)) m
 
 pub report-fits : (input : List ℕ) → length (report input) ≤ mostOutput
@@ -172,7 +176,8 @@ input-lent input g room short large e =
     let os = ap (λ (x : ReadOutcome). length (x .own)) (k .outcome) ∙ length-filled (ownsOf es) (replicate mostEdges 0) (omega arith) in
     let ss = ap (λ (x : ReadOutcome). length (x .spans)) (k .outcome) ∙ length-filled (spansFrom 0 es) (replicate (2 * mostEdges) 0) (omega arith) in
     let ts = ap (λ (x : ReadOutcome). length (x .tails)) (k .outcome) ∙ length-filled (tailsOf es) (replicate mostListed 0) (omega arith) in
-    let y : listed (readInput input) ≡ priced (g .vertices) (settled (g .measure) (columnsRead g (readInput input)) (blank (g .vertices))) = unfold listedAs in ap (λ (z : Reading). listedAs z (readInput input)) e in
+    let y : listed (readInput input) ≡ priced (g .vertices) (settled (g .measure) (columnsRead g (readInput input)) (blank (g .vertices))) = unfold listedAs in
+        ap (λ (z : Reading). listedAs z (readInput input)) e in
     let z = ap length (report-short input short ∙ y) in
     let w = report-fits input in
     record { few = omega arith; heads = omega arith; own = omega arith; spans = omega arith; tails = omega arith; fits = omega arith }

@@ -99,4 +99,5 @@ yes-settled m c a p =
     let q = sym (settled-result m c a) ∙ p in
     let t = columns-accepted c a q .table in
     let e = settled-left m c a q in
-    subst (λ (b : Answers). verdict (lentAcceptance c b) (sameAnswers b (answersOf m c)) ≡ verdict.Yes) (sym e) (rw (lent-accepted m c (answersOf m c) t (answers-sized m c t), same-refl (answersOf m c)))
+    subst (λ (b : Answers). verdict (lentAcceptance c b) (sameAnswers b (answersOf m c)) ≡ verdict.Yes) (sym e)
+        (rw (lent-accepted m c (answersOf m c) t (answers-sized m c t), same-refl (answersOf m c)))

@@ -26,7 +26,8 @@ unfolding gapped edgesFrom headsOf ownsOf spansFrom tailsOf
 gaps-closed = refl
 
 -- `parts 5 days`, LF, `0 -`, LF
-struck-days : parse (112 ∷ 97 ∷ 114 ∷ 116 ∷ 115 ∷ 32 ∷ 53 ∷ 32 ∷ 100 ∷ 97 ∷ 121 ∷ 115 ∷ 10 ∷ 48 ∷ 32 ∷ 45 ∷ 10 ∷ []) ≡ Whole (record { vertices = 5; measure = Days; edges = edge 0 1000000001 [] ∷ [] })
+struck-days : parse (112 ∷ 97 ∷ 114 ∷ 116 ∷ 115 ∷ 32 ∷ 53 ∷ 32 ∷ 100 ∷ 97 ∷ 121 ∷ 115 ∷ 10 ∷ 48 ∷ 32 ∷ 45 ∷ 10 ∷ []) ≡ Whole
+    (record { vertices = 5; measure = Days; edges = edge 0 1000000001 [] ∷ [] })
 unfolding word firstWord listedInAll limit lineAt digitOf grown instead after spell ended step run finish parse
 struck-days = refl
 

@@ -12,7 +12,8 @@ use borrow.Author.Tests.{ltb-true, eqb-true, eq-eqb, ne-eqb}
 use Rattle.weights.specs.Choice.{pick}
 use Rattle.text.specs.Tables.{edge, Table}
 use Rattle.text.specs.Render.{spoken, word}
-use Rattle.text.specs.Machine.{Place, Vertices, Head, Own, Listed, State, Spelling, First, Within, Failed, begun, nextLine, mayList, lineAt, digitOf, grown, instead, after, spell, ended, step, run, Whole, Wrong, finish, begin, parse}
+use Rattle.text.specs.Machine.{Place, Vertices, Head, Own, Listed, State, Spelling, First, Within, Failed, begun, nextLine, mayList, lineAt,
+    digitOf, grown, instead, after, spell, ended, step, run, Whole, Wrong, finish, begin, parse}
 use Rattle.text.proofs.Digits.{pick-by}
 use Rattle.text.proofs.Sound.{LastOf, Spells, Reached, begin-reached, word-spells, step-reached, never}
 use Rattle.text.specs.Places.{firstLines}
@@ -174,5 +175,6 @@ first-unread s k e =
     subst (FirstUnread s) (sym q) (record {
       counted = omega arith;
       wrong = λ t p. never (sym (B .wrong .1) ∙ p);
-      right = λ j l m. let i : j ≡ suc (j - 1) = omega arith in subst (λ (x : ℕ). (t : Table) × (parse (firstLines s x) ≡ Whole t)) (sym i) (B .right (j - 1) (omega arith) .0, ap finish (B .right (j - 1) (omega arith) .1));
+      right = λ j l m. let i : j ≡ suc (j - 1) = omega arith in
+          subst (λ (x : ℕ). (t : Table) × (parse (firstLines s x) ≡ Whole t)) (sym i) (B .right (j - 1) (omega arith) .0, ap finish (B .right (j - 1) (omega arith) .1));
     })

@@ -42,7 +42,8 @@ fill-last tail m n e index list old f = record {
 }
 
 -- a list that was laid twice, the second time with all that it held
-pub laid-twice : {offset : ℕ → ℕ} {us us′ : ℕ → List ℕ} {n : ℕ} {list list′ old : List ℕ} → ((v : ℕ) → length (us v) ≤ length (us′ v)) → Laid offset us n list old → Laid offset us′ n list′ list → Laid offset us′ n list′ old
+pub laid-twice : {offset : ℕ → ℕ} {us us′ : ℕ → List ℕ} {n : ℕ} {list list′ old : List ℕ} → ((v : ℕ) → length (us v) ≤ length (us′ v))
+    → Laid offset us n list old → Laid offset us′ n list′ list → Laid offset us′ n list′ old
 laid-twice g a b = record {
   level = b .level ∙ a .level;
   holds = b .holds;
@@ -140,7 +141,8 @@ module _ (tail : ℕ → List ℕ) (m n e : ℕ) (numbered : e < m) (vs : List �
         (λ z. let g = ltb-false v w z in let x = offset-end tail m w v (omega arith) in omega arith)
         (true-or-false (ltb v w))
 
-    own : (j : ℕ) → j < length (usesBy tail e (seenIn (vs ++ w ∷ [])) w) → getD (set list (useOffset tail m w + length (usesBelow tail w e)) e) (useOffset tail m w + j) 0 ≡ getD (usesBy tail e (seenIn (vs ++ w ∷ [])) w) j 0
+    own : (j : ℕ) → j < length (usesBy tail e (seenIn (vs ++ w ∷ [])) w)
+        → getD (set list (useOffset tail m w + length (usesBelow tail w e)) e) (useOffset tail m w + j) 0 ≡ getD (usesBy tail e (seenIn (vs ++ w ∷ [])) w) j 0
     own j l =
         let k = length (usesBelow tail w e) in
         let b : j < suc k = let a = now-length in omega arith in
@@ -157,7 +159,8 @@ module _ (tail : ℕ → List ℕ) (m n e : ℕ) (numbered : e < m) (vs : List �
         ∙ sym (ap (λ (x : List ℕ). getD x j 0) now-is ∙ List·getD-append (usesBelow tail w e) (e ∷ []) 0 j z))
         (last-or-below b)
 
-    other : (v j : ℕ) → (v ≡ w → ⊥) → v < n → j < length (usesBy tail e (seenIn (vs ++ w ∷ [])) v) → getD (set list (useOffset tail m w + length (usesBelow tail w e)) e) (useOffset tail m v + j) 0 ≡ getD (usesBy tail e (seenIn (vs ++ w ∷ [])) v) j 0
+    other : (v j : ℕ) → (v ≡ w → ⊥) → v < n → j < length (usesBy tail e (seenIn (vs ++ w ∷ [])) v)
+        → getD (set list (useOffset tail m w + length (usesBelow tail w e)) e) (useOffset tail m v + j) 0 ≡ getD (usesBy tail e (seenIn (vs ++ w ∷ [])) v) j 0
     other v j d b l =
         let i : j < length (usesBy tail e (seenIn vs) v) = let y = ap length (other-is v d) in omega arith in
         getD-set-other list (useOffset tail m w + length (usesBelow tail w e)) (useOffset tail m v + j) e 0 (apart-from v j d i)
@@ -168,7 +171,10 @@ module _ (tail : ℕ → List ℕ) (m n e : ℕ) (numbered : e < m) (vs : List �
     laid-new = record {
       level = length-set list (useOffset tail m w + length (usesBelow tail w e)) e ∙ f .laid .level;
       holds = λ v j b l. ⊎-elim
-          (λ q. subst (λ (x : ℕ). j < length (usesBy tail e (seenIn (vs ++ w ∷ [])) x) → getD (set list (useOffset tail m w + length (usesBelow tail w e)) e) (useOffset tail m x + j) 0 ≡ getD (usesBy tail e (seenIn (vs ++ w ∷ [])) x) j 0) (sym q) (own j) l)
+          (λ q. subst
+              (λ (x : ℕ). j < length (usesBy tail e (seenIn (vs ++ w ∷ [])) x)
+                → getD (set list (useOffset tail m w + length (usesBelow tail w e)) e) (useOffset tail m x + j) 0 ≡ getD (usesBy tail e (seenIn (vs ++ w ∷ [])) x) j 0)
+              (sym q) (own j) l)
           (λ d. other v j d b l)
           (same-or-not v w);
       keeps = λ p none.
@@ -195,16 +201,21 @@ unfolding usesBelow
 fill-none tail m n index list p = record { lengths = p; laid = record { level = refl; holds = λ v j b l. absurd (omega arith); keeps = λ p none. refl } }
 
 -- what is asked of the columns, as they are now
-pub filling : {n i : ℕ} {spans tails index list old : List ℕ} → Readable n spans tails → i < pairsIn spans → pairsIn index ≡ n → length (useList (tailOf spans tails) (pairsIn spans) n) ≤ length old → FilledTo (tailOf spans tails) (pairsIn spans) n i index list old → Filling i spans tails index list
+pub filling : {n i : ℕ} {spans tails index list old : List ℕ} → Readable n spans tails → i < pairsIn spans → pairsIn index ≡ n
+    → length (useList (tailOf spans tails) (pairsIn spans) n) ≤ length old → FilledTo (tailOf spans tails) (pairsIn spans) n i index list old
+    → Filling i spans tails index list
 filling {i = i} {spans} {tails} {index} {list} {old} r h q room f = record {
   readable = subst (λ (z : ℕ). Readable z spans tails) (sym q) r;
   numbered = h;
   room = subst (λ (z : ℕ). length (useList (tailOf spans tails) (pairsIn spans) z) ≤ length list) (sym q) (let l = f .laid .level in omega arith);
-  so-far = subst (λ (z : ℕ). FilledTo (tailOf spans tails) (pairsIn spans) z i index list list) (sym q) (record { lengths = f .lengths; laid = record { level = refl; holds = f .laid .holds; keeps = λ p none. refl } });
+  so-far =
+      subst (λ (z : ℕ). FilledTo (tailOf spans tails) (pairsIn spans) z i index list list) (sym q)
+        (record { lengths = f .lengths; laid = record { level = refl; holds = f .laid .holds; keeps = λ p none. refl } });
 }
 
 -- one hyperedge more
-pub fill-more : (tail : ℕ → List ℕ) (m n n′ e : ℕ) {index list index′ list′ old : List ℕ} → n′ ≡ n → FilledTo tail m n e index list old → FilledTo tail m n′ (e + 1) index′ list′ list → FilledTo tail m n (e + 1) index′ list′ old
+pub fill-more : (tail : ℕ → List ℕ) (m n n′ e : ℕ) {index list index′ list′ old : List ℕ} → n′ ≡ n → FilledTo tail m n e index list old
+    → FilledTo tail m n′ (e + 1) index′ list′ list → FilledTo tail m n (e + 1) index′ list′ old
 fill-more tail m n n′ e {list = list} {index′} {list′} q f g =
     let g′ = subst (λ (z : ℕ). FilledTo tail m z (e + 1) index′ list′ list) q g in
     record { lengths = g′ .lengths; laid = laid-twice (λ v. rw (add-one e) (uses-grow tail v e)) (f .laid) (g′ .laid) }

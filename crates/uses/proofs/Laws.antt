@@ -20,7 +20,8 @@ pub record Indexed (tail : ℕ → List ℕ) (m n : ℕ) (old : List ℕ) (total
   pub index-is : index ≡ usePairs tail m n
   pub list-is : list ≡ filled (useList tail m n) old
 
-pub parts-of : {tail : ℕ → List ℕ} {m n : ℕ} {old : List ℕ} {total : ℕ} {index list : List ℕ} → record { total = total; index = index; list = list } ≡ indexed tail m n old → Indexed tail m n old total index list
+pub parts-of : {tail : ℕ → List ℕ} {m n : ℕ} {old : List ℕ} {total : ℕ} {index list : List ℕ}
+    → record { total = total; index = index; list = list } ≡ indexed tail m n old → Indexed tail m n old total index list
 unfolding indexed
 parts-of e = record { total-is = ap (λ (x : Index). x .total) e; index-is = ap (λ (x : Index). x .index) e; list-is = ap (λ (x : Index). x .list) e }
 

@@ -90,7 +90,8 @@ module _ (tail : ℕ → List ℕ) (v : ℕ) where
       (last-or-below h)
 
   -- they ascend
-  ascending-more : (k i j : ℕ) → (j < length (usesBelow tail v k) → getD (usesBelow tail v k) i 0 < getD (usesBelow tail v k) j 0) → i < j → j < length (usesBelow tail v (suc k)) → getD (usesBelow tail v (suc k)) i 0 < getD (usesBelow tail v (suc k)) j 0
+  ascending-more : (k i j : ℕ) → (j < length (usesBelow tail v k) → getD (usesBelow tail v k) i 0 < getD (usesBelow tail v k) j 0) → i < j
+      → j < length (usesBelow tail v (suc k)) → getD (usesBelow tail v (suc k)) i 0 < getD (usesBelow tail v (suc k)) j 0
   ascending-more k i j f h l = ⊎-elim listing passing (true-or-false (member v (tail k)))
     where
       listing : member v (tail k) ≡ true → getD (usesBelow tail v (suc k)) i 0 < getD (usesBelow tail v (suc k)) j 0

@@ -28,7 +28,8 @@ parity : (i : ℕ) → ((v : ℕ) × (i ≡ 2 * v)) ⊎ ((v : ℕ) × (i ≡ 2 *
 parity zero = inl (0, refl)
 parity (suc i) = ⊎-elim (λ p. inr (p .0, omega (arith, p .1))) (λ p. inl (suc (p .0), omega (arith, p .1))) (parity i)
 
-pub pairs-ext : (n : ℕ) (xs ys : List ℕ) → length xs ≡ 2 * n → length ys ≡ 2 * n → ((v : ℕ) → v < n → getD xs (2 * v) 0 ≡ getD ys (2 * v) 0) → ((v : ℕ) → v < n → getD xs (2 * v + 1) 0 ≡ getD ys (2 * v + 1) 0) → xs ≡ ys
+pub pairs-ext : (n : ℕ) (xs ys : List ℕ) → length xs ≡ 2 * n → length ys ≡ 2 * n → ((v : ℕ) → v < n → getD xs (2 * v) 0 ≡ getD ys (2 * v) 0)
+    → ((v : ℕ) → v < n → getD xs (2 * v + 1) 0 ≡ getD ys (2 * v + 1) 0) → xs ≡ ys
 pairs-ext n xs ys p q f g =
     ext-getD 0 xs ys (p ∙ sym q)
     (λ i h. ⊎-elim
@@ -67,7 +68,9 @@ pairs-same f g f′ g′ n p q =
 
 -- a column is the pairs that it holds
 pub pairs-of : (n : ℕ) (xs : List ℕ) → length xs ≡ 2 * n → xs ≡ pairs (λ v. getD xs (2 * v) 0) (λ v. getD xs (2 * v + 1) 0) n
-pairs-of n xs p = pairs-ext n xs _ p (length-pairs _ _ n) (λ v h. sym (pairs-first (λ v. getD xs (2 * v) 0) (λ v. getD xs (2 * v + 1) 0) n v h)) (λ v h. sym (pairs-second (λ v. getD xs (2 * v) 0) (λ v. getD xs (2 * v + 1) 0) n v h))
+pairs-of n xs p =
+    pairs-ext n xs _ p (length-pairs _ _ n) (λ v h. sym (pairs-first (λ v. getD xs (2 * v) 0) (λ v. getD xs (2 * v + 1) 0) n v h))
+      (λ v h. sym (pairs-second (λ v. getD xs (2 * v) 0) (λ v. getD xs (2 * v + 1) 0) n v h))
 
 -- the pair of w is stored anew, or its second place alone
 module _ (f g : ℕ → ℕ) (n w : ℕ) (h : w < n) (f′ g′ : ℕ → ℕ) (other : (v : ℕ) → (v ≡ w → ⊥) → g v ≡ g′ v) where
@@ -92,5 +95,7 @@ module _ (f g : ℕ → ℕ) (n w : ℕ) (h : w < n) (f′ g′ : ℕ → ℕ) (
       (same-or-not v w))
       (λ v k. ⊎-elim
       (λ e. rw e (getD-set-same (set (pairs f g n) (2 * w) a) (2 * w + 1) b 0 (omega arith) ∙ p ∙ sym (pairs-second f′ g′ n w h)))
-      (λ d. getD-set-other (set (pairs f g n) (2 * w) a) (2 * w + 1) (2 * v + 1) b 0 (λ e. d (omega arith)) ∙ getD-set-other (pairs f g n) (2 * w) (2 * v + 1) a 0 (λ e. omega arith) ∙ pairs-second f g n v k ∙ other v d ∙ sym (pairs-second f′ g′ n v k))
+      (λ d. getD-set-other (set (pairs f g n) (2 * w) a) (2 * w + 1) (2 * v + 1) b 0 (λ e. d (omega arith))
+          ∙ getD-set-other (pairs f g n) (2 * w) (2 * v + 1) a 0 (λ e. omega arith) ∙ pairs-second f g n v k ∙ other v d
+          ∙ sym (pairs-second f′ g′ n v k))
       (same-or-not v w))

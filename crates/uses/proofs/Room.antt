@@ -61,7 +61,8 @@ list-none tail zero = refl
 list-none tail (suc n) = offset-next tail 0 n ∙ (let h = list-none tail n in omega arith)
 
 -- the uses of the hyperedges so far are no more than the places up to the end of the last span
-list-spans : (c : Columns) (n left e end : ℕ) → edgesAcceptance c left e end ≡ Accepted → length (useList (tailAt c) e n) ≤ end → end ≤ length (c .tails) → length (useList (tailAt c) (e + left) n) ≤ length (c .tails)
+list-spans : (c : Columns) (n left e end : ℕ) → edgesAcceptance c left e end ≡ Accepted → length (useList (tailAt c) e n) ≤ end
+    → end ≤ length (c .tails) → length (useList (tailAt c) (e + left) n) ≤ length (c .tails)
 unfolding edgesAcceptance
 list-spans c n zero e end p h l = let q : e + 0 ≡ e = omega arith in rw q (omega arith)
 list-spans c n (suc left) e end p h l =

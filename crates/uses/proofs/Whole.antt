@@ -56,6 +56,7 @@ module _ {spans tails index list : List ℕ} (a : Indexable spans tails index li
       pub all-listed : list₃ ≡ filled (useList (tailOf spans tails) (pairsIn spans) (pairsIn index)) list
       all-listed = filled-all (tailOf spans tails) (pairsIn spans) (pairsIn index) (to-all .laid) (a .room)
 
-      pub all-indexed : {total : ℕ} → total ≡ length (useList (tailOf spans tails) (pairsIn spans) (pairsIn index)) → record { total = total; index = ix₃; list = list₃ } ≡ indexed (tailOf spans tails) (pairsIn spans) (pairsIn index) list
+      pub all-indexed : {total : ℕ} → total ≡ length (useList (tailOf spans tails) (pairsIn spans) (pairsIn index))
+          → record { total = total; index = ix₃; list = list₃ } ≡ indexed (tailOf spans tails) (pairsIn spans) (pairsIn index) list
       unfolding indexed
       all-indexed t = λ i. record { total = t i; index = all-pairs i; list = all-listed i }

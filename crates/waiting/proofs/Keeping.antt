@@ -80,7 +80,8 @@ unit-none Cost = refl
 unit-none Days = refl
 
 -- a vertex that is made is passed
-pub carried-more : (m : Measure) (w d : ℕ → ℕ) (tail : List ℕ) (i j g : ℕ) → Carried (algebra m) w d tail i j g → i < length tail → d (cell tail i) ≢ 0 → d (cell tail i) ≤ 1024 → w (cell tail i) < heavy
+pub carried-more : (m : Measure) (w d : ℕ → ℕ) (tail : List ℕ) (i j g : ℕ) → Carried (algebra m) w d tail i j g → i < length tail
+    → d (cell tail i) ≢ 0 → d (cell tail i) ≤ 1024 → w (cell tail i) < heavy
     → Carried (algebra m) w d tail (i + 1) (plain m j (w (cell tail i))) (max g (d (cell tail i)))
 carried-more m w d tail i j g k h n b l = record {
   inside = omega arith;
@@ -99,7 +100,8 @@ carried-more m w d tail i j g k h n b l = record {
 -- Lists ------------------------------------------------------------------------------------------------------------------------------------------------
 
 -- a list stays, where its hyperedges keep their next ones and what holds of them
-pub chain-on : {P Q : ℕ → Type 0} {next next′ : List ℕ} {f : ℕ} {es : List ℕ} → ((x : ℕ) → List·Memᴰ x es → P x → Q x) → ((x : ℕ) → List·Memᴰ x es → cell next′ x ≡ cell next x) → Chain P next f es → Chain Q next′ f es
+pub chain-on : {P Q : ℕ → Type 0} {next next′ : List ℕ} {f : ℕ} {es : List ℕ} → ((x : ℕ) → List·Memᴰ x es → P x → Q x)
+    → ((x : ℕ) → List·Memᴰ x es → cell next′ x ≡ cell next x) → Chain P next f es → Chain Q next′ f es
 chain-on {f = f} g k (ended p) = ended p
 chain-on {Q = Q} {next′ = next′} {f = f} g k (linked {es = es} p n r) =
     linked (g f (List·Memᴰ·head refl) p) n (subst (λ (x : ℕ). Chain Q next′ x es) (sym (k f (List·Memᴰ·head refl))) (chain-on (λ x i. g x (List·Memᴰ·tail i)) (λ x i. k x (List·Memᴰ·tail i)) r))
@@ -135,7 +137,8 @@ module _ (A : Algebra) (c : Columns) (w d : ℕ → ℕ) (s : Lines) (u e i j g 
       }
 
   -- e itself waits for u, if there is room for it
-  pub waiter-same : Sizes (length (c .heads)) s → e < places (length (c .heads)) → e < length (c .heads) → isStruck (ownAt c e) ≡ false → i < length (tailAt c e) → cell (tailAt c e) i ≡ u → Carried A w d (tailAt c e) i j g → Waiter A c w d after u e
+  pub waiter-same : Sizes (length (c .heads)) s → e < places (length (c .heads)) → e < length (c .heads) → isStruck (ownAt c e) ≡ false
+      → i < length (tailAt c e) → cell (tailAt c e) i ≡ u → Carried A w d (tailAt c e) i j g → Waiter A c w d after u e
   waiter-same z m h n b y k =
       let p = getD-set-same (s .at) e i 0 (omega (arith, z .at)) in
       let q = getD-set-same (s .joined) e j 0 (omega (arith, z .joined)) in
@@ -149,7 +152,8 @@ module _ (A : Algebra) (c : Columns) (w d : ℕ → ℕ) (s : Lines) (u e i j g 
 
   module _ (z : Sizes (length (c .heads)) s) (m : e < places (length (c .heads))) (o : u < 1024) where
     -- e comes first in the list of u
-    pub chain-first : {es : List ℕ} → Waiter A c w d after u e → ¬ List·Memᴰ e es → Chain (Waiter A c w d s u) (s .next) (cell (s .first) u) es → Chain (Waiter A c w d after u) (after .next) (cell (after .first) u) (e ∷ es)
+    pub chain-first : {es : List ℕ} → Waiter A c w d after u e → ¬ List·Memᴰ e es → Chain (Waiter A c w d s u) (s .next) (cell (s .first) u) es
+        → Chain (Waiter A c w d after u) (after .next) (cell (after .first) u) (e ∷ es)
     chain-first {es} x n k =
         let p = getD-set-same (s .first) u e 0 (omega (arith, z .first)) in
         let q = getD-set-same (s .next) e (cell (s .first) u) 0 (omega (arith, z .next)) in
@@ -160,7 +164,9 @@ module _ (A : Algebra) (c : Columns) (w d : ℕ → ℕ) (s : Lines) (u e i j g 
     abbrev put-first : (ℕ → List ℕ) → ℕ → List ℕ
     put-first lists v = pick (eqb v u) (e ∷ lists v) (lists v)
 
-    pub chains : (lists : ℕ → List ℕ) (v : ℕ) → Waiter A c w d after u e → ¬ List·Memᴰ e (lists v) → Chain (Waiter A c w d s v) (s .next) (cell (s .first) v) (lists v) → Chain (Waiter A c w d after v) (after .next) (cell (after .first) v) (put-first lists v)
+    pub chains : (lists : ℕ → List ℕ) (v : ℕ) → Waiter A c w d after u e → ¬ List·Memᴰ e (lists v)
+        → Chain (Waiter A c w d s v) (s .next) (cell (s .first) v) (lists v)
+        → Chain (Waiter A c w d after v) (after .next) (cell (after .first) v) (put-first lists v)
     chains lists v x n k = go (eqb v u) refl
       where
         go : (t : Bool) → eqb v u ≡ t → Chain (Waiter A c w d after v) (after .next) (cell (after .first) v) (pick t (e ∷ lists v) (lists v))
@@ -203,7 +209,8 @@ fitting-bound : {o : Offer} → Fitting o → keyOf o ≤ none
 fitting-bound nothing = omega arith
 fitting-bound (found {l = l} f) = omega (arith, below-none l f)
 
-module _ (A : Algebra) (c : Columns) (w d : ℕ → ℕ) (heads : (e : ℕ) → e < length (c .heads) → headAt c e < keys) (fits : (e : ℕ) → e < length (c .heads) → Fitting (opening A (hypergraph c) (cell (c .own)) w d e)) where
+module _ (A : Algebra) (c : Columns) (w d : ℕ → ℕ) (heads : (e : ℕ) → e < length (c .heads) → headAt c e < keys)
+    (fits : (e : ℕ) → e < length (c .heads) → Fitting (opening A (hypergraph c) (cell (c .own)) w d e)) where
   abbrev pub key : ℕ → ℕ
   key = keyOn A c w d
 
@@ -214,7 +221,8 @@ module _ (A : Algebra) (c : Columns) (w d : ℕ → ℕ) (heads : (e : ℕ) → 
   source-bound q u (inl p) = omega arith
   source-bound q u (inr x) = omega (arith, x .1 .1 .1, fitting-bound (fits (x .0) (x .1 .0)))
 
-  module _ {s : Lines} {q : List ℕ} {busy : ℕ → Type 0} (W : Waiting A c w d s q busy) (e : ℕ) (h : e < length (c .heads)) {q′ : List ℕ} (p : q′ ≡ offered q (headAt c e) (opening A (hypergraph c) (cell (c .own)) w d e)) where
+  module _ {s : Lines} {q : List ℕ} {busy : ℕ → Type 0} (W : Waiting A c w d s q busy) (e : ℕ) (h : e < length (c .heads)) {q′ : List ℕ}
+      (p : q′ ≡ offered q (headAt c e) (opening A (hypergraph c) (cell (c .own)) w d e)) where
     at-key : (u : ℕ) → u < keys → cell q′ u ≡ min (cell q u) (pick (eqb (headAt c e) u) (key e) none)
     at-key u l = ap (λ (z : List ℕ). cell z u) p ∙ offered-key q (headAt c e) u (heads e h) l (fits e h) (W .grouped) (source-bound q u (W .offers u l))
 
@@ -242,7 +250,10 @@ module _ (A : Algebra) (c : Columns) (w d : ℕ → ℕ) (heads : (e : ℕ) → 
     module _ {busy′ : ℕ → Type 0} (others : (x : ℕ) → busy x → (x ≡ e) ⊎ busy′ x) (fewer : (x : ℕ) → busy′ x → busy x) where
       -- e stays out of the lists
       pub went-stays : (d (headAt c e) ≡ 0 → noneZero d (tailAt c e) ≡ true) → Waiting A c w d s q′ busy′
-      went-stays r = record { lists = W .lists; chained = W .chained; covered = λ x a b z. go x a z (W .covered x a b z); apart = λ v x l z i b. W .apart v x l z i (fewer x b); grouped = grouped-still; offers = sources }
+      went-stays r =
+          record { lists =
+            W .lists; chained =
+              W .chained; covered = λ x a b z. go x a z (W .covered x a b z); apart = λ v x l z i b. W .apart v x l z i (fewer x b); grouped = grouped-still; offers = sources }
         where
           now-there : (x : ℕ) → d (headAt c x) ≡ 0 → (x ≡ e) ⊎ busy′ x → Placed A c w d (W .lists) q′ busy′ x
           now-there x z (inr b) = kept b

@@ -53,7 +53,9 @@ module _ (A : Algebra) (c : Columns) (w d : ℕ → ℕ) {s : Lines} where
   shut : {v e : ℕ} → d v ≡ 0 → Waiter A c w d s v e → keyOn A c w d e ≡ none
   shut {v} {e} z k = ap keyOf (open-unmade A (hypergraph c) (cell (c .own)) w d (cell (tailAt c e) (cell (s .at) e)) e (ap d (k .here) ∙ z) (member-at (tailAt c e) (cell (s .at) e) (k .before)))
 
-  module _ (heads : (e : ℕ) → e < length (c .heads) → headAt c e < keys) (fits : (e : ℕ) → e < length (c .heads) → Fitting (opening A (hypergraph c) (cell (c .own)) w d e)) {q : List ℕ} (W : Waiting A c w d s q (λ e. ⊥)) where
+  module _ (heads : (e : ℕ) → e < length (c .heads) → headAt c e < keys)
+      (fits : (e : ℕ) → e < length (c .heads) → Fitting (opening A (hypergraph c) (cell (c .own)) w d e)) {q : List ℕ}
+      (W : Waiting A c w d s q (λ e. ⊥)) where
     abbrev key : ℕ → ℕ
     key = keyOn A c w d
 

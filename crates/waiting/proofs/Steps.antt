@@ -143,7 +143,8 @@ module _ (A : Algebra) (c : Columns) (w d : ℕ → ℕ) (e : ℕ) where
   went-out s i j g p l x = record { moved = stays refl (λ _. all-made (p .passed) l); heard = x }
 
 -- there is room for a hyperedge that waits
-pub pushable : {m : Measure} {c : Columns} {ws ds q : List ℕ} {s : Lines} {e a b k : ℕ} → Offerable c ws ds q → Going m c ws ds s e a b k → (v i j g : ℕ) → Gone (algebra m) (cell ws) (cell ds) (tailAt c e) i j g → i < length (tailAt c e) → cell (tailAt c e) i ≡ v → Pushable s v e i g
+pub pushable : {m : Measure} {c : Columns} {ws ds q : List ℕ} {s : Lines} {e a b k : ℕ} → Offerable c ws ds q → Going m c ws ds s e a b k
+    → (v i j g : ℕ) → Gone (algebra m) (cell ws) (cell ds) (tailAt c e) i j g → i < length (tailAt c e) → cell (tailAt c e) i ≡ v → Pushable s v e i g
 pushable {e = e} r y v i j g p l x = record {
   sizes = y .sizes;
   vertex = omega (arith, few r e (y .numbered), tail-below r e (y .numbered) i l);

@@ -15,13 +15,19 @@ use Rattle.waiting.proofs.Keeping.{chain-other, pushed-sizes, went-stay
 use Rattle.waiting.proofs.Steps.{few, edge-few, edge-room, head-key, tail-below, edge-fits}
 use Rattle.waiting.proofs.Short.{chain-short, steps, chain-steps}
 
-placed-on : {A : Algebra} {c : Columns} {w d : ℕ → ℕ} {lists : ℕ → List ℕ} {q : List ℕ} {busy busy′ : ℕ → Type 0} {e : ℕ} → (busy e → busy′ e) → Placed A c w d lists q busy e → Placed A c w d lists q busy′ e
+placed-on : {A : Algebra} {c : Columns} {w d : ℕ → ℕ} {lists : ℕ → List ℕ} {q : List ℕ} {busy busy′ : ℕ → Type 0} {e : ℕ} → (busy e → busy′ e)
+    → Placed A c w d lists q busy e → Placed A c w d lists q busy′ e
 placed-on f (kept b) = kept (f b)
 placed-on f (waits v l z i) = waits v l z i
 placed-on f (heard r b) = heard r b
 
-pub waiting-on : {A : Algebra} {c : Columns} {w d : ℕ → ℕ} {s : Lines} {q : List ℕ} {busy busy′ : ℕ → Type 0} → ((e : ℕ) → e < length (c .heads) → isStruck (ownAt c e) ≡ false → busy e → busy′ e) → ((e : ℕ) → busy′ e → busy e) → Waiting A c w d s q busy → Waiting A c w d s q busy′
-waiting-on f g W = record { lists = W .lists; chained = W .chained; covered = λ e h u z. placed-on (f e h u) (W .covered e h u z); apart = λ v e h z i b. W .apart v e h z i (g e b); grouped = W .grouped; offers = W .offers }
+pub waiting-on : {A : Algebra} {c : Columns} {w d : ℕ → ℕ} {s : Lines} {q : List ℕ} {busy busy′ : ℕ → Type 0}
+    → ((e : ℕ) → e < length (c .heads) → isStruck (ownAt c e) ≡ false → busy e → busy′ e) → ((e : ℕ) → busy′ e → busy e) → Waiting A c w d s q busy
+    → Waiting A c w d s q busy′
+waiting-on f g W =
+    record { lists =
+      W .lists; chained =
+        W .chained; covered = λ e h u z. placed-on (f e h u) (W .covered e h u z); apart = λ v e h z i b. W .apart v e h z i (g e b); grouped = W .grouped; offers = W .offers }
 
 module _ {m : Measure} {c : Columns} {ws ds : List ℕ} {s : Lines} {q : List ℕ} {v l : ℕ} (o : Offerable c ws ds q) (x : Waking m c ws ds s q v l) where
   abbrev W : Lines → List ℕ → List ℕ → Type 0
@@ -81,7 +87,9 @@ module _ {m : Measure} {c : Columns} {ws ds : List ℕ} {s : Lines} {q : List �
             let r′ = chain-other (algebra m) c (cell ws) (cell ds) s (cell (tailAt c l) i) l i j g v (cell (s .next) l) k r in
             subst (λ (a : Lines). Walked a q′) (sym u) (record {
               on = record {
-                sizes = pushed-sizes (algebra m) c (cell ws) (cell ds) s (cell (tailAt c l) i) l i j g (x .sizes) (edge-room o l (p .numbered)) (omega (arith, few o l (p .numbered), tail-below o l (p .numbered) i b));
+                sizes =
+                    pushed-sizes (algebra m) c (cell ws) (cell ds) s (cell (tailAt c l) i) l i j g (x .sizes) (edge-room o l (p .numbered))
+                      (omega (arith, few o l (p .numbered), tail-below o l (p .numbered) i b));
                 made = x .made;
                 left = es;
                 chain = r′;

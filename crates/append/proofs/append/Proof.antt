@@ -51,7 +51,10 @@ add-t51 : tie.Need-add-t51
 add-t51 c = omega (arith, ready (c .before .before .before .before .before .before .before .before .before .before .before .before .before .before .before) .appendable .counted .spanned .edges)
 
 add-t54 : tie.Need-add-t54
-add-t54 c = omega (arith, ready (c .before .before .before .before .before .before .before .before .before .before .before .before .before .before .before) .appendable .counted .spanned .listed, c .before .before .before .before .before .before .before .before .before .before .before .before .before .end-of .ensures)
+add-t54 c =
+    let p = c .before .before .before .before .before .before .before .before .before .before .before .before .before in
+    let q = p .before .before in
+    omega (arith, ready (q) .appendable .counted .spanned .listed, p .end-of .ensures)
 
 renew-requires : tie.Need-renew-requires
 renew-requires c κs =

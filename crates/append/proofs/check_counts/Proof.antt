@@ -49,7 +49,8 @@ last c =
     let a = c .before .before .before .before .before .before .before .before .before .before .before .args in
     test (leb (endIn (a .spans .now) (a .in-use .edges) + a .size) mostListed) Lengths Accepted
 
-tested : (c : tie.Else7) → let a = c .before .before .before .before .before .before .before .before .before .before .before .args in last c ≡ countsAcceptance (columns (a .n) (a .heads .now) (a .own .now) (a .spans .now) (a .tails .now)) (a .in-use) (a .size)
+tested : (c : tie.Else7) → let a = c .before .before .before .before .before .before .before .before .before .before .before .args in
+    last c ≡ countsAcceptance (columns (a .n) (a .heads .now) (a .own .now) (a .spans .now) (a .tails .now)) (a .in-use) (a .size)
 unfolding countsAcceptance
 tested c = search tests
 

@@ -10,7 +10,10 @@ use Rattle.bestfirst.proofs.Turning.{here, stuck, found, placeable, sto
 -- what the least key tells is what is next
 is-next : (c : tie.After-unpack)
     → Found (c .unpack .result) ≡ here (c .before .before .before .before .before .before .before .before .before .before .before .before .before .before .before .before .before .pre)
-is-next c = found (c .before .before .before .before .before .before .before .before .before .before .before .before .before .before .before .before .before .pre) _ (c .before .before .least .ensures) (c .before .if1 .left) (c .unpack .ensures)
+is-next c =
+    found
+      (c .before .before .before .before .before .before .before .before .before .before .before .before .before .before .before .before .before .pre)
+      _ (c .before .before .least .ensures) (c .before .if1 .left) (c .unpack .ensures)
 
 returns : tie.Need-returns
 returns c =
@@ -18,7 +21,10 @@ returns c =
     (stuck (p .pre) _ (c .before .least .ensures) (c .if1 .taken), p .pre .waits)
 
 store-requires : tie.Need-store-requires
-store-requires c κs = placeable (c .before .before .before .before .before .before .before .before .before .before .before .before .before .before .before .before .before .before .before .before .pre) (is-next (c .before .before .before))
+store-requires c κs =
+    placeable
+      (c .before .before .before .before .before .before .before .before .before .before .before .before .before .before .before .before .before .before .before .before .pre)
+      (is-next (c .before .before .before))
 
 raise-requires : tie.Need-raise-requires
 raise-requires c κs =

@@ -47,7 +47,8 @@ tail-shared-slice-read-v : (t : ℕ) → tail-lts.Need-shared-slice-read-v (vert
 tail-shared-slice-read-v t c = pos-of-ne-zero (c .before .if1 .left)
 
 tail-vertex-spend-requires : (t : ℕ) → tail-lts.Need-vertex-spend-requires (vertex-below t, vertex.Post, tail-below t, tail.Post) (tail-at t) tail.Post
-tail-vertex-spend-requires t c κs = (omega (arith, c .before .before .before .before .before .before .pre .0), each-first _ _ (c .before .if1 .left) (c .before .before .before .before .before .before .pre .1))
+tail-vertex-spend-requires t c κs =
+    (omega (arith, c .before .before .before .before .before .before .pre .0), each-first _ _ (c .before .if1 .left) (c .before .before .before .before .before .before .pre .1))
 
 tail-enum-known-b : (t : ℕ) → tail-lts.Need-enum-known-b (vertex-below t, vertex.Post, tail-below t, tail.Post) (tail-at t) tail.Post
 tail-enum-known-b t c = search needs
@@ -74,7 +75,9 @@ tail-tail-spend-requires t c κs =
     (omega (arith, s .pre .0, rest-shorter (s .args .tail .now) n), each-rest _ _ n (s .pre .1))
 
 tail-returns-3 : (t : ℕ) → tail-lts.Need-returns-3 (vertex-below t, vertex.Post, tail-below t, tail.Post) (tail-at t) tail.Post
-tail-returns-3 t c = first-paid _ _ _ (c .before .before .before .before .before .before .before .if1 .left) (sym (c .before .before .before .before .before .vertex-spend .ensures) ∙ c .before .before .before .b .given .1) (c .tail-spend .ensures)
+tail-returns-3 t c =
+    first-paid _ _ _ (c .before .before .before .before .before .before .before .if1 .left)
+      (sym (c .before .before .before .before .before .vertex-spend .ensures) ∙ c .before .before .before .b .given .1) (c .tail-spend .ensures)
 
 vertex-returns : (t : ℕ) → vertex-lts.Need-returns (tail-of.Asked, tail-of.Learnt, tail-below t, tail.Post) (vertex-at t) vertex.Post
 vertex-returns t c = root-unpaid _ (grounded _ _ _ _ _ (c .before .before .before .before .pre .1) .lines) (c .if1 .taken)
@@ -98,13 +101,16 @@ vertex-tail-spend-requires : (t : ℕ) → vertex-lts.Need-tail-spend-requires (
 vertex-tail-spend-requires t c κs =
     let s = c .before .before .before .before .before .before in
     let g = grounded _ _ _ _ _ (s .pre .1) in
-    (omega (arith, s .pre .0, g .deep, g .short, ap length (c .tail-of .ensures)), subst (AllGrounded (s .args .spans .now) (s .args .tails .now) (s .args .edges .now) (s .args .depth - 1)) (sym (c .tail-of .ensures)) (g .below))
+    (omega (arith, s .pre .0, g .deep, g .short, ap length (c .tail-of .ensures)),
+        subst (AllGrounded (s .args .spans .now) (s .args .tails .now) (s .args .edges .now) (s .args .depth - 1)) (sym (c .tail-of .ensures)) (g .below))
 
 vertex-returns-2 : (t : ℕ) → vertex-lts.Need-returns-2 (tail-of.Asked, tail-of.Learnt, tail-below t, tail.Post) (vertex-at t) vertex.Post
 vertex-returns-2 t c =
     let a = c .before .before .before .before .before .before .before .args in
     let g = grounded _ _ _ _ _ (c .before .before .before .before .before .before .before .pre .1) in
-    root-paid _ (g .lines) (c .before .before .before .if1 .left) (c .tail-spend .ensures ∙ ap (λ (vs : List ℕ). spend (a .budget - 1) (length (tailBill (a .spans .now) (a .tails .now) (a .edges .now) (a .depth - 1) vs))) (c .before .tail-of .ensures))
+    root-paid _ (g .lines) (c .before .before .before .if1 .left)
+        (c .tail-spend .ensures
+          ∙ ap (λ (vs : List ℕ). spend (a .budget - 1) (length (tailBill (a .spans .now) (a .tails .now) (a .edges .now) (a .depth - 1) vs))) (c .before .tail-of .ensures))
 
 pub +tail-spend+vertex-spend-spec : {M : Type 1} → statement M
 +tail-spend+vertex-spend-spec =

@@ -23,25 +23,43 @@ returns-2 : tie.Need-returns-2 Inv-loop μ-loop
 returns-2 c = let a = c .before .before .before .before .before .args in number-none (a .text .now) (a .at) (a .limit) _ (omega arith) (c .before .digit .ensures) (c .if2 .taken)
 
 returns-3 : tie.Need-returns-3 Inv-loop μ-loop
-returns-3 c = let a = c .before .before .before .before .before .before .args in number-over (a .text .now) (a .at) (a .limit) _ (omega arith) (c .before .before .digit .ensures) (omega arith) (c .if3 .taken)
+returns-3 c = let a = c .before .before .before .before .before .before .args in
+    number-over (a .text .now) (a .at) (a .limit) _ (omega arith) (c .before .before .digit .ensures) (omega arith) (c .if3 .taken)
 
 loop-holds : tie.Need-loop-holds Inv-loop μ-loop
-loop-holds c = let a = c .before .before .before .before .before .before .args in (omega arith, omega arith, omega arith, number-first (a .text .now) (a .at) (a .limit) _ (omega arith) (c .before .before .digit .ensures) (omega arith) (omega arith))
+loop-holds c = let a = c .before .before .before .before .before .before .args in
+    (omega arith, omega arith, omega arith, number-first (a .text .now) (a .at) (a .limit) _ (omega arith) (c .before .before .digit .ensures) (omega arith) (omega arith))
 
 returns-4 : tie.Need-returns-4 Inv-loop μ-loop
-returns-4 c = let q = c .before in let a = q .before .before .before .before .before .before .before .before .before .before .args in let l = q .before .before .before .loop in digits-stop (a .text .now) (l .i) (a .limit) (q .digit2 .result) (omega arith) (q .digit2 .ensures) (l .v) (c .if4 .taken) ∙ l .inv .3
+returns-4 c = let q = c .before in
+    let a = q .before .before .before .before .before .before .before .before .before .before .args in
+    let l = q .before .before .before .loop in
+    digits-stop (a .text .now) (l .i) (a .limit) (q .digit2 .result) (omega arith) (q .digit2 .ensures) (l .v) (c .if4 .taken) ∙ l .inv .3
 
 returns-5 : tie.Need-returns-5 Inv-loop μ-loop
-returns-5 c = let q = c .before .before in let a = q .before .before .before .before .before .before .before .before .before .before .args in let l = q .before .before .before .loop in digits-zero (a .text .now) (l .i) (a .limit) (q .digit2 .result) (omega arith) (q .digit2 .ensures) (l .v) (omega arith) (c .if5 .taken) ∙ l .inv .3
+returns-5 c = let q = c .before .before in
+    let a = q .before .before .before .before .before .before .before .before .before .before .args in
+    let l = q .before .before .before .loop in
+    digits-zero (a .text .now) (l .i) (a .limit) (q .digit2 .result) (omega arith) (q .digit2 .ensures) (l .v) (omega arith) (c .if5 .taken) ∙ l .inv .3
 
 returns-6 : tie.Need-returns-6 Inv-loop μ-loop
-returns-6 c = let q = c .before .before .before in let a = q .before .before .before .before .before .before .before .before .before .before .args in let l = q .before .before .before .loop in digits-over (a .text .now) (l .i) (a .limit) (q .digit2 .result) (omega arith) (q .digit2 .ensures) (l .v) (omega arith) (omega arith) (omega arith) ∙ l .inv .3
+returns-6 c = let q = c .before .before .before in
+    let a = q .before .before .before .before .before .before .before .before .before .before .args in
+    let l = q .before .before .before .loop in
+    digits-over (a .text .now) (l .i) (a .limit) (q .digit2 .result) (omega arith) (q .digit2 .ensures) (l .v) (omega arith) (omega arith) (omega arith) ∙ l .inv .3
 
 returns-7 : tie.Need-returns-7 Inv-loop μ-loop
-returns-7 c = let q = c .before .before .before .before in let a = q .before .before .before .before .before .before .before .before .before .before .args in let l = q .before .before .before .loop in digits-over (a .text .now) (l .i) (a .limit) (q .digit2 .result) (omega arith) (q .digit2 .ensures) (l .v) (omega arith) (omega arith) (omega arith) ∙ l .inv .3
+returns-7 c = let q = c .before .before .before .before in
+    let a = q .before .before .before .before .before .before .before .before .before .before .args in
+    let l = q .before .before .before .loop in
+    digits-over (a .text .now) (l .i) (a .limit) (q .digit2 .result) (omega arith) (q .digit2 .ensures) (l .v) (omega arith) (omega arith) (omega arith) ∙ l .inv .3
 
 loop-again : tie.Need-loop-again Inv-loop μ-loop
-loop-again c = (omega arith, omega arith, omega arith, let q = c .before .before .before .before in let a = q .before .before .before .before .before .before .before .before .before .before .args in let l = q .before .before .before .loop in digits-next (a .text .now) (l .i) (a .limit) (q .digit2 .result) (omega arith) (q .digit2 .ensures) (l .v) (omega arith) (omega arith) (omega arith) ∙ l .inv .3)
+loop-again c =
+    (omega arith, omega arith, omega arith, let q = c .before .before .before .before in
+      let a = q .before .before .before .before .before .before .before .before .before .before .args in
+      let l = q .before .before .before .loop in
+      digits-next (a .text .now) (l .i) (a .limit) (q .digit2 .result) (omega arith) (q .digit2 .ensures) (l .v) (omega arith) (omega arith) (omega arith) ∙ l .inv .3)
 
 returns-8 : tie.Need-returns-8 Inv-loop μ-loop
 returns-8 c = digits-end _ _ _ _ (c .loop-test .left) ∙ c .before .loop .inv .3

@@ -22,7 +22,8 @@ returns c =
     let m = c .before .before .before .before in
     let s = m .before .before .before .before .before .before .before .before .before .before .before .before in
     let a = s .args in
-    append-measure (tableOf s) (usedCounts (a .lines) (a .listed)) (came s) (a .index .now) (a .list .now) (lineOf s) (a .counts .now) (sym (m .measure-numbered .ensures) ∙ c .before .before .choice .given .1) (c .result .ensures)
+    append-measure (tableOf s) (usedCounts (a .lines) (a .listed)) (came s) (a .index .now) (a .list .now) (lineOf s) (a .counts .now)
+        (sym (m .measure-numbered .ensures) ∙ c .before .before .choice .given .1) (c .result .ensures)
 
 returns-2 : tie.Need-returns-2
 returns-2 c =
@@ -32,17 +33,21 @@ returns-2 c =
     let s = m .before .before .before .before .before .before .before .before .before .before .before .before in
     let a = s .args in
     let measured = sym (m .measure-numbered .ensures) ∙ q .choice2 .given .1 in
-    append-refused (tableOf s) (usedCounts (a .lines) (a .listed)) (came s) (a .index .now) (a .list .now) (lineOf s) (a .counts .now) measured (p .append .ensures) (c .before .before .a .given .1) (c .result2 .ensures)
+    append-refused (tableOf s) (usedCounts (a .lines) (a .listed)) (came s) (a .index .now) (a .list .now) (lineOf s) (a .counts .now) measured
+        (p .append .ensures) (c .before .before .a .given .1) (c .result2 .ensures)
 
 returns-3 : tie.Need-returns-3
 returns-3 c =
-    let p = c .before .before .before .before .before .before .before .before .before .before .before .before .before .before .before .before .before .before .before .before .before .before .before .before .before in
+    let p = c .before .before .before .before .before in
+    let q = p .before .before .before .before .before .before .before .before .before .before .before .before .before .before .before .before .before .before .before .before in
+    let p = q in
     let q = p .before .before .before .before .before .before .before .before .before .before .before in
     let m = q .before .before in
     let s = m .before .before .before .before .before .before .before .before .before .before .before .before in
     let a = s .args in
     let measured = sym (m .measure-numbered .ensures) ∙ q .choice2 .given .1 in
-    append-counts (tableOf s) (usedCounts (a .lines) (a .listed)) (came s) (a .index .now) (a .list .now) (lineOf s) (a .counts .now) measured (p .append .ensures) (c .before .before .before .before .before .a2 .given .1) (c .before .before .write-counts .ensures)
+    append-counts (tableOf s) (usedCounts (a .lines) (a .listed)) (came s) (a .index .now) (a .list .now) (lineOf s) (a .counts .now) measured
+        (p .append .ensures) (p .a2 .given .1) (c .before .before .write-counts .ensures)
 
 measure-numbered-requires : tie.Need-measure-numbered-requires
 measure-numbered-requires c κs = search needs

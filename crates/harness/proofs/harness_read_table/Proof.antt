@@ -4,7 +4,9 @@ use Rattle.harness.proofs.harness_read_table.Statement.{statement}
 use Rattle.harness.proofs.harness_read_table.Tie as tie
 
 returns : tie.Need-returns
-returns c = read-refused _ (c .before .before .before .before .before .before .before .before .before .before .before .before .read-table .ensures) (c .before .before .reading .given .1) (c .result .ensures)
+returns c =
+    read-refused _ (c .before .before .before .before .before .before .before .before .before .before .before .before .read-table .ensures)
+      (c .before .before .reading .given .1) (c .result .ensures)
 
 returns-2 : tie.Need-returns-2
 returns-2 c =

@@ -36,7 +36,8 @@ put-requires c κs =
     let l = c .before .before .before .before .before .before in
     let f = l .before .before .before in
     let o = listed f in
-    pairs-fit (entry o .pre) (entry o .args .index .now) (entry o .args .list .now) (o .before .before .if1 .left) (omega (arith, f .if2 .left, o .offsets .ensures .0)) (o .offsets .ensures .1) (l .fill .ensures)
+    pairs-fit (entry o .pre) (entry o .args .index .now) (entry o .args .list .now) (o .before .before .if1 .left)
+        (omega (arith, f .if2 .left, o .offsets .ensures .0)) (o .offsets .ensures .1) (l .fill .ensures)
 
 returns-3 : tie.Need-returns-3
 returns-3 c =
@@ -44,7 +45,8 @@ returns-3 c =
     let l = p .before .before .before .before .before .before .before in
     let f = l .before .before .before in
     let o = listed f in
-    all-laid (entry o .pre) (entry o .args .index .now) (entry o .args .list .now) (o .before .before .if1 .left) (omega (arith, f .if2 .left, o .offsets .ensures .0)) (o .offsets .ensures .1) (l .fill .ensures) (o .offsets .ensures .0) (p .put .ensures)
+    all-laid (entry o .pre) (entry o .args .index .now) (entry o .args .list .now) (o .before .before .if1 .left)
+        (omega (arith, f .if2 .left, o .offsets .ensures .0)) (o .offsets .ensures .1) (l .fill .ensures) (o .offsets .ensures .0) (p .put .ensures)
 
 pub index-with-spec : {M : Type 1} → statement M
 index-with-spec =

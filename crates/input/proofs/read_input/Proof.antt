@@ -86,10 +86,14 @@ returns c =
     ((w, sym (length-take-le _ _ w)), stopped (toZ w64 (ofZ w64 (r .read .result))) (length part) (l .at) h (sym (c .before .count .ensures .1) ∙ c .if1 .taken))
 
 add-at : tie.Need-add-at Inv-loop μ-loop
-add-at c = let w = more-within (c .before) in let r = c .before .before .before .before .before .before in let e = long r in let i = r .before .before .before .loop .inv .1 in omega (arith, r .before .before .before .before .before .good)
+add-at c = let w = more-within (c .before) in
+    let r = c .before .before .before .before .before .before in
+    let e = long r in let i = r .before .before .before .loop .inv .1 in omega (arith, r .before .before .before .before .before .good)
 
 loop-less : tie.Need-loop-less Inv-loop μ-loop
-loop-less c = let w = more-within (c .before) in let r = c .before .before .before .before .before .before in let e = long r in let i = r .before .before .before .loop .inv .1 in let n = c .if1 .left in omega arith
+loop-less c = let w = more-within (c .before) in
+    let r = c .before .before .before .before .before .before in
+    let e = long r in let i = r .before .before .before .loop .inv .1 in let n = c .if1 .left in omega arith
 
 loop-again : tie.Need-loop-again Inv-loop μ-loop
 loop-again c = let r = c .before .before .before .before .before .before in (more-within (c .before), long r ∙ r .before .before .before .loop .inv .1)

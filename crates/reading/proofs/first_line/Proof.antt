@@ -57,7 +57,8 @@ returns-3 : tie.Need-returns-3
 returns-3 c =
     let t = c .before in
     let k = t .before .before in
-    ap (λ (m : Measure). first.Read (k .before .found .given .0 .0) m (behind k + 1)) (c .default-measure .ensures) ∙ count-silent _ _ _ _ (counted k) (ended t) ∙ opened (k .before .before .before .before)
+    ap (λ (m : Measure). first.Read (k .before .found .given .0 .0) m (behind k + 1)) (c .default-measure .ensures)
+        ∙ count-silent _ _ _ _ (counted k) (ended t) ∙ opened (k .before .before .before .before)
 
 sub-starts-with : tie.Need-sub-starts-with
 sub-starts-with c = number-counts _ _ _ _ _ (counted (c .before .before)) .2
@@ -82,10 +83,13 @@ returns-4 c =
     let t = c .before in
     let e = t .before .before .before .before in
     let k = e .before .before in
-    ap (λ (m : Measure). first.Read (k .before .found .given .0 .0) m (behind k + 6)) (c .named-measure .ensures) ∙ count-named _ _ _ _ (counted k) (unended e) (sym (named (t .before)) ∙ t .if3 .taken) ∙ opened (k .before .before .before .before)
+    ap (λ (m : Measure). first.Read (k .before .found .given .0 .0) m (behind k + 6)) (c .named-measure .ensures)
+        ∙ count-named _ _ _ _ (counted k) (unended e) (sym (named (t .before)) ∙ t .if3 .taken) ∙ opened (k .before .before .before .before)
 
 returns-5 : tie.Need-returns-5
-returns-5 c = let e = c .before .before .before .before in let k = e .before .before in count-unnamed _ _ _ _ (counted k) (unended e) (sym (named (c .before)) ∙ c .if3 .left) ∙ opened (k .before .before .before .before)
+returns-5 c = let e = c .before .before .before .before in
+    let k = e .before .before in
+    count-unnamed _ _ _ _ (counted k) (unended e) (sym (named (c .before)) ∙ c .if3 .left) ∙ opened (k .before .before .before .before)
 
 pub first-line-spec : {M : Type 1} → statement M
 first-line-spec =

@@ -23,7 +23,9 @@ returns-2 : tie.Need-returns-2
 returns-2 c = let t = c .before .before .before .before in line-listed _ _ _ _ _ _ _ _ _ tail.Wrong (stemmed (t .before .before)) (rw (c .enum-told2 .given .1) at (t .tail-at .ensures))
 
 returns-3 : tie.Need-returns-3
-returns-3 c = let t = c .before .before .before .before .before in line-listed _ _ _ _ _ _ _ _ _ (tail.Ends (c .before .tail .given .0 .0) (c .before .tail .given .0 .1 .0)) (stemmed (t .before .before)) (rw (c .before .tail .given .1) at (t .tail-at .ensures))
+returns-3 c = let t = c .before .before .before .before .before in
+    line-listed _ _ _ _ _ _ _ _ _ (tail.Ends (c .before .tail .given .0 .0) (c .before .tail .given .0 .1 .0)) (stemmed (t .before .before))
+      (rw (c .before .tail .given .1) at (t .tail-at .ensures))
 
 pub line-at-spec : {M : Type 1} → statement M
 line-at-spec =

@@ -39,7 +39,8 @@ returns-3 c = let e = c .before .before .before in ap (onOwn _) (sym (c .enum-to
 
 returns-4 : tie.Need-returns-4
 unfolding stemAt
-returns-4 c = let e = c .before .before .before .before in ap (onOwn _) (sym (c .before .weight .given .1) ∙ c .before .before .before .weight-at .ensures) ∙ stem-own _ _ _ _ (headed (e .before .before)) (spaced e)
+returns-4 c = let e = c .before .before .before .before in
+    ap (onOwn _) (sym (c .before .weight .given .1) ∙ c .before .before .before .weight-at .ensures) ∙ stem-own _ _ _ _ (headed (e .before .before)) (spaced e)
 
 pub stem-at-spec : {M : Type 1} → statement M
 stem-at-spec =

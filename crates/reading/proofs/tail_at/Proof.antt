@@ -81,7 +81,8 @@ returns-4 : tie.Need-returns-4 Inv-loop μ-loop
 returns-4 c = let e = c .before .before in list-broken _ _ _ _ _ _ _ _ (e .before .before .loop .inv) (unspaced e) (λ q. c .if4 .taken (c .before .byte-at2 .ensures ∙ q))
 
 add-behind : tie.Need-add-behind Inv-loop μ-loop
-add-behind c = let l = c .before .before .before .before in omega (arith, byte-within (l .before .before .before .args .text .now) (l .loop .next) 10 (sym (c .before .byte-at2 .ensures) ∙ c .if4 .left) (omega arith))
+add-behind c = let l = c .before .before .before .before in
+    omega (arith, byte-within (l .before .before .before .args .text .now) (l .loop .next) 10 (sym (c .before .byte-at2 .ensures) ∙ c .if4 .left) (omega arith))
 
 same-length-5 : tie.Need-same-length-5 Inv-loop μ-loop
 same-length-5 c = c .before .before .before .before .loop .inv .long

@@ -32,7 +32,9 @@ part-put-rows-start c = let r = sub-put-rows c in search (needs, r)
 
 put-rows-requires : tie.Need-put-rows-requires
 unfolding list names
-put-rows-requires c κs = let k = c .before in let s = k .before .before .before .before .before .before .before .before .before in lent-room names _ _ _ (k .before .before .put-bytes .ensures) (back s) (whole s)
+put-rows-requires c κs = let k = c .before in
+    let s = k .before .before .before .before .before .before .before .before .before in
+    lent-room names _ _ _ (k .before .before .put-bytes .ensures) (back s) (whole s)
 
 returns : tie.Need-returns
 unfolding list names

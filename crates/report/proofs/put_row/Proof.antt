@@ -33,7 +33,9 @@ part-put-tail-start : tie.Need-part-put-tail-start
 part-put-tail-start c = let r = sub-put-tail c in search (needs, r)
 
 put-tail-requires : tie.Need-put-tail-requires
-put-tail-requires c κs = let k = c .before .before in let s = k .before .before .before .before .before .before .before in lent-room (front s) _ _ _ (k .before .before .put-stem .ensures) (back s) (whole s)
+put-tail-requires c κs = let k = c .before .before in
+    let s = k .before .before .before .before .before .before .before in
+    lent-room (front s) _ _ _ (k .before .before .put-stem .ensures) (back s) (whole s)
 
 returns : tie.Need-returns
 returns c =

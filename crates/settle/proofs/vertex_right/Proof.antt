@@ -26,7 +26,10 @@ unfolding vertexRight
 returns-4 c = rw (ne-eqb _ _ (c .before .before .before .before .if1 .left), lt-ltb _ _ (c .before .before .before .if3 .left), ne-eqb _ _ (c .if4 .taken))
 
 offer-requires : tie.Need-offer-requires
-offer-requires c κs = edge-in (c .before .before .before .before .before .before .before .before .before .before .before .before .before .before .before .pre .0 .usable) _ (c .before .before .before .if3 .left)
+offer-requires c κs =
+    edge-in
+      (c .before .before .before .before .before .before .before .before .before .before .before .before .before .before .before .pre .0 .usable) _
+      (c .before .before .before .if3 .left)
 
 returns-5 : tie.Need-returns-5
 unfolding vertexRight

@@ -11,7 +11,8 @@ use Rattle.waiting.proofs.Steps.{edge-few}
 use Rattle.waiting.proofs.Starts.{nothing-waits, all-started}
 
 abbrev Inv-loop : tie.InvT-loop
-Inv-loop measure heads own spans tails weights depths first₀ next₀ at₀ joined₀ deepest₀ queue₀ i₀ first next at joined deepest queue i = (i ≤ length heads) × Starting measure (lent heads own spans tails depths) weights depths (lines first next at joined deepest) queue i
+Inv-loop measure heads own spans tails weights depths first₀ next₀ at₀ joined₀ deepest₀ queue₀ i₀ first next at joined deepest queue i =
+    (i ≤ length heads) × Starting measure (lent heads own spans tails depths) weights depths (lines first next at joined deepest) queue i
 
 abbrev μ-loop : tie.MeasureT-loop
 μ-loop measure heads own spans tails weights depths first₀ next₀ at₀ joined₀ deepest₀ queue₀ i₀ first next at joined deepest queue i = length heads - i
@@ -52,13 +53,16 @@ same-length-3 : tie.Need-same-length-3 Inv-loop μ-loop
 same-length-3 c = c .before .loop .inv .1 .sizes .at ∙ sym (c .before .before .before .before .before .before .before .before .before .before .before .before .before .before .pre .1 .sizes .at)
 
 same-length-4 : tie.Need-same-length-4 Inv-loop μ-loop
-same-length-4 c = c .before .loop .inv .1 .sizes .joined ∙ sym (c .before .before .before .before .before .before .before .before .before .before .before .before .before .before .pre .1 .sizes .joined)
+same-length-4 c =
+    c .before .loop .inv .1 .sizes .joined ∙ sym (c .before .before .before .before .before .before .before .before .before .before .before .before .before .before .pre .1 .sizes .joined)
 
 same-length-5 : tie.Need-same-length-5 Inv-loop μ-loop
-same-length-5 c = c .before .loop .inv .1 .sizes .deepest ∙ sym (c .before .before .before .before .before .before .before .before .before .before .before .before .before .before .pre .1 .sizes .deepest)
+same-length-5 c =
+    c .before .loop .inv .1 .sizes .deepest ∙ sym (c .before .before .before .before .before .before .before .before .before .before .before .before .before .before .pre .1 .sizes .deepest)
 
 same-length-6 : tie.Need-same-length-6 Inv-loop μ-loop
-same-length-6 c = c .before .loop .inv .1 .waiting .grouped .sized ∙ sym (c .before .before .before .before .before .before .before .before .before .before .before .before .before .before .pre .0 .sized)
+same-length-6 c =
+    c .before .loop .inv .1 .waiting .grouped .sized ∙ sym (c .before .before .before .before .before .before .before .before .before .before .before .before .before .before .pre .0 .sized)
 
 returns : tie.Need-returns Inv-loop μ-loop
 returns c = all-started (c .before .loop .inv .1) (c .loop-test .left)

@@ -20,14 +20,17 @@ put-opening-requires c κs = let s = c .before .before in first-fits (firstWord 
 
 sub-put-measure : tie.Need-sub-put-measure
 unfolding header
-sub-put-measure c = let s = c .before .before .before .before .before in within (firstWord ++ digits (s .args .n)) _ _ _ (c .before .before .put-opening .ensures) (measureText (s .args .measure)) (whole s)
+sub-put-measure c = let s = c .before .before .before .before .before in
+    within (firstWord ++ digits (s .args .n)) _ _ _ (c .before .before .put-opening .ensures) (measureText (s .args .measure)) (whole s)
 
 part-put-measure-start : tie.Need-part-put-measure-start
 part-put-measure-start c = let r = sub-put-measure c in search (needs, r)
 
 put-measure-requires : tie.Need-put-measure-requires
 unfolding header
-put-measure-requires c κs = let k = c .before in let s = k .before .before .before .before .before in lent-room (firstWord ++ digits (s .args .n)) _ _ _ (k .before .before .put-opening .ensures) (measureText (s .args .measure)) (whole s)
+put-measure-requires c κs = let k = c .before in
+    let s = k .before .before .before .before .before in
+    lent-room (firstWord ++ digits (s .args .n)) _ _ _ (k .before .before .put-opening .ensures) (measureText (s .args .measure)) (whole s)
 
 returns : tie.Need-returns
 unfolding header

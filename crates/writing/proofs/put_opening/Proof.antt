@@ -26,7 +26,9 @@ part-put-number-start c = let r = sub-put-number c in search (needs, r)
 
 put-number-requires : tie.Need-put-number-requires
 unfolding firstWord
-put-number-requires c κs = let k = c .before in let s = k .before .before .before .before .before .before in lent-room (firstWord) _ _ _ (k .before .before .put-bytes .ensures) (digits (s .args .n)) (whole s)
+put-number-requires c κs = let k = c .before in
+    let s = k .before .before .before .before .before .before in
+    lent-room (firstWord) _ _ _ (k .before .before .put-bytes .ensures) (digits (s .args .n)) (whole s)
 
 returns : tie.Need-returns
 unfolding firstWord

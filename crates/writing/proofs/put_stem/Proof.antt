@@ -23,7 +23,9 @@ part-put-own-start : tie.Need-part-put-own-start
 part-put-own-start c = let r = sub-put-own c in search (needs, r)
 
 put-own-requires : tie.Need-put-own-requires
-put-own-requires c κs = let k = c .before in let s = k .before .before .before .before .before in lent-room (digits (s .args .head .0)) _ _ _ (k .before .before .put-number .ensures) (32 ∷ ownText (s .args .own .0)) (whole s)
+put-own-requires c κs = let k = c .before in
+    let s = k .before .before .before .before .before in
+    lent-room (digits (s .args .head .0)) _ _ _ (k .before .before .put-number .ensures) (32 ∷ ownText (s .args .own .0)) (whole s)
 
 returns : tie.Need-returns
 returns c =
