@@ -192,8 +192,8 @@ module _ (m : Measure) (c : Columns) (k : Counts) (a : Answers) (index list : Li
       e
       ∙ held-then (indexRoom (c .vertices) (length (indexOf t .list) + distinctIn (l .tail) (length (l .tail))) index list) (isIndex t index list) WrongIndex (answersAcceptance m t a)
       ∙ ap
-          (λ (z : ℕ). andThen (indexRoom (c .vertices) z index list) (test (isIndex (inUse c k) index list) WrongIndex (answersAcceptance m (inUse c k) a)))
-          (sym (longer-list (inUse c k) l (g .table) (g .line)))
+      (λ (z : ℕ). andThen (indexRoom (c .vertices) z index list) (test (isIndex (inUse c k) index list) WrongIndex (answersAcceptance m (inUse c k) a)))
+      (sym (longer-list (inUse c k) l (g .table) (g .line)))
       ∙ ap (λ (x : Acceptance). andThen x rest) (sym p)
       ∙ chain
 

@@ -47,11 +47,6 @@ set-two n xs v w h =
 pub put-back : (xs ys zs : List ℕ) (n : ℕ) → zs ≡ filled ys (take (length xs - n) (drop n xs)) → take n xs ++ (zs ++ drop (length xs - n) (drop n xs)) ≡ take n xs ++ filled ys (drop n xs)
 put-back xs ys zs n e = part-back xs zs n ∙ ap (λ (z : List ℕ). take n xs ++ z) (e ∙ ap (filled ys) (part-whole xs n))
 
-pub put-length : (xs ys : List ℕ) (n : ℕ) → n + length ys ≤ length xs → length (take n xs ++ filled ys (drop n xs)) ≡ length xs
-put-length xs ys n h =
-    length-append (take n xs) (filled ys (drop n xs))
-    ∙ omega (arith, length-take-le n xs (omega arith), length-drop n xs, length-filled ys (drop n xs) (omega (arith, length-drop n xs)))
-
 -- the end of the spans is that of their start
 end-start : (spans : List ℕ) (m : ℕ) → endIn (take (2 * m) spans) m ≡ endIn spans m
 end-start spans zero = refl
@@ -114,8 +109,8 @@ module _ (c : Columns) (k : Counts) (a : Answers) (l : NewLine) (g : Appendable 
 
     pub stored-at : {hs os ss ts : List ℕ}
         → (hs ≡ set (c .heads) (k .edges) (l .head))
-            × ((os ≡ set (c .own) (k .edges) (l .own))
-              × ((ss ≡ set (set (c .spans) (2 * k .edges) end) (2 * k .edges + 1) (length (l .tail))) × (ts ≡ take end (c .tails) ++ filled (l .tail) (drop end (c .tails)))))
+        × ((os ≡ set (c .own) (k .edges) (l .own))
+        × ((ss ≡ set (set (c .spans) (2 * k .edges) end) (2 * k .edges + 1) (length (l .tail))) × (ts ≡ take end (c .tails) ++ filled (l .tail) (drop end (c .tails)))))
         → columns (c .vertices) hs os ss ts ≡ over next c
     stored-at p =
         stored (p .0) (p .1 .0)

@@ -83,7 +83,7 @@ module _ {m : Measure} {c : Columns} {a : Answers} {s : Lines} {q : List ℕ} (u
   key-is : leastFrom q 0 keys ≡ keyOf here
   key-is =
       least-next m H own w d (λ e h. edge-fits offerable e h m) q (head-key offerable)
-        (queued (algebra m) c w d (head-key offerable) (λ e h. edge-fits offerable e h m) (u .waits .rested .waiting))
+      (queued (algebra m) c w d (head-key offerable) (λ e h. edge-fits offerable e h m) (u .waits .rested .waiting))
 
   pub stuck : (k : ℕ) → k ≡ leastFrom q 0 keys → k ≡ none → a ≡ turn (algebra m) H own a
   unfolding turn
@@ -188,7 +188,7 @@ module _ {m : Measure} {c : Columns} {a : Answers} {s : Lines} {q : List ℕ} (u
 
       pub waking-after : {q′ : List ℕ} → q′ ≡ raised q x
           → Offerable (same-table c (length (b .depths))) (b .weights) (b .depths) q′
-              × ((x < length (b .depths)) × Waking m (same-table c (length (b .depths))) (b .weights) (b .depths) s q′ x (cell (s .first) x))
+          × ((x < length (b .depths)) × Waking m (same-table c (length (b .depths))) (b .weights) (b .depths) s q′ x (cell (s .first) x))
       waking-after {q′} r =
           let e : q′ ≡ raised q v = r ∙ ap (raised q) h in (
             subst (λ (z : Answers). Offerable (same-table c (length (z .depths))) (z .weights) (z .depths) q′) (sym p) (offerable-after q′ (ap length e ∙ raised-sized)),

@@ -56,9 +56,11 @@ module _ (m : Measure) (c : Columns) (a : Answers) (l : AcceptedColumns c a) (fi
       let g = fix .chosen v x in
       let t = table-accepted c (l .table) in
       let e = t .each (getD (a .edges) v 0) (g .ready .stands .numbered) .1 in
-      let d : labels a v .depth ≡ deepestIn (labels a) (tailAt c (getD (a .edges) v 0)) + 1 = ap (λ (x : Label). x .depth) (g .given) in
-      (omega (arith, l .sized .edges), record { span = omega (arith, t .spans, g .ready .stands .numbered); short = e .short; within = e .within },
-          all-grounded (grounded-within k) (g .ready .tails) (e .listed) (omega arith))
+      let d : labels a v .depth ≡ deepestIn (labels a) (tailAt c (getD (a .edges) v 0)) + 1 = ap (λ (x : Label). x .depth) (g .given) in (
+        omega (arith, l .sized .edges),
+        record { span = omega (arith, t .spans, g .ready .stands .numbered); short = e .short; within = e .within },
+        all-grounded (grounded-within k) (g .ready .tails) (e .listed) (omega arith),
+      )
 
 -- printing what the walks read
 module _ (spans tails edges : List ℕ) (depth v : ℕ) (room : List ℕ) where

@@ -29,8 +29,20 @@ use Rattle.append.specs.Appending.{leaves, appended}
 use Rattle.readtable.specs.Read.{ReadOutcome}
 use Rattle.writetable.specs.Write.{writeTable}
 use Rattle.counter.specs.Results.{changeResult}
-use Rattle.harness.specs.Results.{checkedResult, strickenResult, entryWritten, measureNumber, headerWritten, readResult, writeResult,
-    writtenResult, indexedResult, countsWritten, leftGrown, appendedResult}
+use Rattle.harness.specs.Results.{
+  checkedResult,
+  strickenResult,
+  entryWritten,
+  measureNumber,
+  headerWritten,
+  readResult,
+  writeResult,
+  writtenResult,
+  indexedResult,
+  countsWritten,
+  leftGrown,
+  appendedResult,
+}
 
 module _ {o : MeasureChoice} (c : Columns) (a : Answers) {n : ℕ} where
   pub checked-refused : {r : Refusal} → o ≡ choice.Refused r → n ≡ resultOf (codeOf r) → n ≡ checkedResult o c a

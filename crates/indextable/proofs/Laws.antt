@@ -48,9 +48,12 @@ module _ {spans tails room : List ℕ} (a : Measurable spans tails room) (index 
       module _ {ix₃ list₃ : List ℕ} (f : FilledTo (tailOf spans tails) (pairsIn spans) (pairsIn ix) (pairsIn spans) ix₃ list₃ list) where
         pub pairs-fit : length ix₃ ≤ length index
         pairs-fit =
-            omega
-              (arith, ap length (all-pairs indexable q f),
-                length-pairs (useOffset (tailOf spans tails) (pairsIn spans)) (useCount (tailOf spans tails) (pairsIn spans)) (pairsIn room), a .even)
+            omega (
+              arith,
+              ap length (all-pairs indexable q f),
+              length-pairs (useOffset (tailOf spans tails) (pairsIn spans)) (useCount (tailOf spans tails) (pairsIn spans)) (pairsIn room),
+              a .even,
+            )
 
         pub all-laid : {total : ℕ} {index₃ : List ℕ} → total ≡ length (here .list) → index₃ ≡ filled ix₃ index → record { result = Length total; index = index₃; list = list₃ } ≡ laid
         unfolding indexRoom

@@ -158,10 +158,6 @@ module _ (q : List ℕ) (v x : ℕ) (h : v < keys) where
   unfolding lowered
   lowered-is p s t = t ∙ ap (λ (z : List ℕ). lowerAt z (blockOf v) x) (s ∙ ap (λ (z : List ℕ). lowerAt z (eightOf v) x) p)
 
-  pub lowered-length : length (lowered q v x) ≡ length q
-  unfolding lowered
-  lowered-length = thrice-length q v key-low eight-low block-low h
-
   pub lowered-other : (u : ℕ) → u < keys → u ≢ v → getD (lowered q v x) u 0 ≡ getD q u 0
   unfolding lowered
   lowered-other u k n = thrice-elsewhere q v key-low eight-low block-low h u n (λ e. omega arith) (λ e. omega arith)

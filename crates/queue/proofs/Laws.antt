@@ -105,15 +105,13 @@ module _ (m : Measure) (H : Hypergraph) (own w d : ℕ → ℕ) where
 
         down : keyOf (next′ (H .edges)) ≤ leastFrom q 0 keys
         down = least-greatest q 0 keys (keyOf (next′ (H .edges))) (next-at-most (H .edges) (omega arith))
-            (λ u l. omega
-                (arith, from u l,
-                  with-greatest key (H .head) u (H .edges) (keyOf (next′ (H .edges))) (next-at-most (H .edges) (omega arith)) (λ e k p. next-lower (H .edges) e (omega arith) k)))
+            (λ u l. omega (
+              arith,
+              from u l,
+              with-greatest key (H .head) u (H .edges) (keyOf (next′ (H .edges))) (next-at-most (H .edges) (omega arith)) (λ e k p. next-lower (H .edges) e (omega arith) k),
+            ))
 
 -- Offering ------------------------------------------------------------------------------------------------------------------------------------------
-
--- no place holds more than none
-abbrev pub Bounded : List ℕ → Type 0
-Bounded q = (u : ℕ) → u < keys → getD q u 0 ≤ none
 
 pub offered-grouped : (q : List ℕ) (v : ℕ) {o : Offer} → v < keys → Fitting o → Grouped q → Grouped (offered q v o)
 offered-grouped q v h nothing g = g

@@ -27,8 +27,32 @@ use Rattle.reading.specs.declared.Line.{Line}
 use Rattle.reading.specs.declared.Line.the-variants as line
 use Rattle.reading.specs.declared.Tail.{Tail}
 use Rattle.reading.specs.declared.Tail.the-variants as tail
-use Rattle.reading.specs.Lines.{startsWith, onCount, firstLine, onOwn, onHead, stemAt, Listing, Ends, Breaks, listEnd, listedFrom, vertices,
-    tailOf, ReadsTail, Row, Fails, onListing, onStem, rowAt, stored, lineOf, ReadsLine, scan, readingOf}
+use Rattle.reading.specs.Lines.{
+  startsWith,
+  onCount,
+  firstLine,
+  onOwn,
+  onHead,
+  stemAt,
+  Listing,
+  Ends,
+  Breaks,
+  listEnd,
+  listedFrom,
+  vertices,
+  tailOf,
+  ReadsTail,
+  Row,
+  Fails,
+  onListing,
+  onStem,
+  rowAt,
+  stored,
+  lineOf,
+  ReadsLine,
+  scan,
+  readingOf,
+}
 use Rattle.reading.proofs.Scanned.{scan-is-parse}
 use Rattle.reading.proofs.Scanning.{row-counts, tells, fails, Scanning, scan-end, scan-fails, scan-next}
 

@@ -14,8 +14,38 @@ use Rattle.weights.specs.Choice.{pick}
 use Rattle.columns.specs.Acceptance.{mostVertices, mostEdges}
 use Rattle.text.specs.Tables.{edge, Table}
 use Rattle.text.specs.Render.{default, spoken, word, firstWord}
-use Rattle.text.specs.Machine.{Place, Vertices, Head, Own, Listed, State, Spelling, First, Within, Failed, begun, withEdge, nextLine, mayList, limit,
-    lineAt, digitOf, grown, instead, after, spell, ended, step, run, Parse, Whole, Wrong, finish, begin, parse}
+use Rattle.text.specs.Machine.{
+  Place,
+  Vertices,
+  Head,
+  Own,
+  Listed,
+  State,
+  Spelling,
+  First,
+  Within,
+  Failed,
+  begun,
+  withEdge,
+  nextLine,
+  mayList,
+  limit,
+  lineAt,
+  digitOf,
+  grown,
+  instead,
+  after,
+  spell,
+  ended,
+  step,
+  run,
+  Parse,
+  Whole,
+  Wrong,
+  finish,
+  begin,
+  parse,
+}
 use Rattle.text.proofs.Digits.{pick-by, digit-byte}
 use Rattle.text.proofs.Places.{run-failed}
 use Rattle.cursor.specs.declared.Found.{Found}
@@ -27,8 +57,30 @@ use Rattle.cursor.proofs.Counts.{byte-within}
 use Rattle.reading.specs.declared.FirstLine.{FirstLine}
 use Rattle.reading.specs.declared.FirstLine.the-variants as first
 use Rattle.reading.specs.declared.Stem.{Stem}
-use Rattle.reading.specs.Lines.{startsWith, onCount, firstLine, onOwn, onHead, stemAt, Listing, Ends, Breaks, listEnd, onVertex, listedFrom,
-    Row, Holds, Fails, onListing, onStem, rowAt, onRow, scanFrom, onFirst, scan}
+use Rattle.reading.specs.Lines.{
+  startsWith,
+  onCount,
+  firstLine,
+  onOwn,
+  onHead,
+  stemAt,
+  Listing,
+  Ends,
+  Breaks,
+  listEnd,
+  onVertex,
+  listedFrom,
+  Row,
+  Holds,
+  Fails,
+  onListing,
+  onStem,
+  rowAt,
+  onRow,
+  scanFrom,
+  onFirst,
+  scan,
+}
 
 -- A byte of the text -----------------------------------------------------------------------------------------------------------------------
 
@@ -101,7 +153,7 @@ module _ (s : List ℕ) (p : Place) where
       pick-by P (ltb 0 v) (λ z.
       pick-by P (ltb (10 * v + digitOf b) (limit p))
       (λ l. runs-before (Within p v) (Within p (10 * v + digitOf b)) b bs (digitsFrom bs (i + 1) (limit p) (10 * v + digitOf b)) (more d z l)
-          (digits-run bs (i + 1) (10 * v + digitOf b) (rest-here s i b bs e)))
+      (digits-run bs (i + 1) (10 * v + digitOf b) (rest-here s i b bs e)))
       (λ l. fails-here (Within p v) b bs (over d z l)))
       (λ z. fails-here (Within p v) b bs (leading d z)))
       (λ d. (ap (run (Within p v)) (sym e), rw (byte-here s i b bs e) (ltb-false _ _ d)))
@@ -187,8 +239,8 @@ module _ (s : List ℕ) (t : Table) where
   unfolding weightAt
   own-run h at =
       pick-by (OwnRuns h at) (eqb (getD s at 0) 45)
-        (λ e. (dashed (eqb-true _ _ e), record { stops = unfold finish lineAt in refl; steps = λ l. mark-step h (getD s (at + 1) 0) }))
-        (λ e. number e)
+      (λ e. (dashed (eqb-true _ _ e), record { stops = unfold finish lineAt in refl; steps = λ l. mark-step h (getD s (at + 1) 0) }))
+      (λ e. number e)
     where
       dash : step (First (Own t h)) 45 ≡ Within (Own t h) struck
       dash = unfold step instead digitOf in refl
@@ -284,7 +336,7 @@ module _ (s : List ℕ) (t : Table) where
   row-own h at (weight.Own w next) r =
       let L = listedFrom (mayList t) s (t .vertices) next [] in
       row-on (First (Own t h)) (Within (Own t h) (w .0)) at next (onListing (record { 0 = h }) w L) (r .0)
-          (row-listed h (w .0) next (Within (Own t h) (w .0)) L (listing-run h (w .0) (mayList t) next [] (Within (Own t h) (w .0)) (r .1) (omega arith)))
+      (row-listed h (w .0) next (Within (Own t h) (w .0)) L (listing-run h (w .0) (mayList t) next [] (Within (Own t h) (w .0)) (r .1) (omega arith)))
   row-own h at weight.NotAWeight r = r
 
   row-head : (at : ℕ) (F : Found) → NumberRuns s (Head t) (First (Head t)) (drop at s) F → RowRuns (First (Head t)) at (onStem s (t .vertices) (mayList t) (onHead s F))
@@ -296,7 +348,7 @@ module _ (s : List ℕ) (t : Table) where
       spaced-own : getD s a 0 ≡ 32 → run (Within (Head t) h) (drop a s) ≡ run (First (Own t h)) (drop (a + 1) s)
       spaced-own e =
           run-step (Within (Head t) h) s a (byte-within s a 32 e (omega arith))
-            ∙ ap (λ (σ : State). run σ (drop (a + 1) s)) (number-ended s (Head t) h a (r .1) ∙ ap (ended (Head t) h) e ∙ space)
+          ∙ ap (λ (σ : State). run σ (drop (a + 1) s)) (number-ended s (Head t) h a (r .1) ∙ ap (ended (Head t) h) e ∙ space)
 
       unspaced : eqb (getD s a 0) 32 ≡ false → finish (run (Within (Head t) h) (drop a s)) ≡ Wrong (nextLine t)
       unspaced e = wrong-both (Within (Head t) h) s a (nextLine t) (unfold finish lineAt in refl) (λ l. number-ended s (Head t) h a (r .1) ∙ (unfold ended in rw e))
@@ -304,7 +356,7 @@ module _ (s : List ℕ) (t : Table) where
       behind : RowRuns (Within (Head t) h) a (onStem s (t .vertices) (mayList t) (onHead s (Number h a)))
       behind = pick-by (λ (S : Stem). RowRuns (Within (Head t) h) a (onStem s (t .vertices) (mayList t) S)) (eqb (getD s a 0) 32)
           (λ e. row-on (Within (Head t) h) (First (Own t h)) a (a + 1) (onStem s (t .vertices) (mayList t) (onOwn h (weightAt s (a + 1))))
-              (spaced-own (eqb-true _ _ e)) (row-own h (a + 1) (weightAt s (a + 1)) (own-run h (a + 1))))
+          (spaced-own (eqb-true _ _ e)) (row-own h (a + 1) (weightAt s (a + 1)) (own-run h (a + 1))))
           unspaced
   row-head at NotANumber r = unfold lineAt in r
 
@@ -313,7 +365,7 @@ module _ (s : List ℕ) (t : Table) where
   row-run at h l =
       let q : limit (Head t) ≡ t .vertices = unfold limit in rw (lt-ltb (length (t .edges)) mostEdges l) in
       row-head at (numberAt s at (t .vertices))
-          (subst (λ (k : ℕ). NumberRuns s (Head t) (First (Head t)) (drop at s) (numberAt s at k)) q (number-run s (Head t) at (λ g. absurd (past g)) (unfold instead lineAt in refl)))
+      (subst (λ (k : ℕ). NumberRuns s (Head t) (First (Head t)) (drop at s) (numberAt s at k)) q (number-run s (Head t) at (λ g. absurd (past g)) (unfold instead lineAt in refl)))
     where
       past : length s ≤ at → ⊥
       past g = omega arith
@@ -398,13 +450,13 @@ module _ (s : List ℕ) where
     unfolding word
     word-named true q h e =
         let r : SpellRuns 32 (100 ∷ 97 ∷ 121 ∷ 115 ∷ 10 ∷ []) (Head (begun n spoken)) (drop next s) true =
-            subst (SpellRuns 32 (100 ∷ 97 ∷ 121 ∷ 115 ∷ 10 ∷ []) (Head (begun n spoken)) (drop next s)) q
-              (spell-run 32 (100 ∷ 97 ∷ 121 ∷ 115 ∷ 10 ∷ []) (Head (begun n spoken)) (drop next s)) in
+        subst (SpellRuns 32 (100 ∷ 97 ∷ 121 ∷ 115 ∷ 10 ∷ []) (Head (begun n spoken)) (drop next s)) q
+        (spell-run 32 (100 ∷ 97 ∷ 121 ∷ 115 ∷ 10 ∷ []) (Head (begun n spoken)) (drop next s)) in
         to-word h e ∙ r ∙ ap (run (First (Head (begun n spoken)))) (drop-drop 6 next s)
     word-named false q h e =
         let r : SpellRuns 32 (100 ∷ 97 ∷ 121 ∷ 115 ∷ 10 ∷ []) (Head (begun n spoken)) (drop next s) false =
-            subst (SpellRuns 32 (100 ∷ 97 ∷ 121 ∷ 115 ∷ 10 ∷ []) (Head (begun n spoken)) (drop next s)) q
-              (spell-run 32 (100 ∷ 97 ∷ 121 ∷ 115 ∷ 10 ∷ []) (Head (begun n spoken)) (drop next s)) in
+        subst (SpellRuns 32 (100 ∷ 97 ∷ 121 ∷ 115 ∷ 10 ∷ []) (Head (begun n spoken)) (drop next s)) q
+        (spell-run 32 (100 ∷ 97 ∷ 121 ∷ 115 ∷ 10 ∷ []) (Head (begun n spoken)) (drop next s)) in
         ap finish (to-word h e) ∙ r
 
     word-missing : length s ≤ next → FirstRuns (Within Vertices n) (drop next s) (pick (startsWith (word ++ 10 ∷ []) (drop next s)) (first.Read n spoken (next + length (word ++ 10 ∷ []))) first.Wrong)
@@ -444,8 +496,8 @@ module _ (s : List ℕ) where
       go : (c : Bool) → startsWith firstWord s ≡ c → FirstRuns begin s (pick c (onCount s (numberAt s (length firstWord) (mostVertices + 1))) first.Wrong)
       go true e = unfold firstWord in
           first-on begin (First Vertices) s (drop 6 s) (onCount s (numberAt s (length firstWord) (mostVertices + 1)))
-            (subst (SpellRuns 112 (97 ∷ 114 ∷ 116 ∷ 115 ∷ 32 ∷ []) Vertices s) e opened)
-            (counted-run 6 (numberAt s (length firstWord) (mostVertices + 1)) counted)
+          (subst (SpellRuns 112 (97 ∷ 114 ∷ 116 ∷ 115 ∷ 32 ∷ []) Vertices s) e opened)
+          (counted-run 6 (numberAt s (length firstWord) (mostVertices + 1)) counted)
       go false e = unfold firstWord in subst (SpellRuns 112 (97 ∷ 114 ∷ 116 ∷ 115 ∷ 32 ∷ []) Vertices s) e opened
 
   scan-first : (F : FirstLine) → FirstRuns begin s F → onFirst s F ≡ finish (run begin s)

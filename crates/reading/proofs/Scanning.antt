@@ -29,8 +29,31 @@ use Rattle.reading.specs.declared.FirstLine.the-variants as first
 use Rattle.reading.specs.declared.Stem.{Stem}
 use Rattle.reading.specs.declared.Stem.the-variants as stem
 use Rattle.reading.specs.declared.Line.the-variants as line
-use Rattle.reading.specs.Lines.{startsWith, onCount, firstLine, onOwn, onHead, stemAt, Listing, Ends, Breaks, listEnd, onVertex, listedFrom,
-    Row, Holds, Fails, onListing, onStem, rowAt, lineOf, onRow, scanFrom, onFirst, scan}
+use Rattle.reading.specs.Lines.{
+  startsWith,
+  onCount,
+  firstLine,
+  onOwn,
+  onHead,
+  stemAt,
+  Listing,
+  Ends,
+  Breaks,
+  listEnd,
+  onVertex,
+  listedFrom,
+  Row,
+  Holds,
+  Fails,
+  onListing,
+  onStem,
+  rowAt,
+  lineOf,
+  onRow,
+  scanFrom,
+  onFirst,
+  scan,
+}
 
 -- Places: the next line begins later, and within the text ------------------------------------------------------------------------------------
 
@@ -139,10 +162,16 @@ pub record Tells (R : Row) (h : Vertex) (o : Weight) (k next : ℕ) : Type 0 whe
 pub tells : (R : Row) (h : Vertex) (o : Weight) (k next : ℕ) → line.Edge h o k next ≡ lineOf R → Tells R h o k next
 tells (Holds e j) h o k next q =
     let a : next ≡ j = cc in
-    record { edge-is =
-        e; row =
-          ap (Holds e) (sym a); head =
-            (let b : h ≡ record { 0 = e .head } = cc in ap (λ (v : Vertex). v .0) b); own = (let b : o ≡ record { 0 = e .own } = cc in ap (λ (w : Weight). w .0) b); count = cc }
+    record {
+      edge-is =
+          e;
+      row =
+          ap (Holds e) (sym a);
+      head =
+          (let b : h ≡ record { 0 = e .head } = cc in ap (λ (v : Vertex). v .0) b);
+      own = (let b : o ≡ record { 0 = e .own } = cc in ap (λ (w : Weight). w .0) b);
+      count = cc;
+    }
 tells (Fails xs) h o k next q = absurd (let z : _≡_ {A = ℕ} 0 1 = cc in omega arith)
 
 pub fails : (R : Row) → line.Wrong ≡ lineOf R → (xs : List ℕ) × (R ≡ Fails xs)

@@ -32,8 +32,29 @@ use Rattle.reading.specs.declared.Stem.{Stem}
 use Rattle.reading.specs.declared.Stem.the-variants as stem
 use Rattle.reading.specs.declared.Line.{Line}
 use Rattle.reading.specs.declared.Line.the-variants as line
-use Rattle.reading.specs.Lines.{stemAt, Listing, Ends, Breaks, listEnd, onVertex, listedFrom, Row, Holds, Fails, onListing, onStem, rowAt, stored,
-    lineOf, ReadsLine, onRow, scanFrom, scan, headerOf, readingOf}
+use Rattle.reading.specs.Lines.{
+  stemAt,
+  Listing,
+  Ends,
+  Breaks,
+  listEnd,
+  onVertex,
+  listedFrom,
+  Row,
+  Holds,
+  Fails,
+  onListing,
+  onStem,
+  rowAt,
+  stored,
+  lineOf,
+  ReadsLine,
+  onRow,
+  scanFrom,
+  scan,
+  headerOf,
+  readingOf,
+}
 use Rattle.reading.proofs.Scanned.{scan-is-parse}
 use Rattle.reading.proofs.Scanning.{row-counts, tells, Scanning, scan-full, scan-end, scan-fails, scan-next, scan-next-edges}
 use Rattle.readtable.specs.Read.{readOutcome, roomFor, readInto, readTable, edgesIn, Roomy, Fills}
@@ -208,11 +229,21 @@ module _ (s : List ℕ) (n : ℕ) (m : Measure) (at i k : ℕ) (u : Table) (g : 
           let t = d .1 in
           let p = z .counted in
           let r = z .summed in
-          record { this =
-              x; next =
-                next; row =
-                  q; short =
-                    omega arith; later = c .1; then = z; so-far = scan-next-edges s n m at i k g h few (Holds x next) q x next refl; edges-left = omega arith; listed-left = omega arith }
+          record {
+            this =
+                x;
+            next =
+                next;
+            row =
+                q;
+            short =
+                omega arith;
+            later = c .1;
+            then = z;
+            so-far = scan-next-edges s n m at i k g h few (Holds x next) q x next refl;
+            edges-left = omega arith;
+            listed-left = omega arith;
+          }
       go (Fails xs) q = absurd (never (sym (scan-fails s n m at i k g h few (Fails xs) q xs refl) ∙ w))
 
 -- Columns of one hyperedge more ------------------------------------------------------------------------------------------------------------
@@ -328,7 +359,7 @@ module _ (s : List ℕ) (n : ℕ) (h₀ o₀ s₀ t₀ h o sp t : List ℕ) (at 
           own = ap (λ (z : List ℕ). set z i (e .own)) (f .fills .own) ∙ owns-more es e o₀ i c (omega arith) ∙ ap (λ (fs : List Edge). filled (ownsOf fs) o₀) q;
           spans =
               ap (λ (z : List ℕ). set (set z (2 * i) k) (2 * i + 1) (length (e .tail))) (f .fills .spans)
-                ∙ spans-more es e s₀ i c k (f .scanning .summed) (omega arith) ∙ ap (λ (fs : List Edge). filled (spansFrom 0 fs) s₀) q;
+              ∙ spans-more es e s₀ i c k (f .scanning .summed) (omega arith) ∙ ap (λ (fs : List Edge). filled (spansFrom 0 fs) s₀) q;
           tails = ap (λ (z : List ℕ). take k z ++ filled (e .tail) (drop k z)) (f .fills .tails) ∙ tails-more es e t₀ k (f .scanning .summed) ∙ ap (λ (fs : List Edge). filled (tailsOf fs) t₀) q;
         };
         heads-long = length-set h i (e .head) ∙ f .heads-long;
@@ -374,20 +405,20 @@ module _ (s : List ℕ) (n : ℕ) (h₀ o₀ s₀ t₀ h o sp t : List ℕ) (at 
         let later = here .later in
         let T = take k t ++ (new ++ drop (length t - k) (drop k t)) in
         let z1 =
-            subst
-              (λ (u : List ℕ). Filling s n h₀ o₀ s₀ t₀ (set h i (here .this .head)) (set o i (here .this .own))
-                (set (set sp (2 * i) k) (2 * i + 1) (length (here .this .tail))) u (here .next) (i + 1) (k + length (here .this .tail)))
-              (sym tails-are) one-filled in
+        subst
+        (λ (u : List ℕ). Filling s n h₀ o₀ s₀ t₀ (set h i (here .this .head)) (set o i (here .this .own))
+        (set (set sp (2 * i) k) (2 * i + 1) (length (here .this .tail))) u (here .next) (i + 1) (k + length (here .this .tail)))
+        (sym tails-are) one-filled in
         let z2 =
-            subst
-              (λ (j : ℕ). Filling s n h₀ o₀ s₀ t₀ (set h i j) (set o i (here .this .own))
-                (set (set sp (2 * i) k) (2 * i + 1) (length (here .this .tail))) T (here .next) (i + 1) (k + length (here .this .tail)))
-              a z1 in
+        subst
+        (λ (j : ℕ). Filling s n h₀ o₀ s₀ t₀ (set h i j) (set o i (here .this .own))
+        (set (set sp (2 * i) k) (2 * i + 1) (length (here .this .tail))) T (here .next) (i + 1) (k + length (here .this .tail)))
+        a z1 in
         let z3 =
-            subst
-              (λ (j : ℕ). Filling s n h₀ o₀ s₀ t₀ (set h i (v .0)) (set o i j) (set (set sp (2 * i) k) (2 * i + 1) (length (here .this .tail))) T
-                (here .next) (i + 1) (k + length (here .this .tail)))
-              b z2 in
+        subst
+        (λ (j : ℕ). Filling s n h₀ o₀ s₀ t₀ (set h i (v .0)) (set o i j) (set (set sp (2 * i) k) (2 * i + 1) (length (here .this .tail))) T
+        (here .next) (i + 1) (k + length (here .this .tail)))
+        b z2 in
         let z4 = subst (λ (j : ℕ). Filling s n h₀ o₀ s₀ t₀ (set h i (v .0)) (set o i (w .0)) (set (set sp (2 * i) k) (2 * i + 1) j) T (here .next) (i + 1) (k + j)) d z3 in
         (omega arith, subst (λ (j : ℕ). Filling s n h₀ o₀ s₀ t₀ (set h i (v .0)) (set o i (w .0)) (set (set sp (2 * i) k) (2 * i + 1) c) T j (i + 1) (k + c)) e z4)
 
@@ -454,9 +485,9 @@ module _ (s : List ℕ) (header : Header) (g : Holding s header) (h o sp t : Lis
       let es = ap edgesIn w in
       ap₂ (λ (a : Reading) (b : List ℕ). readOutcome a b o′ sp′ t′) (q ∙ ap readingOf w) (f .heads ∙ ap (λ (z : List Edge). filled (headsOf z) h) es)
       ∙ ap₂ (λ (a b : List ℕ). readOutcome (readingOf (Whole (g .table))) (filled (headsOf (g .table .edges)) h) a b t′)
-          (f .own ∙ ap (λ (z : List Edge). filled (ownsOf z) o) es) (f .spans ∙ ap (λ (z : List Edge). filled (spansFrom 0 z) sp) es)
+      (f .own ∙ ap (λ (z : List Edge). filled (ownsOf z) o) es) (f .spans ∙ ap (λ (z : List Edge). filled (spansFrom 0 z) sp) es)
       ∙ ap
-          (λ (a : List ℕ). readOutcome (readingOf (Whole (g .table))) (filled (headsOf (g .table .edges)) h) (filled (ownsOf (g .table .edges)) o)
-            (filled (spansFrom 0 (g .table .edges)) sp) a)
-          (f .tails ∙ ap (λ (z : List Edge). filled (tailsOf z) t) es)
+      (λ (a : List ℕ). readOutcome (readingOf (Whole (g .table))) (filled (headsOf (g .table .edges)) h) (filled (ownsOf (g .table .edges)) o)
+      (filled (spansFrom 0 (g .table .edges)) sp) a)
+      (f .tails ∙ ap (λ (z : List Edge). filled (tailsOf z) t) es)
       ∙ rw (w, roomed true e)

@@ -51,7 +51,7 @@ module _ (input : List ℕ) (g : Header) (e : readInput input .answer ≡ readin
   lent : lentAcceptance table (blank (g .vertices)) ≡ Accepted
   lent =
       columns-accept table (blank (g .vertices)) input-accepted
-        (record { weights = length-replicate (g .vertices) 0; depths = length-replicate (g .vertices) 0; edges = length-replicate (g .vertices) 0 })
+      (record { weights = length-replicate (g .vertices) 0; depths = length-replicate (g .vertices) 0; edges = length-replicate (g .vertices) 0 })
 
   -- settling it is never refused
   pub read-settles : settled (g .measure) table (blank (g .vertices)) .result ≡ Accepted
@@ -101,8 +101,8 @@ listed-fits input = go (readInput input .answer) refl
     go (reading.Table g) e =
         let a = input-accepted input g e in
         let m =
-            list-most (answersOf (g .measure) (columnsRead g (readInput input))) (answers-ranged (g .measure) (columnsRead g (readInput input)) a)
-              (g .vertices) (table-accepted (columnsRead g (readInput input)) a .few) in
+        list-most (answersOf (g .measure) (columnsRead g (readInput input))) (answers-ranged (g .measure) (columnsRead g (readInput input)) a)
+        (g .vertices) (table-accepted (columnsRead g (readInput input)) a .few) in
         subst (λ (z : List ℕ). length z ≤ mostOutput) (sym (read-listed input g e)) m
 
 pub report-fits : (input : List ℕ) → length (report input) ≤ mostOutput
@@ -177,7 +177,7 @@ input-lent input g room short large e =
     let ss = ap (λ (x : ReadOutcome). length (x .spans)) (k .outcome) ∙ length-filled (spansFrom 0 es) (replicate (2 * mostEdges) 0) (omega arith) in
     let ts = ap (λ (x : ReadOutcome). length (x .tails)) (k .outcome) ∙ length-filled (tailsOf es) (replicate mostListed 0) (omega arith) in
     let y : listed (readInput input) ≡ priced (g .vertices) (settled (g .measure) (columnsRead g (readInput input)) (blank (g .vertices))) = unfold listedAs in
-        ap (λ (z : Reading). listedAs z (readInput input)) e in
+    ap (λ (z : Reading). listedAs z (readInput input)) e in
     let z = ap length (report-short input short ∙ y) in
     let w = report-fits input in
     record { few = omega arith; heads = omega arith; own = omega arith; spans = omega arith; tails = omega arith; fits = omega arith }

@@ -58,8 +58,8 @@ unfolding readInto
 read-table text u h o s t e r =
     rw (e, roomy u h o s t r)
     (ap
-        (λ (z : Header). readOutcome (reading.Table z) (filled (headsOf (u .edges)) h) (filled (ownsOf (u .edges)) o) (filled (spansFrom 0 (u .edges)) s) (filled (tailsOf (u .edges)) t))
-        (header-is (u .measure) (u .vertices) (u .edges)))
+    (λ (z : Header). readOutcome (reading.Table z) (filled (headsOf (u .edges)) h) (filled (ownsOf (u .edges)) o) (filled (spansFrom 0 (u .edges)) s) (filled (tailsOf (u .edges)) t))
+    (header-is (u .measure) (u .vertices) (u .edges)))
 
 pub read-rendered : (m : Measure) (c : Columns) (h o s t : List ℕ) → acceptance c ≡ Accepted → Room (closed c) h o s t → readTable (render m c) h o s t ≡ filledWith (closed c) m h o s t
 read-rendered m c h o s t a r = read-table (render m c) (tableOf m c) h o s t (complete (tableOf m c) (accepted-fits m c a)) r
@@ -113,8 +113,8 @@ held text h o s t g e = go (parse text) refl e
   where
     whole : (u : Table) → parse text ≡ Whole u → (b : Bool) → roomFor (headerOf u) (length h) (length o) (length s) (length t) ≡ b
         → pick b
-            (readOutcome (reading.Table (headerOf u)) (filled (headsOf (u .edges)) h) (filled (ownsOf (u .edges)) o) (filled (spansFrom 0 (u .edges)) s) (filled (tailsOf (u .edges)) t))
-            (readOutcome (reading.Refused TextRoom) h o s t) .answer ≡ reading.Table g
+        (readOutcome (reading.Table (headerOf u)) (filled (headsOf (u .edges)) h) (filled (ownsOf (u .edges)) o) (filled (spansFrom 0 (u .edges)) s) (filled (tailsOf (u .edges)) t))
+        (readOutcome (reading.Refused TextRoom) h o s t) .answer ≡ reading.Table g
         → Held text h o s t g
     whole u p true b q = record { table = u; whole = p; header-of = let z : headerOf u ≡ g = cc in sym z; outcome = unfold readInto in rw (p, b) }
     whole u p false b q = absurd (no-table q)
@@ -131,10 +131,10 @@ module _ (text h o s t : List ℕ) (g : Header) (k : Held text h o s t g) where
   columns-are =
       ap₂ columnsRead (k .header-of) (k .outcome)
       ∙ ap₂
-          (λ (a b : List ℕ). columns (k .table .vertices) a b (take (2 * length es) (filled (spansFrom 0 es) s)) (take (listedInAll es) (filled (tailsOf es) t)))
-          (take-filled (headsOf es) h (length es) (length-heads es)) (take-filled (ownsOf es) o (length es) (length-owns es))
+      (λ (a b : List ℕ). columns (k .table .vertices) a b (take (2 * length es) (filled (spansFrom 0 es) s)) (take (listedInAll es) (filled (tailsOf es) t)))
+      (take-filled (headsOf es) h (length es) (length-heads es)) (take-filled (ownsOf es) o (length es) (length-owns es))
       ∙ ap₂ (λ (a b : List ℕ). columns (k .table .vertices) (headsOf es) (ownsOf es) a b)
-          (take-filled (spansFrom 0 es) s (2 * length es) (length-spans 0 es)) (take-filled (tailsOf es) t (listedInAll es) (length-tails es))
+      (take-filled (spansFrom 0 es) s (2 * length es) (length-spans 0 es)) (take-filled (tailsOf es) t (listedInAll es) (length-tails es))
 
   accepted-again : acceptance (columnsRead g (readTable text h o s t)) ≡ Accepted
   accepted-again = ap acceptance columns-are ∙ fits-accepted (k .table) (sound text (k .table) (k .whole) .0)

@@ -100,4 +100,4 @@ yes-settled m c a p =
     let t = columns-accepted c a q .table in
     let e = settled-left m c a q in
     subst (λ (b : Answers). verdict (lentAcceptance c b) (sameAnswers b (answersOf m c)) ≡ verdict.Yes) (sym e)
-        (rw (lent-accepted m c (answersOf m c) t (answers-sized m c t), same-refl (answersOf m c)))
+    (rw (lent-accepted m c (answersOf m c) t (answers-sized m c t), same-refl (answersOf m c)))

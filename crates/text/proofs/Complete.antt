@@ -15,8 +15,34 @@ use Rattle.columns.specs.Acceptance.{mostVertices, mostEdges, mostListed, allBe
 use Rattle.columns.proofs.Accepted.{below-at}
 use Rattle.text.specs.Tables.{Edge, edge, Table, listedInAll}
 use Rattle.text.specs.Render.{digits, word, firstWord, measureText, header, ownText, tailText, edgeText, edgesText, tableText}
-use Rattle.text.specs.Machine.{Place, Vertices, Head, Own, Listed, State, Spelling, First, Within, Failed, begun, withEdge, mayList, limit,
-    digitOf, grown, instead, after, spell, ended, step, run, Whole, finish, begin, parse}
+use Rattle.text.specs.Machine.{
+  Place,
+  Vertices,
+  Head,
+  Own,
+  Listed,
+  State,
+  Spelling,
+  First,
+  Within,
+  Failed,
+  begun,
+  withEdge,
+  mayList,
+  limit,
+  digitOf,
+  grown,
+  instead,
+  after,
+  spell,
+  ended,
+  step,
+  run,
+  Whole,
+  finish,
+  begin,
+  parse,
+}
 use Rattle.text.proofs.Digits.{digits-one, digits-more, byte-digit, by-digits}
 use Rattle.text.specs.Rows.{EdgeFits, All, one, WithinLimits}
 use Rattle.text.proofs.Rows.{total-append}

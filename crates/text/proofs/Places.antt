@@ -12,8 +12,35 @@ use borrow.Author.Tests.{ltb-true, eqb-true, eq-eqb, ne-eqb}
 use Rattle.weights.specs.Choice.{pick}
 use Rattle.text.specs.Tables.{edge, Table}
 use Rattle.text.specs.Render.{spoken, word}
-use Rattle.text.specs.Machine.{Place, Vertices, Head, Own, Listed, State, Spelling, First, Within, Failed, begun, nextLine, mayList, lineAt,
-    digitOf, grown, instead, after, spell, ended, step, run, Whole, Wrong, finish, begin, parse}
+use Rattle.text.specs.Machine.{
+  Place,
+  Vertices,
+  Head,
+  Own,
+  Listed,
+  State,
+  Spelling,
+  First,
+  Within,
+  Failed,
+  begun,
+  nextLine,
+  mayList,
+  lineAt,
+  digitOf,
+  grown,
+  instead,
+  after,
+  spell,
+  ended,
+  step,
+  run,
+  Whole,
+  Wrong,
+  finish,
+  begin,
+  parse,
+}
 use Rattle.text.proofs.Digits.{pick-by}
 use Rattle.text.proofs.Sound.{LastOf, Spells, Reached, begin-reached, word-spells, step-reached, never}
 use Rattle.text.specs.Places.{firstLines}

@@ -98,7 +98,7 @@ module _ (n : ℕ) (es : List Edge) (e : Edge) (fs : List Edge) where
   unfolding spansFrom
   offset-there =
       rw (spans-append 0 es (e ∷ fs))
-        (getD-at (spansFrom 0 es) (0 + listedInAll es) (length (e .tail) ∷ spansFrom (0 + listedInAll es + length (e .tail)) fs) 0 (2 * length es) (length-spans 0 es) ∙ omega arith)
+      (getD-at (spansFrom 0 es) (0 + listedInAll es) (length (e .tail) ∷ spansFrom (0 + listedInAll es + length (e .tail)) fs) 0 (2 * length es) (length-spans 0 es) ∙ omega arith)
 
   length-there : lengthAt C (length es) ≡ length (e .tail)
   unfolding spansFrom
@@ -213,11 +213,14 @@ fits-accepted t f =
     let l = length-tails (t .edges) in
     let k = f .edges in
     let j = f .listed in
-    rw
-        (le-leb _ _ (f .vertices), eq-eqb (length (ownsOf (t .edges))) (length (headsOf (t .edges))) (omega arith),
-          le-leb (length (headsOf (t .edges))) mostEdges (omega arith),
-          eq-eqb (length (spansFrom 0 (t .edges))) (2 * length (headsOf (t .edges))) (omega arith),
-          le-leb (length (tailsOf (t .edges))) mostListed (omega arith), h)
+    rw (
+      le-leb _ _ (f .vertices),
+      eq-eqb (length (ownsOf (t .edges))) (length (headsOf (t .edges))) (omega arith),
+      le-leb (length (headsOf (t .edges))) mostEdges (omega arith),
+      eq-eqb (length (spansFrom 0 (t .edges))) (2 * length (headsOf (t .edges))) (omega arith),
+      le-leb (length (tailsOf (t .edges))) mostListed (omega arith),
+      h,
+    )
     (edges-passed (t .vertices) [] (t .edges) (f .each))
 
 -- the gaps closed: the same hyperedges, and still accepted

@@ -14,8 +14,36 @@ use Rattle.weights.specs.Figures.{struck}
 use Rattle.columns.specs.Acceptance.{mostVertices, mostEdges, mostListed, allBelow}
 use Rattle.text.specs.Tables.{Edge, edge, Table, listedInAll}
 use Rattle.text.specs.Render.{digits, default, spoken, word, firstWord, measureText, header, ownText, tailText, edgeText, edgesText, tableText}
-use Rattle.text.specs.Machine.{Place, Vertices, Head, Own, Listed, State, Spelling, First, Within, Failed, begun, withEdge, nextLine, mayList,
-    limit, digitOf, grown, instead, after, spell, ended, step, run, Whole, Wrong, finish, begin, parse}
+use Rattle.text.specs.Machine.{
+  Place,
+  Vertices,
+  Head,
+  Own,
+  Listed,
+  State,
+  Spelling,
+  First,
+  Within,
+  Failed,
+  begun,
+  withEdge,
+  nextLine,
+  mayList,
+  limit,
+  digitOf,
+  grown,
+  instead,
+  after,
+  spell,
+  ended,
+  step,
+  run,
+  Whole,
+  Wrong,
+  finish,
+  begin,
+  parse,
+}
 use Rattle.text.proofs.Digits.{pick-by, digits-one, digits-more, digit-byte}
 use Rattle.text.specs.Rows.{EdgeFits, none, WithinLimits}
 use Rattle.text.proofs.Rows.{all-snoc, below-snoc, total-snoc}

@@ -172,9 +172,9 @@ module _ (tail : ℕ → List ℕ) (m n e : ℕ) (numbered : e < m) (vs : List �
       level = length-set list (useOffset tail m w + length (usesBelow tail w e)) e ∙ f .laid .level;
       holds = λ v j b l. ⊎-elim
           (λ q. subst
-              (λ (x : ℕ). j < length (usesBy tail e (seenIn (vs ++ w ∷ [])) x)
-                → getD (set list (useOffset tail m w + length (usesBelow tail w e)) e) (useOffset tail m x + j) 0 ≡ getD (usesBy tail e (seenIn (vs ++ w ∷ [])) x) j 0)
-              (sym q) (own j) l)
+          (λ (x : ℕ). j < length (usesBy tail e (seenIn (vs ++ w ∷ [])) x)
+          → getD (set list (useOffset tail m w + length (usesBelow tail w e)) e) (useOffset tail m x + j) 0 ≡ getD (usesBy tail e (seenIn (vs ++ w ∷ [])) x) j 0)
+          (sym q) (own j) l)
           (λ d. other v j d b l)
           (same-or-not v w);
       keeps = λ p none.
@@ -210,7 +210,7 @@ filling {i = i} {spans} {tails} {index} {list} {old} r h q room f = record {
   room = subst (λ (z : ℕ). length (useList (tailOf spans tails) (pairsIn spans) z) ≤ length list) (sym q) (let l = f .laid .level in omega arith);
   so-far =
       subst (λ (z : ℕ). FilledTo (tailOf spans tails) (pairsIn spans) z i index list list) (sym q)
-        (record { lengths = f .lengths; laid = record { level = refl; holds = f .laid .holds; keeps = λ p none. refl } });
+      (record { lengths = f .lengths; laid = record { level = refl; holds = f .laid .holds; keeps = λ p none. refl } });
 }
 
 -- one hyperedge more

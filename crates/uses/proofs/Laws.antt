@@ -53,13 +53,6 @@ module _ {tail : ℕ → List ℕ} {m n : ℕ} {old : List ℕ} {total : ℕ} {i
   pub uses-end : (v : ℕ) → v < n → getD index (2 * v) 0 + getD index (2 * v + 1) 0 ≤ total
   uses-end v h = let a = offset-is v h in let b = length-is v h in let c = offset-end tail m v n h in let d = x .total-is in omega arith
 
-  pub uses-within : length (useList tail m n) ≤ length old → (v : ℕ) → v < n → getD index (2 * v) 0 + getD index (2 * v + 1) 0 ≤ length list
-  uses-within room v h =
-      let a = uses-end v h in
-      let d = x .total-is in
-      let l = ap length (x .list-is) ∙ length-filled (useList tail m n) old room in
-      omega arith
-
   -- a use by its number
   pub use-is : (v i : ℕ) → v < n → i < getD index (2 * v + 1) 0 → getD list (getD index (2 * v) 0 + i) 0 ≡ getD (usesBelow tail v m) i 0
   unfolding filled

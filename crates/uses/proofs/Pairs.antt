@@ -70,7 +70,7 @@ pairs-same f g f′ g′ n p q =
 pub pairs-of : (n : ℕ) (xs : List ℕ) → length xs ≡ 2 * n → xs ≡ pairs (λ v. getD xs (2 * v) 0) (λ v. getD xs (2 * v + 1) 0) n
 pairs-of n xs p =
     pairs-ext n xs _ p (length-pairs _ _ n) (λ v h. sym (pairs-first (λ v. getD xs (2 * v) 0) (λ v. getD xs (2 * v + 1) 0) n v h))
-      (λ v h. sym (pairs-second (λ v. getD xs (2 * v) 0) (λ v. getD xs (2 * v + 1) 0) n v h))
+    (λ v h. sym (pairs-second (λ v. getD xs (2 * v) 0) (λ v. getD xs (2 * v + 1) 0) n v h))
 
 -- the pair of w is stored anew, or its second place alone
 module _ (f g : ℕ → ℕ) (n w : ℕ) (h : w < n) (f′ g′ : ℕ → ℕ) (other : (v : ℕ) → (v ≡ w → ⊥) → g v ≡ g′ v) where
@@ -96,6 +96,6 @@ module _ (f g : ℕ → ℕ) (n w : ℕ) (h : w < n) (f′ g′ : ℕ → ℕ) (
       (λ v k. ⊎-elim
       (λ e. rw e (getD-set-same (set (pairs f g n) (2 * w) a) (2 * w + 1) b 0 (omega arith) ∙ p ∙ sym (pairs-second f′ g′ n w h)))
       (λ d. getD-set-other (set (pairs f g n) (2 * w) a) (2 * w + 1) (2 * v + 1) b 0 (λ e. d (omega arith))
-          ∙ getD-set-other (pairs f g n) (2 * w) (2 * v + 1) a 0 (λ e. omega arith) ∙ pairs-second f g n v k ∙ other v d
-          ∙ sym (pairs-second f′ g′ n v k))
+      ∙ getD-set-other (pairs f g n) (2 * w) (2 * v + 1) a 0 (λ e. omega arith) ∙ pairs-second f g n v k ∙ other v d
+      ∙ sym (pairs-second f′ g′ n v k))
       (same-or-not v w))

@@ -57,7 +57,7 @@ module _ {n : ℕ} {spans tails : List ℕ} {e : ℕ} (r : TailReadable n spans 
   pub one-more : i < getD spans (2 * e + 1) 0 → take (i + 1) (tailOf spans tails e) ≡ take i (tailOf spans tails e) ++ getD tails (getD spans (2 * e) 0 + i) 0 ∷ []
   one-more h =
       ap (λ (z : ℕ). take z (tailOf spans tails e)) (add-one i) ∙ take-suc (tailOf spans tails e) i 0 (omega (arith, tail-length))
-        ∙ ap (λ (z : ℕ). take i (tailOf spans tails e) ++ z ∷ []) (tail-vertex h)
+      ∙ ap (λ (z : ℕ). take i (tailOf spans tails e) ++ z ∷ []) (tail-vertex h)
 
   pub whole : getD spans (2 * e + 1) 0 ≤ i → take i (tailOf spans tails e) ≡ tailOf spans tails e
   whole h = take-all i (tailOf spans tails e) (omega (arith, tail-length))

@@ -251,9 +251,16 @@ module _ (A : Algebra) (c : Columns) (w d : ℕ → ℕ) (heads : (e : ℕ) → 
       -- e stays out of the lists
       pub went-stays : (d (headAt c e) ≡ 0 → noneZero d (tailAt c e) ≡ true) → Waiting A c w d s q′ busy′
       went-stays r =
-          record { lists =
-            W .lists; chained =
-              W .chained; covered = λ x a b z. go x a z (W .covered x a b z); apart = λ v x l z i b. W .apart v x l z i (fewer x b); grouped = grouped-still; offers = sources }
+          record {
+            lists =
+                W .lists;
+            chained =
+                W .chained;
+            covered = λ x a b z. go x a z (W .covered x a b z);
+            apart = λ v x l z i b. W .apart v x l z i (fewer x b);
+            grouped = grouped-still;
+            offers = sources;
+          }
         where
           now-there : (x : ℕ) → d (headAt c x) ≡ 0 → (x ≡ e) ⊎ busy′ x → Placed A c w d (W .lists) q′ busy′ x
           now-there x z (inr b) = kept b

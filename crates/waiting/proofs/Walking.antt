@@ -25,9 +25,16 @@ pub waiting-on : {A : Algebra} {c : Columns} {w d : ℕ → ℕ} {s : Lines} {q 
     → ((e : ℕ) → e < length (c .heads) → isStruck (ownAt c e) ≡ false → busy e → busy′ e) → ((e : ℕ) → busy′ e → busy e) → Waiting A c w d s q busy
     → Waiting A c w d s q busy′
 waiting-on f g W =
-    record { lists =
-      W .lists; chained =
-        W .chained; covered = λ e h u z. placed-on (f e h u) (W .covered e h u z); apart = λ v e h z i b. W .apart v e h z i (g e b); grouped = W .grouped; offers = W .offers }
+    record {
+      lists =
+          W .lists;
+      chained =
+          W .chained;
+      covered = λ e h u z. placed-on (f e h u) (W .covered e h u z);
+      apart = λ v e h z i b. W .apart v e h z i (g e b);
+      grouped = W .grouped;
+      offers = W .offers;
+    }
 
 module _ {m : Measure} {c : Columns} {ws ds : List ℕ} {s : Lines} {q : List ℕ} {v l : ℕ} (o : Offerable c ws ds q) (x : Waking m c ws ds s q v l) where
   abbrev W : Lines → List ℕ → List ℕ → Type 0
@@ -89,7 +96,7 @@ module _ {m : Measure} {c : Columns} {ws ds : List ℕ} {s : Lines} {q : List �
               on = record {
                 sizes =
                     pushed-sizes (algebra m) c (cell ws) (cell ds) s (cell (tailAt c l) i) l i j g (x .sizes) (edge-room o l (p .numbered))
-                      (omega (arith, few o l (p .numbered), tail-below o l (p .numbered) i b));
+                    (omega (arith, few o l (p .numbered), tail-below o l (p .numbered) i b));
                 made = x .made;
                 left = es;
                 chain = r′;

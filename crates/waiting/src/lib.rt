@@ -70,20 +70,21 @@ fn go_on(measure: Measure, from: Reached, tail: &[u64], weights: &[u64], depths:
 }
 
 // Hyperedge e is put first in the list of vertex v.
-fn link(e: Hyperedge, v: usize, first: &mut [u16], next: &mut [u16])
-    requires { ⌜ Linkable (now first) (now next) v (e .0) ⌝ }
-    ensures { λ r. ⌜ Linked (now (first .entry)) (now (next .entry)) v (e .0) (now (first .exit)) (now (next .exit)) ⌝ }
+fn link(e: Hyperedge, v: Vertex, first: &mut [u16], next: &mut [u16])
+    requires { ⌜ Linkable (now first) (now next) (v .0) (e .0) ⌝ }
+    ensures { λ r. ⌜ Linked (now (first .entry)) (now (next .entry)) (v .0) (e .0) (now (first .exit)) (now (next .exit)) ⌝ }
 {
     let i = e.0 as usize;
-    let before = first[v];
+    let place = v.0 as usize;
+    let before = first[place];
     next[i] = before;
-    first[v] = i as u16;
+    first[place] = i as u16;
 }
 
 // Hyperedge e waits for vertex v, having come so far.
 fn wait(
     e: Hyperedge,
-    v: usize,
+    v: Vertex,
     to: Reached,
     first: &mut [u16],
     next: &mut [u16],
@@ -91,11 +92,11 @@ fn wait(
     joined: &mut [u64],
     deepest: &mut [u16],
 )
-    requires { ⌜ Pushable (lines (now first) (now next) (now at) (now joined) (now deepest)) v (e .0) (to .at) (to .deepest) ⌝ }
+    requires { ⌜ Pushable (lines (now first) (now next) (now at) (now joined) (now deepest)) (v .0) (e .0) (to .at) (to .deepest) ⌝ }
     ensures { λ r.
         let s = lines (now (first .entry)) (now (next .entry)) (now (at .entry)) (now (joined .entry)) (now (deepest .entry)) in
         let s′ = lines (now (first .exit)) (now (next .exit)) (now (at .exit)) (now (joined .exit)) (now (deepest .exit)) in
-        ⌜ s′ ≡ pushed s v (e .0) (to .at) (to .joined .0) (to .deepest) ⌝ }
+        ⌜ s′ ≡ pushed s (v .0) (e .0) (to .at) (to .joined .0) (to .deepest) ⌝ }
 {
     let i = e.0 as usize;
     let weight = to.joined;
@@ -139,8 +140,8 @@ fn advance(
     let to = go_on(measure, from, &tails[offset..stop], weights, depths);
     let k = to.at;
     if k < size {
-        let v = tails[offset + k] as usize;
-        wait(e, v, to, first, next, at, joined, deepest);
+        let v = tails[offset + k];
+        wait(e, Vertex(v), to, first, next, at, joined, deepest);
         return;
     }
     let figure = own[i];
@@ -302,8 +303,8 @@ fn begin(
     let offset = spans[2 * i] as usize;
     let size = spans[2 * i + 1];
     if size != 0 {
-        let v = tails[offset] as usize;
-        link(e, v, first, next);
+        let v = tails[offset];
+        link(e, Vertex(v), first, next);
         return;
     }
     let unit = Weight::unit(measure);

@@ -100,7 +100,7 @@ listed-within vs j =
 
 pub tail-next : (vs old room : List ℕ) (j n r : ℕ) (new : List ℕ) → j < length vs → (w : Written (tailText (take j vs)) old n room) → length (tailText vs ++ 10 ∷ []) ≤ length old
     → Written (32 ∷ digits (getD vs j 0)) (lent (tailText (take j vs)) old n room w) r new
-        → Written (tailText (take (j + 1) vs)) old (n + r) (take n room ++ (new ++ drop (length room - n) (drop n room)))
+    → Written (tailText (take (j + 1) vs)) old (n + r) (take n room ++ (new ++ drop (length room - n) (drop n room)))
 tail-next vs old room j n r new h w l m =
     let q = one-listed vs j h in
     let a = listed-within vs (j + 1) in

@@ -12,8 +12,8 @@ is-next : (c : tie.After-unpack)
     → Found (c .unpack .result) ≡ here (c .before .before .before .before .before .before .before .before .before .before .before .before .before .before .before .before .before .pre)
 is-next c =
     found
-      (c .before .before .before .before .before .before .before .before .before .before .before .before .before .before .before .before .before .pre)
-      _ (c .before .before .least .ensures) (c .before .if1 .left) (c .unpack .ensures)
+    (c .before .before .before .before .before .before .before .before .before .before .before .before .before .before .before .before .before .pre)
+    _ (c .before .before .least .ensures) (c .before .if1 .left) (c .unpack .ensures)
 
 returns : tie.Need-returns
 returns c =
@@ -23,8 +23,8 @@ returns c =
 store-requires : tie.Need-store-requires
 store-requires c κs =
     placeable
-      (c .before .before .before .before .before .before .before .before .before .before .before .before .before .before .before .before .before .before .before .before .pre)
-      (is-next (c .before .before .before))
+    (c .before .before .before .before .before .before .before .before .before .before .before .before .before .before .before .before .before .before .before .before .pre)
+    (is-next (c .before .before .before))
 
 raise-requires : tie.Need-raise-requires
 raise-requires c κs =

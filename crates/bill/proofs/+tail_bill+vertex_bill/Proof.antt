@@ -58,9 +58,10 @@ tail-part-vertex-bill-end : (t : ℕ) → tail-lts.Need-part-vertex-bill-end (ve
 tail-part-vertex-bill-end t c = search needs
 
 tail-vertex-bill-requires : (t : ℕ) → tail-lts.Need-vertex-bill-requires (vertex-below t, vertex.Post, tail-below t, tail.Post) (tail-at t) tail.Post
-tail-vertex-bill-requires t c κs =
-    (omega (arith, c .before .before .before .before .before .before .before .before .pre .0),
-      first-fits (c .before .before .before .before .before .before .before .before .pre .1) (c .before .before .if1 .left))
+tail-vertex-bill-requires t c κs = (
+  omega (arith, c .before .before .before .before .before .before .before .before .pre .0),
+  first-fits (c .before .before .before .before .before .before .before .before .pre .1) (c .before .before .if1 .left),
+)
 
 tail-sub-tail-bill : (t : ℕ) → tail-lts.Need-sub-tail-bill (vertex-below t, vertex.Post, tail-below t, tail.Post) (tail-at t) tail.Post
 tail-sub-tail-bill t c = pos-of-ne-zero (c .before .before .before .before .before .if1 .left)
@@ -85,16 +86,16 @@ tail-tail-bill-requires t c κs =
 tail-same-length : (t : ℕ) → tail-lts.Need-same-length (vertex-below t, vertex.Post, tail-below t, tail.Post) (tail-at t) tail.Post
 tail-same-length t c =
     tail-kept
-      (c .before .before .before .before .before .before .before .before .before .before .before .before .before .before .before .before .pre .1)
-      (c .before .before .before .before .before .before .before .before .before .before .if1 .left)
-      (c .before .before .before .before .before .before .before .vertex-bill .ensures) (c .before .before .tail-bill .ensures)
+    (c .before .before .before .before .before .before .before .before .before .before .before .before .before .before .before .before .pre .1)
+    (c .before .before .before .before .before .before .before .before .before .before .if1 .left)
+    (c .before .before .before .before .before .before .before .vertex-bill .ensures) (c .before .before .tail-bill .ensures)
 
 tail-returns-2 : (t : ℕ) → tail-lts.Need-returns-2 (vertex-below t, vertex.Post, tail-below t, tail.Post) (tail-at t) tail.Post
 tail-returns-2 t c =
     tail-written
-      (c .before .before .before .before .before .before .before .before .before .before .before .before .before .before .before .before .pre .1)
-      (c .before .before .before .before .before .before .before .before .before .before .if1 .left)
-      (c .before .before .before .before .before .before .before .vertex-bill .ensures) (c .before .before .tail-bill .ensures)
+    (c .before .before .before .before .before .before .before .before .before .before .before .before .before .before .before .before .pre .1)
+    (c .before .before .before .before .before .before .before .before .before .before .if1 .left)
+    (c .before .before .before .before .before .before .before .vertex-bill .ensures) (c .before .before .tail-bill .ensures)
 
 vertex-mul-root : (t : ℕ) → vertex-lts.Need-mul-root (tail-of.Asked, tail-of.Learnt, tail-below t, tail.Post) (vertex-at t) vertex.Post
 vertex-mul-root t c = omega (arith, grounded _ _ _ _ _ (c .before .before .before .before .pre .1 .grounded) .vertex)
@@ -120,12 +121,12 @@ vertex-tail-bill-requires t c κs =
 vertex-same-length : (t : ℕ) → vertex-lts.Need-same-length (tail-of.Asked, tail-of.Learnt, tail-below t, tail.Post) (vertex-at t) vertex.Post
 vertex-same-length t c =
     vertex-kept (c .before .before .before .before .before .before .before .before .before .before .pre .1)
-      (c .before .before .before .before .tail-of .ensures) (c .before .before .tail-bill .ensures)
+    (c .before .before .before .before .tail-of .ensures) (c .before .before .tail-bill .ensures)
 
 vertex-returns : (t : ℕ) → vertex-lts.Need-returns (tail-of.Asked, tail-of.Learnt, tail-below t, tail.Post) (vertex-at t) vertex.Post
 vertex-returns t c =
     vertex-written (c .before .before .before .before .before .before .before .before .before .before .pre .1)
-      (c .before .before .before .before .tail-of .ensures) (c .before .before .tail-bill .ensures)
+    (c .before .before .before .before .tail-of .ensures) (c .before .before .tail-bill .ensures)
 
 pub +tail-bill+vertex-bill-spec : {M : Type 1} → statement M
 +tail-bill+vertex-bill-spec =

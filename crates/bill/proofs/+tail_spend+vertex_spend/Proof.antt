@@ -77,7 +77,7 @@ tail-tail-spend-requires t c κs =
 tail-returns-3 : (t : ℕ) → tail-lts.Need-returns-3 (vertex-below t, vertex.Post, tail-below t, tail.Post) (tail-at t) tail.Post
 tail-returns-3 t c =
     first-paid _ _ _ (c .before .before .before .before .before .before .before .if1 .left)
-      (sym (c .before .before .before .before .before .vertex-spend .ensures) ∙ c .before .before .before .b .given .1) (c .tail-spend .ensures)
+    (sym (c .before .before .before .before .before .vertex-spend .ensures) ∙ c .before .before .before .b .given .1) (c .tail-spend .ensures)
 
 vertex-returns : (t : ℕ) → vertex-lts.Need-returns (tail-of.Asked, tail-of.Learnt, tail-below t, tail.Post) (vertex-at t) vertex.Post
 vertex-returns t c = root-unpaid _ (grounded _ _ _ _ _ (c .before .before .before .before .pre .1) .lines) (c .if1 .taken)
@@ -100,17 +100,18 @@ vertex-sub-tail-spend-2 t c = search needs
 vertex-tail-spend-requires : (t : ℕ) → vertex-lts.Need-tail-spend-requires (tail-of.Asked, tail-of.Learnt, tail-below t, tail.Post) (vertex-at t) vertex.Post
 vertex-tail-spend-requires t c κs =
     let s = c .before .before .before .before .before .before in
-    let g = grounded _ _ _ _ _ (s .pre .1) in
-    (omega (arith, s .pre .0, g .deep, g .short, ap length (c .tail-of .ensures)),
-        subst (AllGrounded (s .args .spans .now) (s .args .tails .now) (s .args .edges .now) (s .args .depth - 1)) (sym (c .tail-of .ensures)) (g .below))
+    let g = grounded _ _ _ _ _ (s .pre .1) in (
+      omega (arith, s .pre .0, g .deep, g .short, ap length (c .tail-of .ensures)),
+      subst (AllGrounded (s .args .spans .now) (s .args .tails .now) (s .args .edges .now) (s .args .depth - 1)) (sym (c .tail-of .ensures)) (g .below),
+    )
 
 vertex-returns-2 : (t : ℕ) → vertex-lts.Need-returns-2 (tail-of.Asked, tail-of.Learnt, tail-below t, tail.Post) (vertex-at t) vertex.Post
 vertex-returns-2 t c =
     let a = c .before .before .before .before .before .before .before .args in
     let g = grounded _ _ _ _ _ (c .before .before .before .before .before .before .before .pre .1) in
     root-paid _ (g .lines) (c .before .before .before .if1 .left)
-        (c .tail-spend .ensures
-          ∙ ap (λ (vs : List ℕ). spend (a .budget - 1) (length (tailBill (a .spans .now) (a .tails .now) (a .edges .now) (a .depth - 1) vs))) (c .before .tail-of .ensures))
+    (c .tail-spend .ensures
+    ∙ ap (λ (vs : List ℕ). spend (a .budget - 1) (length (tailBill (a .spans .now) (a .tails .now) (a .edges .now) (a .depth - 1) vs))) (c .before .tail-of .ensures))
 
 pub +tail-spend+vertex-spend-spec : {M : Type 1} → statement M
 +tail-spend+vertex-spend-spec =

@@ -55,11 +55,15 @@ returns-7 c = let q = c .before .before .before .before in
     digits-over (a .text .now) (l .i) (a .limit) (q .digit2 .result) (omega arith) (q .digit2 .ensures) (l .v) (omega arith) (omega arith) (omega arith) ∙ l .inv .3
 
 loop-again : tie.Need-loop-again Inv-loop μ-loop
-loop-again c =
-    (omega arith, omega arith, omega arith, let q = c .before .before .before .before in
+loop-again c = (
+  omega arith,
+  omega arith,
+  omega arith,
+  let q = c .before .before .before .before in
       let a = q .before .before .before .before .before .before .before .before .before .before .args in
       let l = q .before .before .before .loop in
-      digits-next (a .text .now) (l .i) (a .limit) (q .digit2 .result) (omega arith) (q .digit2 .ensures) (l .v) (omega arith) (omega arith) (omega arith) ∙ l .inv .3)
+      digits-next (a .text .now) (l .i) (a .limit) (q .digit2 .result) (omega arith) (q .digit2 .ensures) (l .v) (omega arith) (omega arith) (omega arith) ∙ l .inv .3,
+)
 
 returns-8 : tie.Need-returns-8 Inv-loop μ-loop
 returns-8 c = digits-end _ _ _ _ (c .loop-test .left) ∙ c .before .loop .inv .3

@@ -23,7 +23,7 @@ returns c =
     let s = m .before .before .before .before .before .before .before .before .before .before .before .before in
     let a = s .args in
     append-measure (tableOf s) (usedCounts (a .lines) (a .listed)) (came s) (a .index .now) (a .list .now) (lineOf s) (a .counts .now)
-        (sym (m .measure-numbered .ensures) ∙ c .before .before .choice .given .1) (c .result .ensures)
+    (sym (m .measure-numbered .ensures) ∙ c .before .before .choice .given .1) (c .result .ensures)
 
 returns-2 : tie.Need-returns-2
 returns-2 c =
@@ -34,7 +34,7 @@ returns-2 c =
     let a = s .args in
     let measured = sym (m .measure-numbered .ensures) ∙ q .choice2 .given .1 in
     append-refused (tableOf s) (usedCounts (a .lines) (a .listed)) (came s) (a .index .now) (a .list .now) (lineOf s) (a .counts .now) measured
-        (p .append .ensures) (c .before .before .a .given .1) (c .result2 .ensures)
+    (p .append .ensures) (c .before .before .a .given .1) (c .result2 .ensures)
 
 returns-3 : tie.Need-returns-3
 returns-3 c =
@@ -47,7 +47,7 @@ returns-3 c =
     let a = s .args in
     let measured = sym (m .measure-numbered .ensures) ∙ q .choice2 .given .1 in
     append-counts (tableOf s) (usedCounts (a .lines) (a .listed)) (came s) (a .index .now) (a .list .now) (lineOf s) (a .counts .now) measured
-        (p .append .ensures) (p .a2 .given .1) (c .before .before .write-counts .ensures)
+    (p .append .ensures) (p .a2 .given .1) (c .before .before .write-counts .ensures)
 
 measure-numbered-requires : tie.Need-measure-numbered-requires
 measure-numbered-requires c κs = search needs

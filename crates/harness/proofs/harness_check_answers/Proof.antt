@@ -10,7 +10,7 @@ returns c = checked-refused _ _ (sym (c .before .before .before .before .measure
 returns-2 : tie.Need-returns-2
 returns-2 c =
     checked-measure _ _ (sym (c .before .before .before .before .before .measure-numbered .ensures) ∙ c .before .before .before .choice2 .given .1)
-      (c .result2 .ensures) (c .before .check-answers .ensures)
+    (c .result2 .ensures) (c .before .check-answers .ensures)
 
 pub harness-check-answers-spec : {M : Type 1} → statement M
 harness-check-answers-spec =

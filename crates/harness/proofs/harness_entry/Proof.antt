@@ -9,10 +9,12 @@ use Rattle.harness.proofs.harness_entry.Statement.{statement}
 use Rattle.harness.proofs.harness_entry.Tie as tie
 
 returns : tie.Need-returns
-returns c =
-    (c .state-number .ensures ∙ ap (λ (e : Entry). stateNumber (e .state)) (c .before .before .entry .ensures), let room =
+returns c = (
+  c .state-number .ensures ∙ ap (λ (e : Entry). stateNumber (e .state)) (c .before .before .entry .ensures),
+  let room =
       c .before .before .before .before .before .before .before .args .room .now in
-      unwritten (c .before .before .entry .result) room (c .before .if1 .taken) ∙ ap (λ (e : Entry). entryWritten e room) (c .before .before .entry .ensures))
+      unwritten (c .before .before .entry .result) room (c .before .if1 .taken) ∙ ap (λ (e : Entry). entryWritten e room) (c .before .before .entry .ensures),
+)
 
 slice-write-room-2 : tie.Need-slice-write-room-2
 slice-write-room-2 c = simp length-set (omega arith)
@@ -23,9 +25,11 @@ slice-write-room-3 c = simp length-set (omega arith)
 returns-2 : tie.Need-returns-2
 returns-2 c =
     let p = c .before .before .before .before in
-    let q = p .before .before .before .before .before in
-    (c .state-number2 .ensures ∙ ap (λ (e : Entry). stateNumber (e .state)) (p .entry .ensures), let room = q .args .room .now in
-        written (p .entry .result) room (c .before .before .before .if1 .left) ∙ ap (λ (e : Entry). entryWritten e room) (p .entry .ensures))
+    let q = p .before .before .before .before .before in (
+      c .state-number2 .ensures ∙ ap (λ (e : Entry). stateNumber (e .state)) (p .entry .ensures),
+      let room = q .args .room .now in
+          written (p .entry .result) room (c .before .before .before .if1 .left) ∙ ap (λ (e : Entry). entryWritten e room) (p .entry .ensures),
+    )
 
 pub harness-entry-spec : {M : Type 1} → statement M
 harness-entry-spec =

@@ -6,7 +6,7 @@ use Rattle.harness.proofs.harness_read_table.Tie as tie
 returns : tie.Need-returns
 returns c =
     read-refused _ (c .before .before .before .before .before .before .before .before .before .before .before .before .read-table .ensures)
-      (c .before .before .reading .given .1) (c .result .ensures)
+    (c .before .before .reading .given .1) (c .result .ensures)
 
 returns-2 : tie.Need-returns-2
 returns-2 c =

@@ -38,7 +38,7 @@ returns-3 c =
     let u = built e in
     let s = entry u in
     held-other-pairs (s .pre) (s .args .index .now) (s .args .list .now) (u .before .before .before .if1 .left) (u .index-uses .ensures)
-        (e .if2 .left) (sym (q .equal .ensures) ∙ not-true _ (c .if3 .taken))
+    (e .if2 .left) (sym (q .equal .ensures) ∙ not-true _ (c .if3 .taken))
 
 slice-reshare-prefix-equal : tie.Need-slice-reshare-prefix-equal
 slice-reshare-prefix-equal c =
@@ -67,7 +67,7 @@ returns-4 c =
     let s = entry u in
     let yes-pairs = sym (q .equal .ensures) ∙ not-false _ (k .if3 .left) in
     held-other-list (s .pre) (s .args .index .now) (s .args .list .now) (u .before .before .before .if1 .left) (u .index-uses .ensures)
-        (e .if2 .left) yes-pairs (sym (r .equal2 .ensures) ∙ not-true _ (c .if4 .taken))
+    (e .if2 .left) yes-pairs (sym (r .equal2 .ensures) ∙ not-true _ (c .if4 .taken))
 
 returns-5 : tie.Need-returns-5
 returns-5 c =
@@ -79,7 +79,7 @@ returns-5 c =
     let s = entry u in
     let yes-pairs = sym (q .equal .ensures) ∙ not-false _ (k .if3 .left) in
     held-right (s .pre) (s .args .index .now) (s .args .list .now) (u .before .before .before .if1 .left) (u .index-uses .ensures) (e .if2 .left)
-        yes-pairs (sym (r .equal2 .ensures) ∙ not-false _ (c .if4 .left))
+    yes-pairs (sym (r .equal2 .ensures) ∙ not-false _ (c .if4 .left))
 
 pub held-with-spec : {M : Type 1} → statement M
 held-with-spec =

@@ -37,7 +37,7 @@ put-requires c κs =
     let f = l .before .before .before in
     let o = listed f in
     pairs-fit (entry o .pre) (entry o .args .index .now) (entry o .args .list .now) (o .before .before .if1 .left)
-        (omega (arith, f .if2 .left, o .offsets .ensures .0)) (o .offsets .ensures .1) (l .fill .ensures)
+    (omega (arith, f .if2 .left, o .offsets .ensures .0)) (o .offsets .ensures .1) (l .fill .ensures)
 
 returns-3 : tie.Need-returns-3
 returns-3 c =
@@ -46,7 +46,7 @@ returns-3 c =
     let f = l .before .before .before in
     let o = listed f in
     all-laid (entry o .pre) (entry o .args .index .now) (entry o .args .list .now) (o .before .before .if1 .left)
-        (omega (arith, f .if2 .left, o .offsets .ensures .0)) (o .offsets .ensures .1) (l .fill .ensures) (o .offsets .ensures .0) (p .put .ensures)
+    (omega (arith, f .if2 .left, o .offsets .ensures .0)) (o .offsets .ensures .1) (l .fill .ensures) (o .offsets .ensures .0) (p .put .ensures)
 
 pub index-with-spec : {M : Type 1} → statement M
 index-with-spec =

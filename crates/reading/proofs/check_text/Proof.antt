@@ -46,8 +46,8 @@ returns-3 c =
     let e = a .before .before in
     let l = e .before .before in
     c .wrong3 .ensures
-        ∙ told _ (Wrong (l .loop .edges + 2))
-          (line-wrong _ _ _ _ _ _ (l .loop .inv .1) (e .before .loop-test .taken) (e .if1 .left) _ (l .loop .inv .0) _ (a .line-at .ensures .answer) (c .before .enum-told2 .given .1))
+    ∙ told _ (Wrong (l .loop .edges + 2))
+    (line-wrong _ _ _ _ _ _ (l .loop .inv .1) (e .before .loop-test .taken) (e .if1 .left) _ (l .loop .inv .0) _ (a .line-at .ensures .answer) (c .before .enum-told2 .given .1))
 
 -- a line was read
 next-line : (c : tie.After-known-told2 Inv-loop μ-loop) →
@@ -56,7 +56,7 @@ next-line : (c : tie.After-known-told2 Inv-loop μ-loop) →
     let f = l .before .before .first .given in
     (l .loop .at < c .before .line .given .0 .1 .1 .1 .0) × (c .before .line .given .0 .1 .1 .0 ≤ 16384 - l .loop .listed)
     × Scanning (l .before .before .before .before .before .before .args .text .now) (f .0 .0) (f .0 .1 .0) (c .before .line .given .0 .1 .1 .1 .0)
-        (l .loop .edges + 1) (l .loop .listed + c .before .line .given .0 .1 .1 .0)
+    (l .loop .edges + 1) (l .loop .listed + c .before .line .given .0 .1 .1 .0)
 next-line c =
     let a = c .before .before .before .before in
     let e = a .before .before in

@@ -58,7 +58,7 @@ returns-3 c =
     let t = c .before in
     let k = t .before .before in
     ap (λ (m : Measure). first.Read (k .before .found .given .0 .0) m (behind k + 1)) (c .default-measure .ensures)
-        ∙ count-silent _ _ _ _ (counted k) (ended t) ∙ opened (k .before .before .before .before)
+    ∙ count-silent _ _ _ _ (counted k) (ended t) ∙ opened (k .before .before .before .before)
 
 sub-starts-with : tie.Need-sub-starts-with
 sub-starts-with c = number-counts _ _ _ _ _ (counted (c .before .before)) .2
@@ -84,7 +84,7 @@ returns-4 c =
     let e = t .before .before .before .before in
     let k = e .before .before in
     ap (λ (m : Measure). first.Read (k .before .found .given .0 .0) m (behind k + 6)) (c .named-measure .ensures)
-        ∙ count-named _ _ _ _ (counted k) (unended e) (sym (named (t .before)) ∙ t .if3 .taken) ∙ opened (k .before .before .before .before)
+    ∙ count-named _ _ _ _ (counted k) (unended e) (sym (named (t .before)) ∙ t .if3 .taken) ∙ opened (k .before .before .before .before)
 
 returns-5 : tie.Need-returns-5
 returns-5 c = let e = c .before .before .before .before in

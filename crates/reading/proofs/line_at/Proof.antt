@@ -25,7 +25,7 @@ returns-2 c = let t = c .before .before .before .before in line-listed _ _ _ _ _
 returns-3 : tie.Need-returns-3
 returns-3 c = let t = c .before .before .before .before .before in
     line-listed _ _ _ _ _ _ _ _ _ (tail.Ends (c .before .tail .given .0 .0) (c .before .tail .given .0 .1 .0)) (stemmed (t .before .before))
-      (rw (c .before .tail .given .1) at (t .tail-at .ensures))
+    (rw (c .before .tail .given .1) at (t .tail-at .ensures))
 
 pub line-at-spec : {M : Type 1} → statement M
 line-at-spec =

@@ -31,7 +31,7 @@ returns-3 c =
     let e = f .before .before .before .before .before in
     let k = e .before .before in
     read-whole _ _ (held k) _ _ _ _ _ _ _ _ (sym (not-false _ (e .if1 .left)) ∙ e .before .room-for .ensures) (f .fill .ensures) _
-        (sym (k .before .reading .given .1) ∙ k .before .before .before .check-text .ensures)
+    (sym (k .before .reading .given .1) ∙ k .before .before .before .check-text .ensures)
 
 pub read-table-spec : {M : Type 1} → statement M
 read-table-spec =

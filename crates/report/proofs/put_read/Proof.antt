@@ -38,20 +38,20 @@ slice-aggregate-put-priced-7 c = let s = c .before .before .before .before .befo
 put-priced-requires : tie.Need-put-priced-requires
 put-priced-requires c κs = let s = c .before .before .before .before .before .before .before .before .before .before .before .before .before in
     subst (λ (z : List ℕ). length z ≤ length (s .args .room .now))
-      (sym
-        (priced-blank (s .args .header .measure)
-          (lentColumns (s .args .header) (s .args .heads .now) (s .args .own .now) (s .args .spans .now) (s .args .tails .now))
-          (s .args .header .vertices) (s .pre .few)))
-      (s .pre .fits)
+    (sym
+    (priced-blank (s .args .header .measure)
+    (lentColumns (s .args .header) (s .args .heads .now) (s .args .own .now) (s .args .spans .now) (s .args .tails .now))
+    (s .args .header .vertices) (s .pre .few)))
+    (s .pre .fits)
 
 returns : tie.Need-returns
 returns c = let p = c .before .before .before .before .before in
     let s = p .before .before .before .before .before .before .before .before .before .before .before .before .before .before in
     written-as _ _ _
-      (priced-blank (s .args .header .measure)
-        (lentColumns (s .args .header) (s .args .heads .now) (s .args .own .now) (s .args .spans .now) (s .args .tails .now))
-        (s .args .header .vertices) (s .pre .few))
-      (p .put-priced .ensures)
+    (priced-blank (s .args .header .measure)
+    (lentColumns (s .args .header) (s .args .heads .now) (s .args .own .now) (s .args .spans .now) (s .args .tails .now))
+    (s .args .header .vertices) (s .pre .few))
+    (p .put-priced .ensures)
 
 pub put-read-spec : {M : Type 1} → statement M
 put-read-spec =

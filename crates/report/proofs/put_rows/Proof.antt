@@ -26,8 +26,8 @@ sub-put-row c = let e = c in
     let l = e .before in
     let s = l .before .before .before .before .before .before in
     row-starts (answers (s .args .weights .now) (s .args .depths .now) (s .args .edges .now)) _ _ (l .before .loop .i)
-      (length (s .args .depths .now)) (l .before .loop .at) (l .loop-test .taken) (l .before .loop .inv .1) (s .pre) (e .entry .result)
-      (e .entry .ensures)
+    (length (s .args .depths .now)) (l .before .loop .at) (l .loop-test .taken) (l .before .loop .inv .1) (s .pre) (e .entry .result)
+    (e .entry .ensures)
 
 part-put-row-start : tie.Need-part-put-row-start Inv-loop μ-loop
 part-put-row-start c = let r = sub-put-row c in search (needs, r)
@@ -37,18 +37,19 @@ put-row-requires c κs = let e = c .before in
     let l = e .before in
     let s = l .before .before .before .before .before .before in
     row-room (answers (s .args .weights .now) (s .args .depths .now) (s .args .edges .now)) _ _ (l .before .loop .i) (length (s .args .depths .now))
-      (l .before .loop .at) (l .loop-test .taken) (l .before .loop .inv .1) (s .pre) (e .entry .result) (e .entry .ensures)
+    (l .before .loop .at) (l .loop-test .taken) (l .before .loop .inv .1) (s .pre) (e .entry .result) (e .entry .ensures)
 
 loop-again : tie.Need-loop-again Inv-loop μ-loop
 loop-again c =
     let p = c .before .before in
     let e = p .before .before in
     let l = e .before in
-    let s = l .before .before .before .before .before .before in
-    (omega arith,
-        row-next (answers (s .args .weights .now) (s .args .depths .now) (s .args .edges .now)) _ _ (l .before .loop .i)
+    let s = l .before .before .before .before .before .before in (
+      omega arith,
+      row-next (answers (s .args .weights .now) (s .args .depths .now) (s .args .edges .now)) _ _ (l .before .loop .i)
           (length (s .args .depths .now)) (l .before .loop .at) (l .loop-test .taken) (l .before .loop .inv .1) (s .pre) (e .entry .result)
-          (e .entry .ensures) _ _ (p .put-row .ensures))
+          (e .entry .ensures) _ _ (p .put-row .ensures),
+    )
 
 add-at : tie.Need-add-at Inv-loop μ-loop
 add-at c =
@@ -56,8 +57,8 @@ add-at c =
     let s = l .before .before .before .before .before .before in
     let w = loop-again c .1 .count in
     let b =
-        rows-within (answers (s .args .weights .now) (s .args .depths .now) (s .args .edges .now)) (l .before .loop .i + 1)
-          (length (s .args .depths .now)) (let t = l .loop-test .taken in omega arith) in
+    rows-within (answers (s .args .weights .now) (s .args .depths .now) (s .args .edges .now)) (l .before .loop .i + 1)
+    (length (s .args .depths .now)) (let t = l .loop-test .taken in omega arith) in
     let p = s .pre in
     omega (arith, s .good)
 

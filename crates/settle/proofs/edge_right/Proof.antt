@@ -17,8 +17,8 @@ offer-requires c κs =
 -- the head has its place in the columns
 inside : (c : tie.After-offer)
     → getD (c .before .before .before .before .before .before .before .before .before .args .heads .now)
-        (c .before .before .before .before .before .before .before .before .before .args .e .0) 0 < length
-        (c .before .before .before .before .before .before .before .before .before .args .depths .now)
+    (c .before .before .before .before .before .before .before .before .before .args .e .0) 0 < length
+    (c .before .before .before .before .before .before .before .before .before .args .depths .now)
 inside c = head-in (c .before .before .before .before .before .before .before .before .before .pre .0 .usable) _ (c .before .before .before .before .before .before .before .before .before .pre .1)
 
 mul-weight : tie.Need-mul-weight

@@ -28,8 +28,8 @@ returns-4 c = rw (ne-eqb _ _ (c .before .before .before .before .if1 .left), lt-
 offer-requires : tie.Need-offer-requires
 offer-requires c κs =
     edge-in
-      (c .before .before .before .before .before .before .before .before .before .before .before .before .before .before .before .pre .0 .usable) _
-      (c .before .before .before .if3 .left)
+    (c .before .before .before .before .before .before .before .before .before .before .before .before .before .before .before .pre .0 .usable) _
+    (c .before .before .before .if3 .left)
 
 returns-5 : tie.Need-returns-5
 unfolding vertexRight

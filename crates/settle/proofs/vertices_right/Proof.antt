@@ -28,7 +28,7 @@ abbrev tested : tie.At-loop Inv-loop μ-loop → ℕ → Bool
 tested l =
     let a = l .before .before .before .before .before .before .before .before .args in
     vertexRight (algebra (a .measure)) (hypergraph (lent (a .heads .now) (a .own .now) (a .spans .now) (a .tails .now) (a .depths .now)))
-        (cell (a .own .now)) (labels (answers (a .weights .now) (a .depths .now) (a .edges .now)))
+    (cell (a .own .now)) (labels (answers (a .weights .now) (a .depths .now) (a .edges .now)))
 
 loop-holds : tie.Need-loop-holds Inv-loop μ-loop
 unfolding every

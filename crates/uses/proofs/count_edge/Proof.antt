@@ -129,8 +129,8 @@ returns c =
     let s = c .before .before .before .before in
     c .before .loop .inv .1
     ∙ ap
-        (λ (vs : List ℕ). countedBy (tailOf (s .args .spans .now) (s .args .tails .now)) (s .args .e .0) (seenIn vs) (pairsIn (s .args .index .now)))
-        (whole (s .pre .readable .each (s .args .e .0) (s .pre .numbered)) (c .before .loop .i) (c .loop-test .left))
+    (λ (vs : List ℕ). countedBy (tailOf (s .args .spans .now) (s .args .tails .now)) (s .args .e .0) (seenIn vs) (pairsIn (s .args .index .now)))
+    (whole (s .pre .readable .each (s .args .e .0) (s .pre .numbered)) (c .before .loop .i) (c .loop-test .left))
     ∙ count-last _ _ _
 
 pub count-edge-spec : {M : Type 1} → statement M

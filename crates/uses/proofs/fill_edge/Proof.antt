@@ -73,10 +73,14 @@ sized c = let l = c .before in size-is _ _ _ _ (start l .pre .numbered) (passed 
 ends : (c : tie.In-loop Inv-loop μ-loop) → from (c .before) + many (c .before) ≤ length (c .before .loop .list)
 ends c =
     let l = c .before in
-    omega
-        (arith, starts c, sized c,
-          end-within _ _ _ _ (start l .pre .numbered) (passed l) (vertex l) (below c) (among l) (listed c) (l .loop .inv .1), start l .pre .room,
-          l .loop .inv .1 .laid .level)
+    omega (
+      arith,
+      starts c,
+      sized c,
+      end-within _ _ _ _ (start l .pre .numbered) (passed l) (vertex l) (below c) (among l) (listed c) (l .loop .inv .1),
+      start l .pre .room,
+      l .loop .inv .1 .laid .level,
+    )
 
 -- whether the vertex was passed before
 seen : (c : tie.In-loop Inv-loop μ-loop) → endsIn (c .before .loop .list) (from (c .before)) (many (c .before)) (start (c .before) .args .e .0) ≡ member (vertex (c .before)) (passed (c .before))
@@ -90,7 +94,7 @@ kept : (c : tie.Joined1 Inv-loop μ-loop) {ix ls : List ℕ} → c .if1 .index �
     let l = c .before .before .before .before .before .before .before in
     let s = start l .args in
     FilledBy (tail l) (pairsIn (s .spans .now)) (pairsIn (s .index .now)) (s .e .0) (seenIn (passed l ++ vertex l ∷ [])) ix ls (s .list .now)
-        → FilledBy (tail l) (pairsIn (s .spans .now)) (pairsIn (s .index .now)) (s .e .0) (seenIn (passed l ++ vertex l ∷ [])) (c .if1 .index) (c .if1 .list) (s .list .now)
+    → FilledBy (tail l) (pairsIn (s .spans .now)) (pairsIn (s .index .now)) (s .e .0) (seenIn (passed l ++ vertex l ∷ [])) (c .if1 .index) (c .if1 .list) (s .list .now)
 kept c p q f =
     let l = c .before .before .before .before .before .before .before in
     let s = start l .args in
@@ -100,10 +104,13 @@ free : (c : tie.Then1 Inv-loop μ-loop) → let l = c .before .before .before .b
 free c =
     let d = c .before .before .before .before .before .before in
     let l = d .before in
-    omega
-        (arith, starts d, sized d,
-          place-free _ _ _ _ (start l .pre .numbered) (passed l) (vertex l) (below d) (among l) (listed d) (l .loop .inv .1) (sym (told (c .before)) ∙ not-true _ (c .if1 .taken)),
-          start l .pre .room)
+    omega (
+      arith,
+      starts d,
+      sized d,
+      place-free _ _ _ _ (start l .pre .numbered) (passed l) (vertex l) (below d) (among l) (listed d) (l .loop .inv .1) (sym (told (c .before)) ∙ not-true _ (c .if1 .taken)),
+      start l .pre .room,
+    )
 
 loop-holds : tie.Need-loop-holds Inv-loop μ-loop
 loop-holds c = (omega arith, fill-first _ _ _ _ _ _ _ (c .before .before .before .before .before .before .pre .so-far))
@@ -185,9 +192,9 @@ loop-again c =
       subst (λ (vs : List ℕ). FilledBy (tail l) (pairsIn (s .spans .now)) (pairsIn (s .index .now)) (s .e .0) (seenIn vs) (c .if1 .index) (c .if1 .list) (s .list .now)) (sym o)
           (⊎-elim
           (λ w. kept c (w .1) (w .2)
-              (fill-new _ _ _ _ (start l .pre .numbered) (passed l) (vertex l) (below d) (among l) (listed d) (l .loop .inv .1) (sym (told (c .before)) ∙ not-true _ (w .0 .taken)) room))
+          (fill-new _ _ _ _ (start l .pre .numbered) (passed l) (vertex l) (below d) (among l) (listed d) (l .loop .inv .1) (sym (told (c .before)) ∙ not-true _ (w .0 .taken)) room))
           (λ w. kept c (w .1) (w .2)
-              (fill-again _ _ _ _ (start l .pre .numbered) (passed l) (vertex l) (below d) (among l) (listed d) (l .loop .inv .1) (sym (told (c .before)) ∙ not-false _ (w .0 .left))))
+          (fill-again _ _ _ _ (start l .pre .numbered) (passed l) (vertex l) (below d) (among l) (listed d) (l .loop .inv .1) (sym (told (c .before)) ∙ not-false _ (w .0 .left))))
           (c .if1 .came)),
     )
 
@@ -202,10 +209,10 @@ returns c =
     let l = c .before in
     let s = start l in
     fill-last _ _ _ _ _ _ _
-        (subst
-          (λ (vs : List ℕ). FilledBy (tail l) (pairsIn (s .args .spans .now)) (pairsIn (s .args .index .now)) (s .args .e .0) (seenIn vs)
-            (l .loop .index) (l .loop .list) (s .args .list .now))
-          (whole (tail-in s) (l .loop .i) (c .loop-test .left)) (l .loop .inv .1))
+    (subst
+    (λ (vs : List ℕ). FilledBy (tail l) (pairsIn (s .args .spans .now)) (pairsIn (s .args .index .now)) (s .args .e .0) (seenIn vs)
+    (l .loop .index) (l .loop .list) (s .args .list .now))
+    (whole (tail-in s) (l .loop .i) (c .loop-test .left)) (l .loop .inv .1))
 
 pub fill-edge-spec : {M : Type 1} → statement M
 fill-edge-spec =

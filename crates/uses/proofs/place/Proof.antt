@@ -60,9 +60,13 @@ add-sum : tie.Need-add-sum Inv-loop μ-loop
 add-sum c =
     let l = c .before .before in
     let ix = l .before .args .index .now in
-    omega
-        (arith, l .before .pre .fits, running-mono ix (l .loop .v + 1) (pairsIn ix) (omega arith), running-next ix (l .loop .v),
-          place-count ix (l .loop .v) (pairsIn ix) (c .before .loop-test .taken) (l .loop .inv .1 .1))
+    omega (
+      arith,
+      l .before .pre .fits,
+      running-mono ix (l .loop .v + 1) (pairsIn ix) (omega arith),
+      running-next ix (l .loop .v),
+      place-count ix (l .loop .v) (pairsIn ix) (c .before .loop-test .taken) (l .loop .inv .1 .1),
+    )
 
 add-v : tie.Need-add-v Inv-loop μ-loop
 add-v c = omega arith

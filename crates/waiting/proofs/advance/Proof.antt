@@ -22,19 +22,19 @@ use Rattle.waiting.proofs.Steps.{passable, edge-few, head-key, tails-fe
 -- as far as the tail goes, or to a vertex that is unmade
 gone : (c : tie.After-go-on) → let a = c .before .before .before .before .before .before .before .before .before .before .before .before .before .before .before .before .args in
     Gone (algebra (a .measure)) (cell (a .weights .now)) (cell (a .depths .now))
-      (tailAt (lent (a .heads .now) (a .own .now) (a .spans .now) (a .tails .now) (a .depths .now)) (a .e .0)) (c .go-on .result .at)
-      (c .go-on .result .joined .0) (c .go-on .result .deepest)
+    (tailAt (lent (a .heads .now) (a .own .now) (a .spans .now) (a .tails .now) (a .depths .now)) (a .e .0)) (c .go-on .result .at)
+    (c .go-on .result .joined .0) (c .go-on .result .deepest)
 gone c = rw span-length at (c .go-on .ensures)
 
 -- the length of the tail
 long : (c : tie.After-go-on) → let a = c .before .before .before .before .before .before .before .before .before .before .before .before .before .before .before .before .args in
     length (tailAt (lent (a .heads .now) (a .own .now) (a .spans .now) (a .tails .now) (a .depths .now)) (a .e .0)) ≡ lengthAt
-      (lent (a .heads .now) (a .own .now) (a .spans .now) (a .tails .now) (a .depths .now)) (a .e .0)
+    (lent (a .heads .now) (a .own .now) (a .spans .now) (a .tails .now) (a .depths .now)) (a .e .0)
 long c =
     tail-length
-      (c .before .before .before .before .before .before .before .before .before .before .before .before .before .before .before .before .pre .0)
-      (c .before .before .before .before .before .before .before .before .before .before .before .before .before .before .before .before .args .e .0)
-      (c .before .before .before .before .before .before .before .before .before .before .before .before .before .before .before .before .pre .1 .numbered)
+    (c .before .before .before .before .before .before .before .before .before .before .before .before .before .before .before .before .pre .0)
+    (c .before .before .before .before .before .before .before .before .before .before .before .before .before .before .before .before .args .e .0)
+    (c .before .before .before .before .before .before .before .before .before .before .before .before .before .before .before .before .pre .1 .numbered)
 
 further : (c : tie.Then1) → let a = c .before .before .before .before .before .before .before .before .before .before .before .before .before .before .before .before .before .args in
     c .before .go-on .result .at < length (tailAt (lent (a .heads .now) (a .own .now) (a .spans .now) (a .tails .now) (a .depths .now)) (a .e .0))
@@ -42,14 +42,14 @@ further c = omega (arith, long (c .before), c .if1 .taken)
 
 vertex : (c : tie.Then1) → let a = c .before .before .before .before .before .before .before .before .before .before .before .before .before .before .before .before .before .args in
     cell (tailAt (lent (a .heads .now) (a .own .now) (a .spans .now) (a .tails .now) (a .depths .now)) (a .e .0))
-      (c .before .go-on .result .at) ≡ cell (a .tails .now)
-      (offsetAt (lent (a .heads .now) (a .own .now) (a .spans .now) (a .tails .now) (a .depths .now)) (a .e .0) + c .before .go-on .result .at)
+    (c .before .go-on .result .at) ≡ cell (a .tails .now)
+    (offsetAt (lent (a .heads .now) (a .own .now) (a .spans .now) (a .tails .now) (a .depths .now)) (a .e .0) + c .before .go-on .result .at)
 vertex c =
     tail-at
-      (c .before .before .before .before .before .before .before .before .before .before .before .before .before .before .before .before .before .pre .0)
-      (c .before .before .before .before .before .before .before .before .before .before .before .before .before .before .before .before .before .args .e .0)
-      (c .before .before .before .before .before .before .before .before .before .before .before .before .before .before .before .before .before .pre .1 .numbered)
-      (c .before .go-on .result .at) (c .if1 .taken)
+    (c .before .before .before .before .before .before .before .before .before .before .before .before .before .before .before .before .before .pre .0)
+    (c .before .before .before .before .before .before .before .before .before .before .before .before .before .before .before .before .before .args .e .0)
+    (c .before .before .before .before .before .before .before .before .before .before .before .before .before .before .before .before .before .pre .1 .numbered)
+    (c .before .go-on .result .at) (c .if1 .taken)
 
 finished : (c : tie.Else1) → let a = c .before .before .before .before .before .before .before .before .before .before .before .before .before .before .before .before .before .args in
     length (tailAt (lent (a .heads .now) (a .own .now) (a .spans .now) (a .tails .now) (a .depths .now)) (a .e .0)) ≤ c .before .go-on .result .at
@@ -59,15 +59,15 @@ finished c = omega (arith, long (c .before), c .if1 .left)
 is-open : (c : tie.After-struct-known) → let a =
     c .before .before .before .before .before .before .before .before .before .before .before .before .before .before .before .before .before .before .before .before .before .args in
     Found (label (c .before .finish .result .0) (c .before .before .before .before .before .go-on .result .deepest + 1) (a .e .0)) ≡ opening
-      (algebra (a .measure)) (hypergraph (lent (a .heads .now) (a .own .now) (a .spans .now) (a .tails .now) (a .depths .now))) (cell (a .own .now))
-      (cell (a .weights .now)) (cell (a .depths .now)) (a .e .0)
+    (algebra (a .measure)) (hypergraph (lent (a .heads .now) (a .own .now) (a .spans .now) (a .tails .now) (a .depths .now))) (cell (a .own .now))
+    (cell (a .weights .now)) (cell (a .depths .now)) (a .e .0)
 is-open c =
     let a = c .before .before .before .before .before .before .before .before .before .before .before .before .before .before .before .before .before .before .before .before .before .args in
     ap (λ (z : ℕ). Found (label z (c .before .before .before .before .before .go-on .result .deepest + 1) (a .e .0))) (c .before .finish .ensures)
     ∙ end-open (algebra (a .measure)) (lent (a .heads .now) (a .own .now) (a .spans .now) (a .tails .now) (a .depths .now)) (cell (a .weights .now))
-        (cell (a .depths .now)) (a .e .0) (gone (c .before .before .before .before .before) .passed) (finished (c .before .before .before .before))
-        (c .before .before .before .before .before .before .before .before .before .before .before .before .before .before .before .before .before .before .before .before .before .pre .1 .unstruck)
-        (c .before .before .before .before .before .before .before .before .before .before .before .before .before .before .before .before .before .before .before .before .before .pre .1 .fresh)
+    (cell (a .depths .now)) (a .e .0) (gone (c .before .before .before .before .before) .passed) (finished (c .before .before .before .before))
+    (c .before .before .before .before .before .before .before .before .before .before .before .before .before .before .before .before .before .before .before .before .before .pre .1 .unstruck)
+    (c .before .before .before .before .before .before .before .before .before .before .before .before .before .before .before .before .before .before .before .before .before .pre .1 .fresh)
 
 shared-slice-read-offset : tie.Need-shared-slice-read-offset
 shared-slice-read-offset c =
@@ -128,8 +128,8 @@ returns c =
     let r = q .before in
     let s = r .before .before .before .before .before .before .before .before .before .before .before .before .before .before .before .before in
     let a = s .args in
-        went-on (algebra (a .measure)) (lent (a .heads .now) (a .own .now) (a .spans .now) (a .tails .now) (a .depths .now)) (cell (a .weights .now))
-          (cell (a .depths .now)) (a .e .0) (a .queue .now) _ _ _ _ (gone (r)) (further (q)) (vertex (q)) (p .wait .ensures)
+    went-on (algebra (a .measure)) (lent (a .heads .now) (a .own .now) (a .spans .now) (a .tails .now) (a .depths .now)) (cell (a .weights .now))
+    (cell (a .depths .now)) (a .e .0) (a .queue .now) _ _ _ _ (gone (r)) (further (q)) (vertex (q)) (p .wait .ensures)
 
 shared-slice-read-figure : tie.Need-shared-slice-read-figure
 shared-slice-read-figure c =
@@ -152,7 +152,7 @@ mul-h c =
 lower-requires : tie.Need-lower-requires
 lower-requires c κs =
     let p =
-        c .before .before .before .before .before .before .before .before .before .before .before .before .before .before .before .before .before .before .before .before .before .before .before .before in
+    c .before .before .before .before .before .before .before .before .before .before .before .before .before .before .before .before .before .before .before .before .before .before .before .before in
     (p .pre .0 .sized, head-key (p .pre .0) (p .args .e .0) (p .pre .1 .numbered))
 
 returns-2 : tie.Need-returns-2
@@ -163,11 +163,11 @@ returns-2 c =
     let s = r .before in
     let u = s .before .before .before .before .before .before .before .before .before .before .before .before .before .before .before .before in
     let a = u .args in
-        went-out (algebra (a .measure)) (lent (a .heads .now) (a .own .now) (a .spans .now) (a .tails .now) (a .depths .now))
-          (cell (a .weights .now)) (cell (a .depths .now)) (a .e .0)
-          (lines (a .first .now) (a .next .now) (a .at .now) (a .joined .now) (a .deepest .now)) _ _ _ (gone (s)) (finished (r))
-          (c .before .before .lower .ensures ∙ ap (λ (z : ℕ). lowered (a .queue .now) (cell (a .heads .now) (a .e .0)) z) (p .pack .ensures)
-            ∙ ap (offered (a .queue .now) (cell (a .heads .now) (a .e .0))) (is-open (q)))
+    went-out (algebra (a .measure)) (lent (a .heads .now) (a .own .now) (a .spans .now) (a .tails .now) (a .depths .now))
+    (cell (a .weights .now)) (cell (a .depths .now)) (a .e .0)
+    (lines (a .first .now) (a .next .now) (a .at .now) (a .joined .now) (a .deepest .now)) _ _ _ (gone (s)) (finished (r))
+    (c .before .before .lower .ensures ∙ ap (λ (z : ℕ). lowered (a .queue .now) (cell (a .heads .now) (a .e .0)) z) (p .pack .ensures)
+    ∙ ap (offered (a .queue .now) (cell (a .heads .now) (a .e .0))) (is-open (q)))
 
 pub advance-spec : {M : Type 1} → statement M
 advance-spec =

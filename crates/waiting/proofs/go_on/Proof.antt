@@ -64,7 +64,7 @@ loop-again c =
     subst (λ (g : ℕ). Carried A w d tail (i + 1) (c .before .joining .result) g) (sym (c .deeper .ensures))
     (subst (λ (j : ℕ). Carried A w d tail (i + 1) j (max (l .loop .deepest) (d (cell tail i)))) (sym (c .before .joining .ensures))
     (carried-more (s .args .measure) w d tail i (l .loop .joined .0) (l .loop .deepest) (l .loop .inv) (p .loop-test .taken)
-        (c .before .before .before .if1 .left) (s .pre .0 .legible .shallow (cell tail i)) (s .pre .0 .light (cell tail i))))
+    (c .before .before .before .if1 .left) (s .pre .0 .legible .shallow (cell tail i)) (s .pre .0 .light (cell tail i))))
 
 returns-2 : tie.Need-returns-2 Inv-loop μ-loop
 returns-2 c = record { passed = c .before .loop .inv; stopped = λ h. absurd (omega (arith, c .loop-test .left)) }

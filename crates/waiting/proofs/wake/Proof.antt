@@ -23,10 +23,13 @@ shared-slice-read-if1 c =
 
 returns : tie.Need-returns
 returns c = let a = c .before .before .before .before .before .before .before .before .before .before .before .before .before .before .before .args in
-    record { moved =
-      stays refl (λ z. absurd (c .if1 .taken z)); heard =
-        heard-made (algebra (a .measure)) (lent (a .heads .now) (a .own .now) (a .spans .now) (a .tails .now) (a .depths .now))
-          (cell (a .weights .now)) (cell (a .depths .now)) (a .e .0) (a .queue .now) (c .if1 .taken) }
+    record {
+      moved =
+          stays refl (λ z. absurd (c .if1 .taken z));
+      heard =
+          heard-made (algebra (a .measure)) (lent (a .heads .now) (a .own .now) (a .spans .now) (a .tails .now) (a .depths .now))
+          (cell (a .weights .now)) (cell (a .depths .now)) (a .e .0) (a .queue .now) (c .if1 .taken);
+    }
 
 slice-read-place : tie.Need-slice-read-place
 slice-read-place c =

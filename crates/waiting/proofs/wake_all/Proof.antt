@@ -21,9 +21,13 @@ abbrev μ-loop : tie.MeasureT-loop
 queued : (c : tie.At-loop Inv-loop μ-loop) → let a = c .before .before .before .before .before .before .before .before .before .before .before .before .before .before .args in
     Offerable (lent (a .heads .now) (a .own .now) (a .spans .now) (a .tails .now) (a .depths .now)) (a .weights .now) (a .depths .now) (c .loop .queue)
 queued c =
-    record { usable =
-      c .before .before .before .before .before .before .before .before .before .before .before .before .before .before .pre .0 .usable; fitted =
-        c .before .before .before .before .before .before .before .before .before .before .before .before .before .before .pre .0 .fitted; sized = c .loop .inv .waiting .grouped .sized }
+    record {
+      usable =
+          c .before .before .before .before .before .before .before .before .before .before .before .before .before .before .pre .0 .usable;
+      fitted =
+          c .before .before .before .before .before .before .before .before .before .before .before .before .before .before .pre .0 .fitted;
+      sized = c .loop .inv .waiting .grouped .sized;
+    }
 
 -- what is walked to is a hyperedge
 low : (c : tie.In-loop Inv-loop μ-loop) → c .before .loop .l < 4096
@@ -77,12 +81,12 @@ loop-again c =
 same-length : tie.Need-same-length Inv-loop μ-loop
 same-length c =
     c .before .loop .inv .sizes .first
-      ∙ sym (c .before .before .before .before .before .before .before .before .before .before .before .before .before .before .before .pre .1 .1 .sizes .first)
+    ∙ sym (c .before .before .before .before .before .before .before .before .before .before .before .before .before .before .before .pre .1 .1 .sizes .first)
 
 same-length-2 : tie.Need-same-length-2 Inv-loop μ-loop
 same-length-2 c =
     c .before .loop .inv .sizes .next
-      ∙ sym (c .before .before .before .before .before .before .before .before .before .before .before .before .before .before .before .pre .1 .1 .sizes .next)
+    ∙ sym (c .before .before .before .before .before .before .before .before .before .before .before .before .before .before .before .pre .1 .1 .sizes .next)
 
 same-length-3 : tie.Need-same-length-3 Inv-loop μ-loop
 same-length-3 c =
@@ -91,17 +95,17 @@ same-length-3 c =
 same-length-4 : tie.Need-same-length-4 Inv-loop μ-loop
 same-length-4 c =
     c .before .loop .inv .sizes .joined
-      ∙ sym (c .before .before .before .before .before .before .before .before .before .before .before .before .before .before .before .pre .1 .1 .sizes .joined)
+    ∙ sym (c .before .before .before .before .before .before .before .before .before .before .before .before .before .before .before .pre .1 .1 .sizes .joined)
 
 same-length-5 : tie.Need-same-length-5 Inv-loop μ-loop
 same-length-5 c =
     c .before .loop .inv .sizes .deepest
-      ∙ sym (c .before .before .before .before .before .before .before .before .before .before .before .before .before .before .before .pre .1 .1 .sizes .deepest)
+    ∙ sym (c .before .before .before .before .before .before .before .before .before .before .before .before .before .before .before .pre .1 .1 .sizes .deepest)
 
 same-length-6 : tie.Need-same-length-6 Inv-loop μ-loop
 same-length-6 c =
     c .before .loop .inv .waiting .grouped .sized
-      ∙ sym (c .before .before .before .before .before .before .before .before .before .before .before .before .before .before .before .pre .0 .sized)
+    ∙ sym (c .before .before .before .before .before .before .before .before .before .before .before .before .before .before .before .pre .0 .sized)
 
 returns : tie.Need-returns Inv-loop μ-loop
 returns c = rested (queued (c .before)) (c .before .loop .inv) (c .loop-test .left)

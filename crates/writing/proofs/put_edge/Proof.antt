@@ -38,8 +38,8 @@ returns c =
     let k = p .before .before in
     let s = k .before .before .before .before .before .before in
     written-as _ _ _ (sym (line-split (edge (s .args .head .0) (s .args .own .0) (s .args .tail .now))))
-        (written-part (digits (s .args .head .0) ++ (32 ∷ ownText (s .args .own .0))) _ _ _ (k .before .before .put-stem .ensures)
-          (tailText (s .args .tail .now) ++ 10 ∷ []) _ _ (whole s) (p .put-tail .ensures))
+    (written-part (digits (s .args .head .0) ++ (32 ∷ ownText (s .args .own .0))) _ _ _ (k .before .before .put-stem .ensures)
+    (tailText (s .args .tail .now) ++ 10 ∷ []) _ _ (whole s) (p .put-tail .ensures))
 
 add-result : tie.Need-add-result
 add-result c =

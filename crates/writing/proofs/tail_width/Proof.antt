@@ -25,7 +25,7 @@ measured : (c : tie.After-number-width Inv-loop μ-loop) →
     let l = c .before .before .before in
     let vs = l .before .before .args .tail .now in
     (c .number-width .result ≤ mostVertices) × (l .loop .width + (1 + c .number-width .result) ≡ length (tailText (take (l .loop .j + 1) vs)) + 1)
-        × (l .loop .j < length vs) × (length vs ≤ longestTail)
+    × (l .loop .j < length vs) × (length vs ≤ longestTail)
 measured c =
     let l = c .before .before .before in
     let vs = l .before .before .args .tail .now in
