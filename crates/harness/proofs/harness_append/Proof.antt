@@ -38,16 +38,15 @@ returns-2 c =
 
 returns-3 : tie.Need-returns-3
 returns-3 c =
-    let p = c .before .before .before .before .before in
-    let q = p .before .before .before .before .before .before .before .before .before .before .before .before .before .before .before .before .before .before .before .before in
-    let p = q in
+    let o = c .before .before .before .before .before in
+    let p = o .before .before .before .before .before .before .before .before .before .before .before .before .before .before .before .before .before .before .before .before in
     let q = p .before .before .before .before .before .before .before .before .before .before .before in
     let m = q .before .before in
     let s = m .before .before .before .before .before .before .before .before .before .before .before .before in
     let a = s .args in
     let measured = sym (m .measure-numbered .ensures) ∙ q .choice2 .given .1 in
     append-counts (tableOf s) (usedCounts (a .lines) (a .listed)) (came s) (a .index .now) (a .list .now) (lineOf s) (a .counts .now) measured
-    (p .append .ensures) (p .a2 .given .1) (c .before .before .write-counts .ensures)
+    (p .append .ensures) (o .a2 .given .1) (c .before .before .write-counts .ensures)
 
 measure-numbered-requires : tie.Need-measure-numbered-requires
 measure-numbered-requires c κs = search needs
