@@ -1,4 +1,5 @@
--- Figures: the marks among them, and the capped sum. The paper's "The table" (own figures, struck) and "Make-ups, figures, depth" (ceiling, over).
+-- Figures and strike marks: their limits, and the capped sum. The paper's "The table" (own figures, struck; document 02, 2026-02: strike marks) and "Make-ups, figures,
+-- depth" (ceiling, over).
 -- Assumes nothing: these are definitions.
 use Prim.Native.Nat.{ℕ, min}
 use mathlib.Core.Bool.{Bool}
@@ -8,9 +9,15 @@ use lib.Dec.{eqb}
 abbrev pub greatest : ℕ
 greatest = 1_000_000_000
 
--- the mark of a line that is struck
-abbrev pub struck : ℕ
-struck = 1_000_000_001
+-- the paper's strike mark of a line, which is no figure: 0, it stands, or 1, it is struck
+abbrev pub standing : ℕ
+standing = 0
+
+abbrev pub struckMark : ℕ
+struckMark = 1
+
+abbrev pub isStruckMark : ℕ → Bool
+isStruckMark x = eqb x struckMark
 
 -- the greatest sum
 abbrev pub ceiling : ℕ
@@ -23,9 +30,6 @@ over = 1_000_000_000_001
 -- "A sum above the ceiling, 1,000,000,000,000, becomes 1,000,000,000,001": `over` is the number behind the ceiling, so it is the least of the sum and `over`
 abbrev pub capped : ℕ → ℕ
 capped x = min x over
-
-abbrev pub isStruck : ℕ → Bool
-isStruck x = eqb x struck
 
 abbrev pub isOver : ℕ → Bool
 isOver x = eqb x over

@@ -2,7 +2,7 @@
 // made of them.
 ghost use mathlib.Core.Path.{_≡_};
 ghost use Prim.Native.Nat.{_+_, max};
-ghost use Rattle.weights.specs.Figures.{isStruck, isOver, capped};
+ghost use Rattle.weights.specs.Figures.{isStruckMark, isOver, capped};
 ghost use Rattle.weights.specs.Measures.{algebra};
 ghost use Rattle.weights.specs.Labels.{aheadOf, stateOf, entryOf};
 
@@ -24,20 +24,11 @@ impl Weight {
     // The greatest own weight of a hyperedge.
     pub const GREATEST: Weight = Weight(1000000000);
 
-    // The mark, in place of an own weight, of a hyperedge that is struck.
-    pub const STRUCK: Weight = Weight(1000000001);
-
     // The greatest sum.
     pub const CEILING: Weight = Weight(1000000000000);
 
     // What a sum above the ceiling becomes.
     pub const OVER: Weight = Weight(1000000000001);
-
-    pub fn is_struck(self) -> bool
-        ensures { λ r. ⌜ r ≡ isStruck (self .0) ⌝ }
-    {
-        self.0 == Weight::STRUCK.0
-    }
 
     pub fn is_over(self) -> bool
         ensures { λ r. ⌜ r ≡ isOver (self .0) ⌝ }
@@ -107,6 +98,21 @@ impl Weight {
             Measure::Cost => self.0 <= other.0,
             Measure::Days => self.0 <= other.0,
         }
+    }
+}
+
+// The paper's strike mark of a line: it stands, or is struck. A mark is never taken for a figure.
+pub struct Mark(pub u64);
+
+impl Mark {
+    pub const STANDS: Mark = Mark(0);
+
+    pub const STRUCK: Mark = Mark(1);
+
+    pub fn is_struck(self) -> bool
+        ensures { λ r. ⌜ r ≡ isStruckMark (self .0) ⌝ }
+    {
+        self.0 == Mark::STRUCK.0
     }
 }
 
