@@ -5,19 +5,19 @@ use mathlib.Core.List.{List, [], _∷_}
 use Prim.Native.Nat.{ℕ}
 use lib.ListN.{getD}
 use Rattle.refusal.specs.declared.Refusal.{Refusal}
-use Rattle.refusal.specs.declared.Refusal.the-variants.{TooManyVertices, Lengths, Head, Own, Span, Tail, AnswerLength, WrongAnswers, NoSuchEdge, NewWeight, NoSuchVertex, Underivable, BillRoom, Text, TextRoom, MeasureNumber, InputLength, ColumnRoom, WrongIndex}
+use Rattle.refusal.specs.declared.Refusal.the-variants.{TooManyVertices, Lengths, Head, Own, Span, Tail, AnswerLength, WrongAnswers, NoSuchEdge, NewWeight, NoSuchVertex, Underivable, BillRoom, Text, TextRoom, MeasureNumber, InputLength, ColumnRoom, WrongIndex, NotStruck, StrikeMark}
 use Rattle.refusal.specs.declared.Code.{Code}
 use Rattle.refusal.specs.Refusals.{codeOf}
 
 -- the refusals with place p, by number, from 1 on
 abbrev numberedAt : ℕ → List Refusal
 numberedAt p =
-    WrongIndex ∷ TooManyVertices ∷ Lengths ∷ Head (record { 0 = p }) ∷ Own (record { 0 = p }) ∷ Span (record { 0 = p }) ∷ Tail (record { 0 = p })
+    NotStruck ∷ TooManyVertices ∷ Lengths ∷ Head (record { 0 = p }) ∷ Own (record { 0 = p }) ∷ Span (record { 0 = p }) ∷ Tail (record { 0 = p })
     ∷ AnswerLength ∷ WrongAnswers ∷ NoSuchEdge ∷ NewWeight ∷ NoSuchVertex ∷ Underivable ∷ BillRoom ∷ Text (record { 0 = p }) ∷ TextRoom ∷ MeasureNumber
-    ∷ InputLength ∷ ColumnRoom ∷ []
+    ∷ InputLength ∷ ColumnRoom ∷ WrongIndex ∷ NotStruck ∷ StrikeMark (record { 0 = p }) ∷ []
 
 abbrev refusalOf : Code → Refusal
-refusalOf c = getD (numberedAt (c .place)) (c .number) WrongIndex
+refusalOf c = getD (numberedAt (c .place)) (c .number) NotStruck
 
 refusal-code : (r : Refusal) → refusalOf (codeOf r) ≡ r
 refusal-code TooManyVertices = refl
@@ -39,6 +39,8 @@ refusal-code MeasureNumber = refl
 refusal-code InputLength = refl
 refusal-code ColumnRoom = refl
 refusal-code WrongIndex = refl
+refusal-code NotStruck = refl
+refusal-code (StrikeMark e) = refl
 
 pub codes-differ : (r s : Refusal) → codeOf r ≡ codeOf s → r ≡ s
 codes-differ r s e = sym (refusal-code r) ∙ ap refusalOf e ∙ refusal-code s

@@ -16,7 +16,7 @@ pub enum Refusal {
     Lengths,
     // 3: a head that is not a vertex.
     Head(Hyperedge),
-    // 4: an own weight above the struck mark.
+    // 4: an own weight above the greatest.
     Own(Hyperedge),
     // 5: a span that starts too early, is too long, or passes the column's end.
     Span(Hyperedge),
@@ -48,6 +48,10 @@ pub enum Refusal {
     ColumnRoom,
     // 19: an index that is not this table's.
     WrongIndex,
+    // 20: a named hyperedge that is not struck, to be restored.
+    NotStruck,
+    // 21: a strike mark other than 0 and 1.
+    StrikeMark(Hyperedge),
 }
 
 // A refusal's number, and its place: the hyperedge or the text line that it names, else 0.
@@ -89,6 +93,8 @@ impl Refusal {
             Refusal::InputLength => Code::of(17, 0),
             Refusal::ColumnRoom => Code::of(18, 0),
             Refusal::WrongIndex => Code::of(19, 0),
+            Refusal::NotStruck => Code::of(20, 0),
+            Refusal::StrikeMark(e) => Code::of(21, e.0),
         }
     }
 

@@ -64,11 +64,21 @@ returns-18 c = c .of18 .ensures ∙ sym (ap codeOf (c .before .enum-told13 .give
 returns-19 : tie.Need-returns-19
 returns-19 c = c .of19 .ensures ∙ sym (ap codeOf (c .before .enum-told14 .given .1))
 
+returns-20 : tie.Need-returns-20
+returns-20 c = c .of20 .ensures ∙ sym (ap codeOf (c .before .enum-told15 .given .1))
+
+returns-21 : tie.Need-returns-21
+returns-21 c = c .of21 .ensures ∙ sym (ap codeOf (c .before .before .self6 .given .1))
+
 pub code-spec : {M : Type 1} → statement M
 code-spec =
     tie.close
     (tie.spec
     enum-told
+    (λ c κs. search needs)
+    (λ c. search needs)
+    (λ c κs. search needs)
+    (λ c. search needs)
     (λ c κs. search needs)
     (λ c. search needs)
     (λ c κs. search needs)
@@ -124,4 +134,6 @@ code-spec =
     returns-16
     returns-17
     returns-18
-    returns-19)
+    returns-19
+    returns-20
+    returns-21)
