@@ -11,12 +11,12 @@ use lib.Seq.{getD-take, getD-drop}
 use lib.Dec.{ltb}
 use borrow.Author.Tests.{ltb-true, leb-true, eqb-true, lt-ltb, le-leb, eq-eqb}
 use Rattle.weights.specs.declared.Hyperedge.{Hyperedge}
-use Rattle.weights.specs.Figures.{struck}
+use Rattle.weights.specs.Figures.{greatest, struckMark}
 use Rattle.weights.proofs.Choice.{both-true}
 use Rattle.refusal.specs.declared.Refusal.{Refusal}
 use Rattle.refusal.specs.declared.Acceptance.{Acceptance}
 use Rattle.refusal.specs.declared.Acceptance.the-variants.{Accepted, Refused}
-use Rattle.columns.specs.Columns.{Answers, Sized, Columns, headAt, ownAt, offsetAt, lengthAt, part}
+use Rattle.columns.specs.Columns.{Answers, Sized, Columns, headAt, ownAt, strikeAt, offsetAt, lengthAt, part}
 use Rattle.columns.specs.Acceptance.{mostVertices, mostEdges, mostListed, longestTail, test, andThen, allBelow, edgeAcceptance, edgeAt, edgesAcceptance, acceptance, lentAcceptance}
 
 pub refused : {r : Refusal} → Refused r ≡ Accepted → ⊥
@@ -56,39 +56,45 @@ part-below n offset size xs h p =
     subst (λ (x : ℕ). x < n) (sym (part-at offset size xs k l)) (below-at n xs p (offset + k) (omega arith)))
 
 -- a line that is accepted
-pub record AcceptedEdge (n h o offset size end : ℕ) (tails : List ℕ) : Type 0 where
+pub record AcceptedEdge (n h o m offset size end : ℕ) (tails : List ℕ) : Type 0 where
   pub head : h < n
-  pub own : o ≤ struck
+  pub own : o ≤ greatest
+  pub mark : m ≤ struckMark
   pub from : end ≤ offset
   pub short : size ≤ longestTail
   pub within : offset + size ≤ length tails
   pub listed : allBelow n (part offset size tails) ≡ true
 
-pub edge-accepted : (n : ℕ) (e : Hyperedge) (h o offset size end : ℕ) (tails : List ℕ) → edgeAcceptance n e h o offset size end tails ≡ Accepted → AcceptedEdge n h o offset size end tails
+pub edge-accepted : (n : ℕ) (e : Hyperedge) (h o m offset size end : ℕ) (tails : List ℕ) → edgeAcceptance n e h o m offset size end tails ≡ Accepted
+    → AcceptedEdge n h o m offset size end tails
 unfolding edgeAcceptance
-edge-accepted n e h o offset size end tails p =
+edge-accepted n e h o m offset size end tails p =
     let t1 = test-passed _ _ _ p in
     let t2 = test-passed _ _ _ (t1 .1) in
     let t3 = test-passed _ _ _ (t2 .1) in
     let t4 = test-passed _ _ _ (t3 .1) in
     let t5 = test-passed _ _ _ (t4 .1) in
     let t6 = test-passed _ _ _ (t5 .1) in
+    let t7 = test-passed _ _ _ (t6 .1) in
     record {
       head = ltb-true _ _ (t1 .0);
       own = leb-true _ _ (t2 .0);
-      from = leb-true _ _ (t3 .0);
-      short = leb-true _ _ (t4 .0);
-      within = leb-true _ _ (t5 .0);
-      listed = t6 .0;
+      mark = leb-true _ _ (t3 .0);
+      from = leb-true _ _ (t4 .0);
+      short = leb-true _ _ (t5 .0);
+      within = leb-true _ _ (t6 .0);
+      listed = t7 .0;
     }
 
-pub edge-accepts : {n h o offset size end : ℕ} {tails : List ℕ} (e : Hyperedge) → AcceptedEdge n h o offset size end tails → edgeAcceptance n e h o offset size end tails ≡ Accepted
+pub edge-accepts : {n h o m offset size end : ℕ} {tails : List ℕ} (e : Hyperedge) → AcceptedEdge n h o m offset size end tails
+    → edgeAcceptance n e h o m offset size end tails ≡ Accepted
 unfolding edgeAcceptance
-edge-accepts e g = rw (lt-ltb _ _ (g .head), le-leb _ _ (g .own), le-leb _ _ (g .from), le-leb _ _ (g .short), le-leb _ _ (g .within), g .listed)
+edge-accepts e g =
+    rw (lt-ltb _ _ (g .head), le-leb _ _ (g .own), le-leb _ _ (g .mark), le-leb _ _ (g .from), le-leb _ _ (g .short), le-leb _ _ (g .within), g .listed)
 
 -- line e of the columns is accepted, where the span before it ends somewhere
 abbrev pub AcceptedAt : Columns → ℕ → Type 0
-AcceptedAt c e = (end : ℕ) × AcceptedEdge (c .vertices) (headAt c e) (ownAt c e) (offsetAt c e) (lengthAt c e) end (c .tails)
+AcceptedAt c e = (end : ℕ) × AcceptedEdge (c .vertices) (headAt c e) (ownAt c e) (strikeAt c e) (offsetAt c e) (lengthAt c e) end (c .tails)
 
 edges-accepted : (c : Columns) (left e end : ℕ) → edgesAcceptance c left e end ≡ Accepted → (x : ℕ) → e ≤ x → x < e + left → AcceptedAt c x
 unfolding edgesAcceptance
@@ -96,7 +102,7 @@ edges-accepted c zero e end p x h l = absurd (omega arith)
 edges-accepted c (suc left) e end p x h l =
     let t = both-accepted (edgeAt c e end) (edgesAcceptance c left (e + 1) (offsetAt c e + lengthAt c e)) p in
     ⊎-elim
-    (λ q. subst (AcceptedAt c) q (end, edge-accepted _ _ _ _ _ _ _ _ (t .0)))
+    (λ q. subst (AcceptedAt c) q (end, edge-accepted _ _ _ _ _ _ _ _ _ (t .0)))
     (λ q. edges-accepted c left (e + 1) (offsetAt c e + lengthAt c e) (t .1) x (omega arith) (omega arith))
     (eq-or-lt-of-le h)
 
@@ -104,6 +110,7 @@ edges-accepted c (suc left) e end p x h l =
 pub record AcceptedTable (c : Columns) : Type 0 where
   pub few : c .vertices ≤ mostVertices
   pub own : length (c .own) ≡ length (c .heads)
+  pub strikes : length (c .strikes) ≡ length (c .heads)
   pub edges : length (c .heads) ≤ mostEdges
   pub spans : length (c .spans) ≡ 2 * length (c .heads)
   pub tails : length (c .tails) ≤ mostListed
@@ -118,14 +125,16 @@ table-accepted c p =
     let t3 = test-passed _ _ _ (t2 .1) in
     let t4 = test-passed _ _ _ (t3 .1) in
     let t5 = test-passed _ _ _ (t4 .1) in
+    let t6 = test-passed _ _ _ (t5 .1) in
     record {
       few = leb-true _ _ (t1 .0);
       own = eqb-true _ _ (t2 .0);
-      edges = leb-true _ _ (t3 .0);
-      spans = eqb-true _ _ (t4 .0);
-      tails = leb-true _ _ (t5 .0);
-      rest = t5 .1;
-      each = λ e h. edges-accepted c (length (c .heads)) 0 0 (t5 .1) e (omega arith) (omega arith);
+      strikes = eqb-true _ _ (t3 .0);
+      edges = leb-true _ _ (t4 .0);
+      spans = eqb-true _ _ (t5 .0);
+      tails = leb-true _ _ (t6 .0);
+      rest = t6 .1;
+      each = λ e h. edges-accepted c (length (c .heads)) 0 0 (t6 .1) e (omega arith) (omega arith);
     }
 
 -- an accepted table with answer columns of its length

@@ -1,4 +1,4 @@
--- A table is accepted exactly if it is right, and refused by r exactly if r is the first refusal that applies: of "What is turned away", 1 to 6. Assumes nothing.
+-- A table is accepted exactly if it is right, and refused by r exactly if r is the first refusal that applies: of "What is turned away", 1 to 6 and 21. Assumes nothing.
 use mathlib.Core.Path.{_≡_, refl, sym, _∙_, ap, subst}
 use mathlib.Core.Bool.{Bool, true, false}
 use mathlib.Core.Logic.{_↔_, ⊎-elim}
@@ -9,14 +9,14 @@ use native.Mathlib.Omega.{arith}
 use lib.ListN.{length}
 use lib.Dec.{ltb, leb, eqb}
 use borrow.Author.Tests.{ltb-true, ltb-false, leb-true, leb-false, eqb-true, eqb-false, lt-ltb, le-ltb, le-leb, lt-leb, eq-eqb}
-use Rattle.weights.specs.Figures.{struck}
+use Rattle.weights.specs.Figures.{greatest, struckMark}
 use Rattle.refusal.specs.declared.Refusal.{Refusal}
 use Rattle.refusal.specs.declared.Acceptance.{Acceptance}
 use Rattle.refusal.specs.declared.Acceptance.the-variants.{Accepted, Refused}
-use Rattle.columns.specs.Columns.{Answers, Columns, headAt, ownAt, offsetAt, lengthAt, tailAt}
+use Rattle.columns.specs.Columns.{Answers, Columns, headAt, ownAt, strikeAt, offsetAt, lengthAt, tailAt}
 use Rattle.columns.specs.Acceptance.{mostVertices, mostEdges, mostListed, longestTail, test, allBelow, edgeAcceptance, edgeAt, edgesAcceptance, acceptance, lentAcceptance}
 use Rattle.columns.proofs.Accepted.{both-accepted, below-at, below-all, part-at, part-length, edge-accepted, edge-accepts, table-accepted, columns-accepted, columns-accept}
-use Rattle.columns.specs.Right.{Few, Level, endBefore, RightHead, RightOwn, RightSpan, RightTail, RightEdge, RightTable, WrongEdge, FirstWrong, WrongTable, RightLent, WrongLent}
+use Rattle.columns.specs.Right.{Few, Level, endBefore, RightHead, RightOwn, RightMark, RightSpan, RightTail, RightEdge, RightTable, WrongEdge, FirstWrong, WrongTable, RightLent, WrongLent}
 use Rattle.columns.proofs.Refuses.{Refuses, none-refuses, test-refuses, then-refuses}
 
 -- of tests that refuse alike one fails
@@ -40,14 +40,22 @@ module _ (c : Columns) (e : ℕ) where
 
   edge-right : edgeAt c e (endBefore c e) ≡ Accepted → RightEdge c e
   edge-right p =
-      let g = edge-accepted _ _ _ _ _ _ _ _ p in
+      let g = edge-accepted _ _ _ _ _ _ _ _ _ p in
       let s : RightSpan c e = record { from = g .from; short = g .short; within = g .within } in
-      record { head = g .head; own = g .own; span = s; tail = listed-right s (g .listed) }
+      record { head = g .head; own = g .own; mark = g .mark; span = s; tail = listed-right s (g .listed) }
 
   right-edge : RightEdge c e → edgeAt c e (endBefore c e) ≡ Accepted
   right-edge g =
       let s = g .span in
-      edge-accepts _ (record { head = g .head; own = g .own; from = s .from; short = s .short; within = s .within; listed = right-listed s (g .tail) })
+      edge-accepts _ (record {
+        head = g .head;
+        own = g .own;
+        mark = g .mark;
+        from = s .from;
+        short = s .short;
+        within = s .within;
+        listed = right-listed s (g .tail);
+      })
 
   not-both : {A : Type 0} → true ≡ false → A
   not-both q = let z : _≡_ {A = ℕ} 0 1 = cc in absurd (omega arith)
@@ -62,27 +70,33 @@ module _ (c : Columns) (e : ℕ) where
       let all = length (c .tails) in
       test-refuses (ltb (headAt c e) n) _ _ (λ b. WrongEdge.head (λ h. omega (arith, ltb-false (headAt c e) n b, h))) (λ b.
       let h : RightHead c e = ltb-true (headAt c e) n b in
-      test-refuses (leb (ownAt c e) struck) _ _ (λ b. WrongEdge.own h (λ o. omega (arith, leb-false (ownAt c e) struck b, o))) (λ b.
-      let o : RightOwn c e = leb-true (ownAt c e) struck b in
-      test-refuses (leb (endBefore c e) off) _ _ (λ b. WrongEdge.span h o (λ s. omega (arith, leb-false (endBefore c e) off b, s .from))) (λ f.
-      test-refuses (leb len longestTail) _ _ (λ b. WrongEdge.span h o (λ s. omega (arith, leb-false len longestTail b, s .short))) (λ l.
-      test-refuses (leb (off + len) all) _ _ (λ b. WrongEdge.span h o (λ s. omega (arith, leb-false (off + len) all b, s .within))) (λ w.
+      test-refuses (leb (ownAt c e) greatest) _ _ (λ b. WrongEdge.own h (λ o. omega (arith, leb-false (ownAt c e) greatest b, o))) (λ b.
+      let o : RightOwn c e = leb-true (ownAt c e) greatest b in
+      test-refuses (leb (strikeAt c e) struckMark) _ _ (λ b. WrongEdge.mark h o (λ m. omega (arith, leb-false (strikeAt c e) struckMark b, m))) (λ b.
+      let m : RightMark c e = leb-true (strikeAt c e) struckMark b in
+      test-refuses (leb (endBefore c e) off) _ _ (λ b. WrongEdge.span h o m (λ s. omega (arith, leb-false (endBefore c e) off b, s .from))) (λ f.
+      test-refuses (leb len longestTail) _ _ (λ b. WrongEdge.span h o m (λ s. omega (arith, leb-false len longestTail b, s .short))) (λ l.
+      test-refuses (leb (off + len) all) _ _ (λ b. WrongEdge.span h o m (λ s. omega (arith, leb-false (off + len) all b, s .within))) (λ w.
       let s : RightSpan c e = record { from = leb-true (endBefore c e) off f; short = leb-true len longestTail l; within = leb-true (off + len) all w } in
-      test-refuses (allBelow n (tailAt c e)) _ _ (λ b. WrongEdge.tail h o s (λ t. not-both (sym (right-listed s t) ∙ b))) (λ _. none-refuses))))))
+      test-refuses (allBelow n (tailAt c e)) _ _ (λ b. WrongEdge.tail h o m s (λ t. not-both (sym (right-listed s t) ∙ b))) (λ _. none-refuses)))))))
 
   wrong-edge : {r : Refusal} → WrongEdge c e r → edgeAt c e (endBefore c e) ≡ Refused r
   unfolding edgeAcceptance
   wrong-edge (WrongEdge.head n) = rw (le-ltb (headAt c e) (c .vertices) (omega (arith, n)))
-  wrong-edge (WrongEdge.own h n) = rw (lt-ltb (headAt c e) (c .vertices) h, lt-leb (ownAt c e) struck (omega (arith, n)))
-  wrong-edge (WrongEdge.span h o n) =
-      rw (lt-ltb (headAt c e) (c .vertices) h, le-leb (ownAt c e) struck o)
+  wrong-edge (WrongEdge.own h n) = rw (lt-ltb (headAt c e) (c .vertices) h, lt-leb (ownAt c e) greatest (omega (arith, n)))
+  wrong-edge (WrongEdge.mark h o n) =
+      rw (lt-ltb (headAt c e) (c .vertices) h, le-leb (ownAt c e) greatest o, lt-leb (strikeAt c e) struckMark (omega (arith, n)))
+  wrong-edge (WrongEdge.span h o m n) =
+      rw (lt-ltb (headAt c e) (c .vertices) h, le-leb (ownAt c e) greatest o, le-leb (strikeAt c e) struckMark m)
       (one-fails (leb (endBefore c e) (offsetAt c e)) _ _ (λ f.
       one-fails (leb (lengthAt c e) longestTail) _ _ (λ l.
       one-fails (leb (offsetAt c e + lengthAt c e) (length (c .tails))) _ _ (λ w.
       absurd (n (record { from = leb-true _ _ f; short = leb-true _ _ l; within = leb-true _ _ w }))))))
-  wrong-edge (WrongEdge.tail h o s n) =
+  wrong-edge (WrongEdge.tail h o m s n) =
       let q : allBelow (c .vertices) (tailAt c e) ≡ false = below-false (allBelow (c .vertices) (tailAt c e)) refl in
-      rw (lt-ltb (headAt c e) (c .vertices) h, le-leb (ownAt c e) struck o, le-leb _ _ (s .from), le-leb _ _ (s .short), le-leb _ _ (s .within), q)
+      let u = le-leb (ownAt c e) greatest o in
+      let v = le-leb (strikeAt c e) struckMark m in
+      rw (lt-ltb (headAt c e) (c .vertices) h, u, v, le-leb _ _ (s .from), le-leb _ _ (s .short), le-leb _ _ (s .within), q)
     where
       below-false : (b : Bool) → allBelow (c .vertices) (tailAt c e) ≡ b → b ≡ false
       below-false true p = absurd (n (listed-right s p))
@@ -137,7 +151,7 @@ module _ (c : Columns) where
       let t = table-accepted c p in
       record {
         few = t .few;
-        level = record { own = t .own; edges = t .edges; spans = t .spans; tails = t .tails };
+        level = record { own = t .own; strikes = t .strikes; edges = t .edges; spans = t .spans; tails = t .tails };
         each = λ e h. edges-right (length (c .heads)) 0 (t .rest) e (omega arith) (omega arith);
       }
 
@@ -145,7 +159,7 @@ module _ (c : Columns) where
   unfolding acceptance
   right-accepted t =
       let l = t .level in
-      rw (le-leb _ _ (t .few), eq-eqb _ _ (l .own), le-leb _ _ (l .edges), eq-eqb _ _ (l .spans), le-leb _ _ (l .tails))
+      rw (le-leb _ _ (t .few), eq-eqb _ _ (l .own), eq-eqb _ _ (l .strikes), le-leb _ _ (l .edges), eq-eqb _ _ (l .spans), le-leb _ _ (l .tails))
       (right-edges (length (c .heads)) 0 (λ x h l. t .each x (omega arith)))
 
   refused-wrong : Refuses (WrongTable c) (acceptance c)
@@ -153,18 +167,26 @@ module _ (c : Columns) where
   refused-wrong =
       let n = c .vertices in
       let own = length (c .own) in
+      let strikes = length (c .strikes) in
       let m = length (c .heads) in
       let spans = length (c .spans) in
       let tails = length (c .tails) in
       test-refuses (leb n mostVertices) _ _ (λ b. WrongTable.many (λ f. omega (arith, leb-false n mostVertices b, f))) (λ b.
       let f : Few c = leb-true n mostVertices b in
       test-refuses (eqb own m) _ _ (λ b. WrongTable.unlevel f (λ l. eqb-false own m b (l .own))) (λ o.
+      test-refuses (eqb strikes m) _ _ (λ b. WrongTable.unlevel f (λ l. eqb-false strikes m b (l .strikes))) (λ k.
       test-refuses (leb m mostEdges) _ _ (λ b. WrongTable.unlevel f (λ l. omega (arith, leb-false m mostEdges b, l .edges))) (λ e.
       test-refuses (eqb spans (2 * m)) _ _ (λ b. WrongTable.unlevel f (λ l. eqb-false spans (2 * m) b (l .spans))) (λ s.
       test-refuses (leb tails mostListed) _ _ (λ b. WrongTable.unlevel f (λ l. omega (arith, leb-false tails mostListed b, l .tails))) (λ t.
-      let l : Level c = record { own = eqb-true own m o; edges = leb-true m mostEdges e; spans = eqb-true spans (2 * m) s; tails = leb-true tails mostListed t } in
+      let l : Level c = record {
+        own = eqb-true own m o;
+        strikes = eqb-true strikes m k;
+        edges = leb-true m mostEdges e;
+        spans = eqb-true spans (2 * m) s;
+        tails = leb-true tails mostListed t;
+      } in
       let w = edges-wrong m 0 (omega arith) (λ x h. absurd (omega arith)) in
-      record { holds = λ q. let x = w .holds q in WrongTable.edge f l (x .0) (x .1) })))))
+      record { holds = λ q. let x = w .holds q in WrongTable.edge f l (x .0) (x .1) }))))))
 
   wrong-refused : {r : Refusal} → WrongTable c r → acceptance c ≡ Refused r
   unfolding acceptance
@@ -173,15 +195,24 @@ module _ (c : Columns) where
       let m = length (c .heads) in
       rw (le-leb (c .vertices) mostVertices f)
       (one-fails (eqb (length (c .own)) m) _ _ (λ o.
+      one-fails (eqb (length (c .strikes)) m) _ _ (λ k.
       one-fails (leb m mostEdges) _ _ (λ e.
       one-fails (eqb (length (c .spans)) (2 * m)) _ _ (λ s.
       one-fails (leb (length (c .tails)) mostListed) _ _ (λ t.
-      absurd (n (record { own = eqb-true _ _ o; edges = leb-true _ _ e; spans = eqb-true _ _ s; tails = leb-true _ _ t })))))))
+      let l : Level c = record {
+        own = eqb-true _ _ o;
+        strikes = eqb-true _ _ k;
+        edges = leb-true _ _ e;
+        spans = eqb-true _ _ s;
+        tails = leb-true _ _ t;
+      } in
+      absurd (n l)))))))
   wrong-refused (WrongTable.edge f l e w) =
-      rw (le-leb (c .vertices) mostVertices f, eq-eqb _ _ (l .own), le-leb _ _ (l .edges), eq-eqb _ _ (l .spans), le-leb _ _ (l .tails))
+      let few = le-leb (c .vertices) mostVertices f in
+      rw (few, eq-eqb _ _ (l .own), eq-eqb _ _ (l .strikes), le-leb _ _ (l .edges), eq-eqb _ _ (l .spans), le-leb _ _ (l .tails))
       (wrong-edges (length (c .heads)) 0 e (omega arith) (omega (arith, w .numbered)) w)
 
-  -- "A table is accepted if none of the refusals about its own columns (here 1 to 6) applies"
+  -- "A table is accepted if none of the refusals about its own columns (here 1 to 6) applies", and not 21
   pub accepted-exactly : (acceptance c ≡ Accepted) ↔ RightTable c
   accepted-exactly = (accepted-right, right-accepted)
 

@@ -8,10 +8,10 @@ use native.Mathlib.Decide.{decLe}
 use lib.ListN.{length, getD, drop, length-take, length-drop, List·getD-eq-default}
 use lib.Seq.{getD-take, getD-drop, ext-getD}
 use lib.Dec.{leb, ltb}
-use Rattle.weights.specs.Figures.{struck}
-use Rattle.refusal.specs.declared.Refusal.the-variants.{Head, Own, Span, Tail}
+use Rattle.weights.specs.Figures.{greatest, struckMark}
+use Rattle.refusal.specs.declared.Refusal.the-variants.{Head, Own, Span, Tail, StrikeMark}
 use Rattle.refusal.specs.declared.Acceptance.the-variants.{Accepted}
-use Rattle.columns.specs.Columns.{Answers, Columns, headAt, ownAt, offsetAt, lengthAt, part, tailOf, tailAt}
+use Rattle.columns.specs.Columns.{Answers, Columns, headAt, ownAt, strikeAt, offsetAt, lengthAt, part, tailOf, tailAt}
 use Rattle.columns.specs.Acceptance.{longestTail, test, andThen, allBelow, edgeAcceptance, edgeAt, edgesAcceptance, acceptance, lentAcceptance}
 use Rattle.columns.proofs.Accepted.{table-accepted}
 use Rattle.columns.specs.Gaps.{Gapped, withTails}
@@ -39,12 +39,13 @@ module _ (c : Columns) (tails : List ℕ) (g : Gapped c tails) where
   edge-alike e end h =
       ap₂ (λ (k : ℕ) (xs : List ℕ).
       test (ltb (headAt c e) (c .vertices)) (Head (record { 0 = e }))
-      (test (leb (ownAt c e) struck) (Own (record { 0 = e }))
+      (test (leb (ownAt c e) greatest) (Own (record { 0 = e }))
+      (test (leb (strikeAt c e) struckMark) (StrikeMark (record { 0 = e }))
       (test (leb end (offsetAt c e)) (Span (record { 0 = e }))
       (test (leb (lengthAt c e) longestTail) (Span (record { 0 = e }))
       (test (leb (offsetAt c e + lengthAt c e) k) (Span (record { 0 = e }))
       (test (allBelow (c .vertices) xs) (Tail (record { 0 = e }))
-      Accepted))))))
+      Accepted)))))))
       (g .level) (tail-alike e h)
 
   edges-alike : (left e end : ℕ) → e + left ≤ length (c .heads) → edgesAcceptance c left e end ≡ edgesAcceptance c′ left e end

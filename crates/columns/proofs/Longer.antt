@@ -9,7 +9,7 @@ use native.Mathlib.Omega.{arith}
 use lib.ListN.{length, getD, take, drop, length-append, length-take, length-drop, List·getD-append}
 use lib.Seq.{getD-at, getD-append-add, getD-take, getD-drop, take-all, drop-at, take-at, length-take-le, ext-getD}
 use Rattle.refusal.specs.declared.Acceptance.the-variants.{Accepted}
-use Rattle.columns.specs.Columns.{Columns, headAt, ownAt, offsetAt, lengthAt, part, tailAt}
+use Rattle.columns.specs.Columns.{Columns, headAt, ownAt, strikeAt, offsetAt, lengthAt, part, tailAt}
 use Rattle.columns.specs.Acceptance.{mostEdges, mostListed, acceptance}
 use Rattle.columns.specs.Right.{endBefore, RightSpan, RightEdge, RightTable}
 use Rattle.columns.specs.Longer.{NewLine, endIn, endOf, longer, RightLine, OneMore}
@@ -68,6 +68,9 @@ module _ (c : Columns) (l : NewLine) (p : acceptance c ≡ Accepted) where
   own-level : length (c .own) ≡ length (c .heads)
   own-level = right .level .own
 
+  strikes-level : length (c .strikes) ≡ length (c .heads)
+  strikes-level = right .level .strikes
+
   spans-level : length (c .spans) ≡ 2 * length (c .heads)
   spans-level = right .level .spans
 
@@ -86,6 +89,9 @@ module _ (c : Columns) (l : NewLine) (p : acceptance c ≡ Accepted) where
 
   old-own : (e : ℕ) → e < length (c .heads) → ownAt (longer c l) e ≡ ownAt c e
   old-own e h = List·getD-append (c .own) (l .own ∷ []) 0 e (omega (arith, own-level))
+
+  old-strike : (e : ℕ) → e < length (c .heads) → strikeAt (longer c l) e ≡ strikeAt c e
+  old-strike e h = List·getD-append (c .strikes) (l .mark ∷ []) 0 e (omega (arith, strikes-level))
 
   old-end : (e : ℕ) → e ≤ length (c .heads) → endBefore (longer c l) e ≡ endBefore c e
   old-end zero h = refl
@@ -112,6 +118,9 @@ module _ (c : Columns) (l : NewLine) (p : acceptance c ≡ Accepted) where
   new-own : ownAt (longer c l) (length (c .heads)) ≡ l .own
   new-own = getD-at (c .own) (l .own) [] 0 (length (c .heads)) own-level
 
+  new-mark : strikeAt (longer c l) (length (c .heads)) ≡ l .mark
+  new-mark = getD-at (c .strikes) (l .mark) [] 0 (length (c .heads)) strikes-level
+
   start-length : length (take (endOf c) (c .tails)) ≡ endOf c
   start-length = length-take-le (endOf c) (c .tails) (end-within c right)
 
@@ -128,9 +137,11 @@ module _ (c : Columns) (l : NewLine) (p : acceptance c ≡ Accepted) where
     count = longer-count;
     heads = old-head;
     own = old-own;
+    strikes = old-strike;
     tails = old-tail;
     new-head = new-head;
     new-own = new-own;
+    new-mark = new-mark;
     new-tail = new-tail;
   }
 
@@ -148,6 +159,7 @@ module _ (c : Columns) (l : NewLine) (p : acceptance c ≡ Accepted) where
         record {
           head = omega (arith, old-head e h, r .head);
           own = omega (arith, old-own e h, r .own);
+          mark = omega (arith, old-strike e h, r .mark);
           span = record {
             from = omega (arith, old-end e (omega arith), s .from);
             short = omega (arith, s .short);
@@ -170,6 +182,7 @@ module _ (c : Columns) (l : NewLine) (p : acceptance c ≡ Accepted) where
         record {
           head = omega (arith, new-head, g .head);
           own = omega (arith, new-own, g .own);
+          mark = omega (arith, new-mark, g .mark);
           span = record {
             from = omega (arith, old-end (length (c .heads)) (omega arith), end-before c (length (c .heads)));
             short = omega (arith, g .short);
@@ -188,6 +201,7 @@ module _ (c : Columns) (l : NewLine) (p : acceptance c ≡ Accepted) where
       few = right .few;
       level = record {
         own = omega (arith, length-append (c .own) (l .own ∷ []), longer-count, own-level);
+        strikes = omega (arith, length-append (c .strikes) (l .mark ∷ []), longer-count, strikes-level);
         edges = omega (arith, longer-count);
         spans = omega (arith, length-append (c .spans) (endOf c ∷ length (l .tail) ∷ []), longer-count, spans-level);
         tails = omega (arith, longer-listed);

@@ -1,51 +1,84 @@
--- A table with one own figure changed, to any that is allowed: it is accepted as before. Assumes nothing.
-use mathlib.Core.Path.{_≡_, refl, ap}
-use Prim.Native.Nat.{ℕ, zero, suc, _+_, _≤_, _<_}
+-- A table with one own figure or one strike mark changed, to any that is allowed: what it then holds, and that it is accepted as before. Assumes nothing.
+use mathlib.Core.Path.{_≡_, refl, sym, _∙_, ap}
+use mathlib.Core.List.{List}
+use Prim.Native.Nat.{ℕ, zero, suc, _≤_, _<_}
 use native.Mathlib.Omega.{arith}
 use native.Mathlib.Decide.{ℕ-discrete}
-use lib.ListN.{length, length-set}
-use lib.Seq.{getD-set-same, getD-set-other}
-use borrow.Author.Tests.{le-leb, eq-eqb}
-use Rattle.weights.specs.Figures.{struck}
+use lib.ListN.{length, getD, set, length-set}
+use lib.Seq.{getD-set-same, getD-set-other, set-set, set-getD}
+use Rattle.weights.specs.Figures.{greatest, struckMark}
 use Rattle.refusal.specs.declared.Acceptance.the-variants.{Accepted}
-use Rattle.columns.specs.Columns.{Answers, Columns, ownAt, offsetAt, lengthAt, withOwn}
-use Rattle.columns.specs.Acceptance.{edgeAt, edgesAcceptance, acceptance, lentAcceptance}
-use Rattle.columns.proofs.Accepted.{both-accepted, edge-accepted, edge-accepts, table-accepted, columns-accepted, columns-accept}
+use Rattle.columns.specs.Columns.{Columns, columns, ownAt, strikeAt, withOwn, withStrike}
+use Rattle.columns.specs.Acceptance.{acceptance}
+use Rattle.columns.specs.Right.{endBefore, RightOwn, RightMark, RightTable}
+use Rattle.columns.proofs.Exactly.{accepted-exactly}
 
-module _ (c : Columns) (e w : ℕ) (fits : e < length (c .own)) where
-  own-here : ownAt (withOwn c e w) e ≡ w
-  own-here = getD-set-same (c .own) e w 0 fits
+-- one place of a column changed to a number within a limit: every place that was within it still is
+set-low : (xs : List ℕ) (e w limit : ℕ) → e < length xs → w ≤ limit → (x : ℕ) → getD xs x 0 ≤ limit → getD (set xs e w) x 0 ≤ limit
+set-low xs e w limit fits low x h = go (ℕ-discrete x e)
+  where
+    go : Dec (x ≡ e) → getD (set xs e w) x 0 ≤ limit
+    go (yes q) = omega (arith, ap (λ (y : ℕ). getD (set xs e w) y 0) q, getD-set-same xs e w 0 fits)
+    go (no n) = omega (arith, getD-set-other xs e x w 0 n)
 
-  own-elsewhere : (x : ℕ) → ¬ (x ≡ e) → ownAt (withOwn c e w) x ≡ ownAt c x
+-- other own figures and strike marks, as many and as low as they must be
+module _ (c : Columns) (own strikes : List ℕ) where
+  abbrev c′ : Columns
+  c′ = columns (c .vertices) (c .heads) own strikes (c .spans) (c .tails)
+
+  end-kept : (e : ℕ) → endBefore c′ e ≡ endBefore c e
+  end-kept zero = refl
+  end-kept (suc e) = refl
+
+  marked-kept : length own ≡ length (c .own) → length strikes ≡ length (c .strikes)
+      → ((e : ℕ) → RightOwn c e → RightOwn c′ e) → ((e : ℕ) → RightMark c e → RightMark c′ e)
+      → acceptance c ≡ Accepted → acceptance c′ ≡ Accepted
+  marked-kept o k low lower p =
+      let t = accepted-exactly c .0 p in
+      let l = t .level in
+      accepted-exactly c′ .1 (record {
+        few = t .few;
+        level = record { own = o ∙ l .own; strikes = k ∙ l .strikes; edges = l .edges; spans = l .spans; tails = l .tails };
+        each = λ e h.
+            let g = t .each e h in
+            let s = g .span in
+            record {
+              head = g .head;
+              own = low e (g .own);
+              mark = lower e (g .mark);
+              span = record { from = omega (arith, end-kept e, s .from); short = s .short; within = s .within };
+              tail = g .tail;
+            };
+      })
+
+-- another own figure
+module _ (c : Columns) (e w : ℕ) where
+  pub own-elsewhere : (x : ℕ) → ¬ (x ≡ e) → ownAt (withOwn c e w) x ≡ ownAt c x
   own-elsewhere x n = getD-set-other (c .own) e x w 0 n
 
-  module _ (low : w ≤ struck) where
-    own-low : (x : ℕ) → ownAt c x ≤ struck → ownAt (withOwn c e w) x ≤ struck
-    own-low x h = go (ℕ-discrete x e)
-      where
-        go : Dec (x ≡ e) → ownAt (withOwn c e w) x ≤ struck
-        go (yes q) = omega (arith, ap (ownAt (withOwn c e w)) q, own-here)
-        go (no n) = omega (arith, own-elsewhere x n)
+  module _ (fits : e < length (c .own)) where
+    pub own-here : ownAt (withOwn c e w) e ≡ w
+    own-here = getD-set-same (c .own) e w 0 fits
 
-    edge-kept : (x end : ℕ) → edgeAt c x end ≡ Accepted → edgeAt (withOwn c e w) x end ≡ Accepted
-    edge-kept x end p =
-        let g = edge-accepted _ _ _ _ _ _ _ _ p in
-        edge-accepts _ (record { head = g .head; own = own-low x (g .own); from = g .from; short = g .short; within = g .within; listed = g .listed })
+    pub acceptance-kept : w ≤ greatest → acceptance c ≡ Accepted → acceptance (withOwn c e w) ≡ Accepted
+    acceptance-kept low =
+        marked-kept c (set (c .own) e w) (c .strikes) (length-set (c .own) e w) refl (set-low (c .own) e w greatest fits low) (λ x h. h)
 
-    edges-kept : (left x end : ℕ) → edgesAcceptance c left x end ≡ Accepted → edgesAcceptance (withOwn c e w) left x end ≡ Accepted
-    unfolding edgesAcceptance
-    edges-kept zero x end p = refl
-    edges-kept (suc left) x end p =
-        let t = both-accepted (edgeAt c x end) (edgesAcceptance c left (x + 1) (offsetAt c x + lengthAt c x)) p in
-        rw (edge-kept x end (t .0), edges-kept left (x + 1) (offsetAt c x + lengthAt c x) (t .1))
+-- another strike mark
+module _ (c : Columns) (e s : ℕ) where
+  pub strike-elsewhere : (x : ℕ) → ¬ (x ≡ e) → strikeAt (withStrike c e s) x ≡ strikeAt c x
+  strike-elsewhere x n = getD-set-other (c .strikes) e x s 0 n
 
-    pub acceptance-kept : acceptance c ≡ Accepted → acceptance (withOwn c e w) ≡ Accepted
-    unfolding acceptance
-    acceptance-kept p =
-        let t = table-accepted c p in
-        rw (le-leb _ _ (t .few), length-set (c .own) e w, eq-eqb _ _ (t .own), le-leb _ _ (t .edges), eq-eqb _ _ (t .spans), le-leb _ _ (t .tails))
-        (edges-kept (length (c .heads)) 0 0 (t .rest))
+  -- the mark that was, put back
+  pub strike-back : withStrike (withStrike c e s) e (strikeAt c e) ≡ c
+  strike-back =
+      ap (λ (xs : List ℕ). columns (c .vertices) (c .heads) (c .own) xs (c .spans) (c .tails))
+      (set-set (c .strikes) e s (strikeAt c e) ∙ set-getD (c .strikes) e 0)
 
-    -- so are the answer columns
-    pub lent-kept : (a : Answers) → lentAcceptance c a ≡ Accepted → lentAcceptance (withOwn c e w) a ≡ Accepted
-    lent-kept a p = let g = columns-accepted c a p in columns-accept (withOwn c e w) a (acceptance-kept (g .table)) (g .sized)
+  module _ (fits : e < length (c .strikes)) where
+    pub strike-here : strikeAt (withStrike c e s) e ≡ s
+    strike-here = getD-set-same (c .strikes) e s 0 fits
+
+    pub strike-kept : s ≤ struckMark → acceptance c ≡ Accepted → acceptance (withStrike c e s) ≡ Accepted
+    strike-kept low =
+        marked-kept c (c .own) (set (c .strikes) e s) refl (length-set (c .strikes) e s) (λ x h. h) (set-low (c .strikes) e s struckMark fits low)

@@ -14,19 +14,20 @@ module _ {c : Columns} {ws ds : List ℕ} (u : Usable c ws ds) (e : ℕ) (h : e 
   pub head-in : headAt c e < length ds
   head-in = omega (arith, u .vertices, table-accepted c (u .accepted) .each e h .1 .head)
 
-  pub edge-in : EdgeIn e (c .own) (c .spans) (c .tails) ws ds
+  pub edge-in : EdgeIn e (c .own) (c .strikes) (c .spans) (c .tails) ws ds
   edge-in =
       let z = table-accepted c (u .accepted) in
       let g = z .each e h .1 in
       record {
         own = omega (arith, z .own);
+        mark = omega (arith, z .strikes);
         placed = record { span = omega (arith, z .spans); short = g .short; within = g .within };
         legible = record { level = u .level; inside = λ k l. omega (arith, u .vertices, below-at _ _ (g .listed) k l); shallow = u .shallow };
       }
 
 -- a table of n vertices and the same columns: by the length of a column, it is the table
 abbrev pub same-table : Columns → ℕ → Columns
-same-table c n = columns n (c .heads) (c .own) (c .spans) (c .tails)
+same-table c n = columns n (c .heads) (c .own) (c .strikes) (c .spans) (c .tails)
 
 pub turning-columns : (c : Columns) (a : Answers) → acceptance c ≡ Accepted → Sized (c .vertices) a → ((v : ℕ) → cell (a .depths) v ≤ mostVertices) → Turning (same-table c (length (a .depths))) a
 turning-columns c a p s shallow =

@@ -1,18 +1,18 @@
--- Which tables and answer columns are accepted: the refusals 1 to 6, and then 7, in the paper's order ("What is turned away"). Assumes nothing: these are
--- definitions.
+-- Which tables and answer columns are accepted: the refusals 1 to 6 and 21, and then 7, in the paper's order ("What is turned away"; document 02, 2026-02: 21 "after 4
+-- in that line"). Assumes nothing: these are definitions.
 use Prim.Native.Nat.{ℕ, zero, suc, _+_, _*_}
 use mathlib.Core.Bool.{Bool, true, false}
 use mathlib.Core.List.{List, [], _∷_}
 use lib.ListN.{length}
 use lib.Dec.{ltb, leb, eqb}
 use Rattle.weights.specs.declared.Hyperedge.{Hyperedge}
-use Rattle.weights.specs.Figures.{struck}
+use Rattle.weights.specs.Figures.{greatest, struckMark}
 use Rattle.weights.specs.Choice.{pick}
 use Rattle.refusal.specs.declared.Refusal.{Refusal}
-use Rattle.refusal.specs.declared.Refusal.the-variants.{TooManyVertices, Lengths, Head, Own, Span, Tail, AnswerLength}
+use Rattle.refusal.specs.declared.Refusal.the-variants.{TooManyVertices, Lengths, Head, Own, Span, Tail, AnswerLength, StrikeMark}
 use Rattle.refusal.specs.declared.Acceptance.{Acceptance}
 use Rattle.refusal.specs.declared.Acceptance.the-variants.{Accepted, Refused}
-use Rattle.columns.specs.Columns.{Answers, Columns, headAt, ownAt, offsetAt, lengthAt, part}
+use Rattle.columns.specs.Columns.{Answers, Columns, headAt, ownAt, strikeAt, offsetAt, lengthAt, part}
 
 -- the greatest numbers of parts, of lines, of needed parts in all and of one line
 abbrev pub mostVertices : ℕ
@@ -42,36 +42,38 @@ unfoldable pub allBelow : ℕ → List ℕ → Bool
 allBelow n [] = true
 allBelow n (v ∷ vs) = pick (ltb v n) (allBelow n vs) false
 
--- refusals 3 to 6 of one line, where the span before it ends at `end`
-unfoldable pub edgeAcceptance : (n : ℕ) → Hyperedge → (head own offset size end : ℕ) → List ℕ → Acceptance
-edgeAcceptance n e head own offset size end tails =
+-- refusals 3, 4, 21, 5 and 6 of one line, where the span before it ends at `end`
+unfoldable pub edgeAcceptance : (n : ℕ) → Hyperedge → (head own mark offset size end : ℕ) → List ℕ → Acceptance
+edgeAcceptance n e head own mark offset size end tails =
     test (ltb head n) (Head e)
-    (test (leb own struck) (Own e)
+    (test (leb own greatest) (Own e)
+    (test (leb mark struckMark) (StrikeMark e)
     (test (leb end offset) (Span e)
     (test (leb size longestTail) (Span e)
     (test (leb (offset + size) (length tails)) (Span e)
     (test (allBelow n (part offset size tails)) (Tail e)
-    Accepted)))))
+    Accepted))))))
 
 abbrev pub edgeAt : Columns → (e end : ℕ) → Acceptance
-edgeAt c e end = edgeAcceptance (c .vertices) (record { 0 = e }) (headAt c e) (ownAt c e) (offsetAt c e) (lengthAt c e) end (c .tails)
+edgeAt c e end = edgeAcceptance (c .vertices) (record { 0 = e }) (headAt c e) (ownAt c e) (strikeAt c e) (offsetAt c e) (lengthAt c e) end (c .tails)
 
 -- the first refusal of the `left` lines from e on
 unfoldable pub edgesAcceptance : Columns → (left e end : ℕ) → Acceptance
 edgesAcceptance c zero e end = Accepted
 edgesAcceptance c (suc left) e end = andThen (edgeAt c e end) (edgesAcceptance c left (e + 1) (offsetAt c e + lengthAt c e))
 
--- a table is accepted, or refused by the first of 1 to 6 that applies
+-- a table is accepted, or refused by the first of 1 to 6 and 21 that applies
 unfoldable pub acceptance : Columns → Acceptance
 acceptance c =
     test (leb (c .vertices) mostVertices) TooManyVertices
     (test (eqb (length (c .own)) (length (c .heads))) Lengths
+    (test (eqb (length (c .strikes)) (length (c .heads))) Lengths
     (test (leb (length (c .heads)) mostEdges) Lengths
     (test (eqb (length (c .spans)) (2 * length (c .heads))) Lengths
     (test (leb (length (c .tails)) mostListed) Lengths
-    (edgesAcceptance c (length (c .heads)) 0 0)))))
+    (edgesAcceptance c (length (c .heads)) 0 0))))))
 
--- the same with three answer columns, each exactly n long: 1 to 6, then 7
+-- the same with three answer columns, each exactly n long: 1 to 6 and 21, then 7
 unfoldable pub lentAcceptance : Columns → Answers → Acceptance
 lentAcceptance c a =
     andThen (acceptance c)

@@ -4,16 +4,17 @@ use mathlib.Core.Path.{_≡_}
 use mathlib.Core.List.{List}
 use lib.ListN.{length, getD, set, take, drop}
 
--- n, and the four columns: heads; own figures; spans, two places for each line; and the needed parts
+-- n, and the five columns: heads; own figures; strike marks; spans, two places for each line; and the needed parts
 pub record Columns : Type 0 where
   pub vertices : ℕ
   pub heads : List ℕ
   pub own : List ℕ
+  pub strikes : List ℕ
   pub spans : List ℕ
   pub tails : List ℕ
 
-abbrev pub columns : ℕ → (heads own spans tails : List ℕ) → Columns
-columns n heads own spans tails = record { vertices = n; heads = heads; own = own; spans = spans; tails = tails }
+abbrev pub columns : ℕ → (heads own strikes spans tails : List ℕ) → Columns
+columns n heads own strikes spans tails = record { vertices = n; heads = heads; own = own; strikes = strikes; spans = spans; tails = tails }
 
 -- the three answer columns: figure, depth and line of each part
 pub record Answers : Type 0 where
@@ -34,12 +35,15 @@ pub record Sized (n : ℕ) (a : Answers) : Type 0 where
 abbrev pub cell : List ℕ → ℕ → ℕ
 cell xs v = getD xs v 0
 
--- a line's head and own figure; its span: offset, then length; and the parts that it lists
+-- a line's head, own figure and strike mark; its span: offset, then length; and the parts that it lists
 abbrev pub headAt : Columns → ℕ → ℕ
 headAt c e = getD (c .heads) e 0
 
 abbrev pub ownAt : Columns → ℕ → ℕ
 ownAt c e = getD (c .own) e 0
+
+abbrev pub strikeAt : Columns → ℕ → ℕ
+strikeAt c e = getD (c .strikes) e 0
 
 abbrev pub offsetAt : Columns → ℕ → ℕ
 offsetAt c e = getD (c .spans) (2 * e) 0
@@ -60,4 +64,8 @@ tailAt c = tailOf (c .spans) (c .tails)
 
 -- the same columns with the own figure w at line e
 abbrev pub withOwn : Columns → (e w : ℕ) → Columns
-withOwn c e w = columns (c .vertices) (c .heads) (set (c .own) e w) (c .spans) (c .tails)
+withOwn c e w = columns (c .vertices) (c .heads) (set (c .own) e w) (c .strikes) (c .spans) (c .tails)
+
+-- the same columns with the strike mark s at line e
+abbrev pub withStrike : Columns → (e s : ℕ) → Columns
+withStrike c e s = columns (c .vertices) (c .heads) (c .own) (set (c .strikes) e s) (c .spans) (c .tails)

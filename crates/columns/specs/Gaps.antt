@@ -13,4 +13,4 @@ pub record Gapped (c : Columns) (tails : List ℕ) : Type 0 where
 
 -- the table with that column
 abbrev pub withTails : Columns → List ℕ → Columns
-withTails c tails = columns (c .vertices) (c .heads) (c .own) (c .spans) tails
+withTails c tails = columns (c .vertices) (c .heads) (c .own) (c .strikes) (c .spans) tails

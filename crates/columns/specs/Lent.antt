@@ -9,8 +9,8 @@ use Rattle.columns.specs.Columns.{Answers, Columns, columns, cell, tailO
 use Rattle.columns.specs.Acceptance.{mostVertices, longestTail, acceptance}
 
 -- a table of as many vertices as the column of depths has places
-abbrev pub lent : (heads own spans tails depths : List ℕ) → Columns
-lent heads own spans tails depths = columns (length depths) heads own spans tails
+abbrev pub lent : (heads own strikes spans tails depths : List ℕ) → Columns
+lent heads own strikes spans tails depths = columns (length depths) heads own strikes spans tails
 
 -- the span of hyperedge e lies within the columns
 pub record Placed (spans tails : List ℕ) (e : ℕ) : Type 0 where
@@ -25,8 +25,9 @@ pub record Legible (tail ws ds : List ℕ) : Type 0 where
   pub shallow : (v : ℕ) → cell ds v ≤ mostVertices
 
 -- so can hyperedge e
-pub record EdgeIn (e : ℕ) (os ss ts ws ds : List ℕ) : Type 0 where
+pub record EdgeIn (e : ℕ) (os ms ss ts ws ds : List ℕ) : Type 0 where
   pub own : e < length os
+  pub mark : e < length ms
   pub placed : Placed ss ts e
   pub legible : Legible (tailOf ss ts e) ws ds
 

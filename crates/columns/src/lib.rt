@@ -1,9 +1,10 @@
 // The check of a table that is lent as columns of numbers, which may have any lengths and hold any
-// numbers. Hyperedge e has the head heads[e], the own weight own[e], and the tail of
-// spans[2 * e + 1] vertices that starts at spans[2 * e] in tails.
+// numbers. Hyperedge e has the head heads[e], the own weight own[e], the strike mark strikes[e], and
+// the tail of spans[2 * e + 1] vertices that starts at spans[2 * e] in tails.
 use refusal::Acceptance;
 use refusal::Refusal;
 use weights::Hyperedge;
+use weights::Mark;
 use weights::Vertex;
 use weights::Weight;
 ghost use mathlib.Core.Path.{_≡_};
@@ -48,6 +49,7 @@ fn check_edge(
     e: Hyperedge,
     head: Vertex,
     own: Weight,
+    mark: Mark,
     offset: u64,
     size: u64,
     end: u64,
@@ -55,13 +57,16 @@ fn check_edge(
     clean: bool,
 ) -> Acceptance
     requires { ⌜ clean ≡ allBelow n (now tails) ⌝ }
-    ensures { λ r. ⌜ r ≡ edgeAcceptance n e (head .0) (own .0) offset size end (now (tails .entry)) ⌝ }
+    ensures { λ r. ⌜ r ≡ edgeAcceptance n e (head .0) (own .0) (mark .0) offset size end (now (tails .entry)) ⌝ }
 {
     if head.0 >= n {
         return Acceptance::Refused(Refusal::Head(e));
     }
-    if own.0 > Weight::STRUCK.0 {
+    if own.0 > Weight::GREATEST.0 {
         return Acceptance::Refused(Refusal::Own(e));
+    }
+    if mark.0 > Mark::STRUCK.0 {
+        return Acceptance::Refused(Refusal::StrikeMark(e));
     }
     if offset < end {
         return Acceptance::Refused(Refusal::Span(e));
@@ -91,10 +96,17 @@ fn check_edge(
 
 // Whether every hyperedge is accepted, or the first refusal. The column of tails is looked through
 // once; a number in a gap may be n or more, and then the tails are read one by one.
-fn check_edges(n: u64, heads: &[u64], own: &[u64], spans: &[u64], tails: &[u64]) -> Acceptance
-    requires { ⌜ (length (now own) ≡ length (now heads)) × (length (now spans) ≡ 2 * length (now heads)) ⌝ }
+fn check_edges(
+    n: u64,
+    heads: &[u64],
+    own: &[u64],
+    strikes: &[u64],
+    spans: &[u64],
+    tails: &[u64],
+) -> Acceptance
+    requires { ⌜ (length (now own) ≡ length (now heads)) × (length (now strikes) ≡ length (now heads)) × (length (now spans) ≡ 2 * length (now heads)) ⌝ }
     ensures { λ r.
-        let c = columns n (now (heads .entry)) (now (own .entry)) (now (spans .entry)) (now (tails .entry)) in
+        let c = columns n (now (heads .entry)) (now (own .entry)) (now (strikes .entry)) (now (spans .entry)) (now (tails .entry)) in
         ⌜ r ≡ edgesAcceptance c (length (now (heads .entry))) 0 0 ⌝ }
 {
     let clean = all_below(n, tails);
@@ -103,6 +115,7 @@ fn check_edges(n: u64, heads: &[u64], own: &[u64], spans: &[u64], tails: &[u64])
     while i < heads.len() {
         let head = Vertex(heads[i]);
         let weight = Weight(own[i]);
+        let mark = Mark(strikes[i]);
         let offset = spans[2 * i];
         let size = spans[2 * i + 1];
         let a = check_edge(
@@ -110,6 +123,7 @@ fn check_edges(n: u64, heads: &[u64], own: &[u64], spans: &[u64], tails: &[u64])
             Hyperedge(i as u64),
             head,
             weight,
+            mark,
             offset,
             size,
             end,
@@ -127,13 +141,23 @@ fn check_edges(n: u64, heads: &[u64], own: &[u64], spans: &[u64], tails: &[u64])
 }
 
 // Whether the table of n vertices is accepted, or the first refusal.
-pub fn check_table(n: u64, heads: &[u64], own: &[u64], spans: &[u64], tails: &[u64]) -> Acceptance
-    ensures { λ r. ⌜ r ≡ acceptance (columns n (now (heads .entry)) (now (own .entry)) (now (spans .entry)) (now (tails .entry))) ⌝ }
+pub fn check_table(
+    n: u64,
+    heads: &[u64],
+    own: &[u64],
+    strikes: &[u64],
+    spans: &[u64],
+    tails: &[u64],
+) -> Acceptance
+    ensures { λ r. ⌜ r ≡ acceptance (columns n (now (heads .entry)) (now (own .entry)) (now (strikes .entry)) (now (spans .entry)) (now (tails .entry))) ⌝ }
 {
     if n > MOST_VERTICES {
         return Acceptance::Refused(Refusal::TooManyVertices);
     }
     if own.len() != heads.len() {
+        return Acceptance::Refused(Refusal::Lengths);
+    }
+    if strikes.len() != heads.len() {
         return Acceptance::Refused(Refusal::Lengths);
     }
     if heads.len() > MOST_EDGES {
@@ -145,7 +169,7 @@ pub fn check_table(n: u64, heads: &[u64], own: &[u64], spans: &[u64], tails: &[u
     if tails.len() > MOST_LISTED {
         return Acceptance::Refused(Refusal::Lengths);
     }
-    check_edges(n, heads, own, spans, tails)
+    check_edges(n, heads, own, strikes, spans, tails)
 }
 
 // The same with three answer columns, each of which must be n long.
@@ -153,6 +177,7 @@ pub fn check_lent(
     n: u64,
     heads: &[u64],
     own: &[u64],
+    strikes: &[u64],
     spans: &[u64],
     tails: &[u64],
     weights: &[u64],
@@ -160,11 +185,11 @@ pub fn check_lent(
     edges: &[u64],
 ) -> Acceptance
     ensures { λ r.
-        let c = columns n (now (heads .entry)) (now (own .entry)) (now (spans .entry)) (now (tails .entry)) in
+        let c = columns n (now (heads .entry)) (now (own .entry)) (now (strikes .entry)) (now (spans .entry)) (now (tails .entry)) in
         let a = answers (now (weights .entry)) (now (depths .entry)) (now (edges .entry)) in
         ⌜ r ≡ lentAcceptance c a ⌝ }
 {
-    let a = check_table(n, heads, own, spans, tails);
+    let a = check_table(n, heads, own, strikes, spans, tails);
     match a {
         Acceptance::Refused(r) => return Acceptance::Refused(r),
         Acceptance::Accepted => {}

@@ -29,24 +29,28 @@ returns-4 c = search tests
 
 returns-5 : tie.Need-returns-5
 unfolding edgeAcceptance
-returns-5 c =
-    let a = c .before .before .before .before .before .before .before .before .before .args in
-    let h : length (a .tails .now) < a .offset + a .size = omega arith in
-    search tests
+returns-5 c = search tests
 
 returns-6 : tie.Need-returns-6
 unfolding edgeAcceptance
-returns-6 c = search tests
-
--- past the tests of the span its tail alone is left to be looked at
-abbrev entry : tie.Else6 → tie.Start
-entry c = c .before .before .before .before .before .before .before .before .before .before
+returns-6 c =
+    let a = c .before .before .before .before .before .before .before .before .before .before .before .before .args in
+    let h : length (a .tails .now) < a .offset + a .size = omega arith in
+    search tests
 
 returns-7 : tie.Need-returns-7
 unfolding edgeAcceptance
-returns-7 c =
+returns-7 c = search tests
+
+-- past the tests of the span its tail alone is left to be looked at
+abbrev entry : tie.Else7 → tie.Start
+entry c = c .before .before .before .before .before .before .before .before .before .before .before .before .before
+
+returns-8 : tie.Need-returns-8
+unfolding edgeAcceptance
+returns-8 c =
     let a = entry (c .before) .args in
-    let t = part-below (a .n) (a .offset) (a .size) (a .tails .now) (c .before .if6 .left) (sym (entry (c .before) .pre) ∙ c .if7 .taken) in
+    let t = part-below (a .n) (a .offset) (a .size) (a .tails .now) (c .before .if7 .left) (sym (entry (c .before) .pre) ∙ c .if8 .taken) in
     search (tests, t)
 
 -- the part that is lent is the hyperedge's tail
@@ -56,16 +60,16 @@ tail-is c =
     let e : a .offset + a .size - a .offset ≡ a .size = omega arith in
     c .all-below .ensures ∙ ap (λ (k : ℕ). allBelow (a .n) (part (a .offset) k (a .tails .now))) e
 
-returns-8 : tie.Need-returns-8
-unfolding edgeAcceptance
-returns-8 c =
-    let t = sym (tail-is (c .before)) ∙ c .if8 .taken in
-    search (tests, t)
-
 returns-9 : tie.Need-returns-9
 unfolding edgeAcceptance
 returns-9 c =
-    let t = sym (tail-is (c .before)) ∙ c .if8 .left in
+    let t = sym (tail-is (c .before)) ∙ c .if9 .taken in
+    search (tests, t)
+
+returns-10 : tie.Need-returns-10
+unfolding edgeAcceptance
+returns-10 c =
+    let t = sym (tail-is (c .before)) ∙ c .if9 .left in
     search (tests, t)
 
 pub check-edge-spec : {M : Type 1} → statement M
@@ -77,13 +81,14 @@ check-edge-spec =
     returns-3
     returns-4
     returns-5
-    (λ c. search needs)
     returns-6
+    (λ c. search needs)
     returns-7
+    returns-8
     (λ c. search needs)
     (λ c. search needs)
     (λ c. search needs)
     (λ c. search needs)
     (λ c κs. search needs)
-    returns-8
-    returns-9)
+    returns-9
+    returns-10)

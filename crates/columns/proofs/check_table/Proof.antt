@@ -28,18 +28,22 @@ returns-5 : tie.Need-returns-5
 unfolding acceptance
 returns-5 c = search tests
 
--- past the tests of the lengths the hyperedges alone are left to be looked at
-abbrev table : tie.Else5 → Columns
-table c =
-    let a = c .before .before .before .before .before .before .before .before .before .args in
-    columns (a .n) (a .heads .now) (a .own .now) (a .spans .now) (a .tails .now)
+returns-6 : tie.Need-returns-6
+unfolding acceptance
+returns-6 c = search tests
 
-tested : (c : tie.Else5) → edgesAcceptance (table c) (length (table c .heads)) 0 0 ≡ acceptance (table c)
+-- past the tests of the lengths the hyperedges alone are left to be looked at
+abbrev table : tie.Else6 → Columns
+table c =
+    let a = c .before .before .before .before .before .before .before .before .before .before .before .args in
+    columns (a .n) (a .heads .now) (a .own .now) (a .strikes .now) (a .spans .now) (a .tails .now)
+
+tested : (c : tie.Else6) → edgesAcceptance (table c) (length (table c .heads)) 0 0 ≡ acceptance (table c)
 unfolding acceptance
 tested c = search tests
 
-returns-6 : tie.Need-returns-6
-returns-6 c = c .check-edges .ensures ∙ tested (c .before)
+returns-7 : tie.Need-returns-7
+returns-7 c = c .check-edges .ensures ∙ tested (c .before)
 
 pub check-table-spec : {M : Type 1} → statement M
 check-table-spec =
@@ -48,8 +52,9 @@ check-table-spec =
     returns
     returns-2
     returns-3
-    (λ c. search needs)
     returns-4
+    (λ c. search needs)
     returns-5
+    returns-6
     (λ c κs. search needs)
-    returns-6)
+    returns-7)
