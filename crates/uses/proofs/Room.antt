@@ -67,7 +67,7 @@ unfolding edgesAcceptance
 list-spans c n zero e end p h l = let q : e + 0 ≡ e = omega arith in rw q (omega arith)
 list-spans c n (suc left) e end p h l =
     let t = both-accepted (edgeAt c e end) (edgesAcceptance c left (e + 1) (offsetAt c e + lengthAt c e)) p in
-    let g = edge-accepted _ _ _ _ _ _ _ _ (t .0) in
+    let g = edge-accepted _ _ _ _ _ _ _ _ _ (t .0) in
     let s = length-take (lengthAt c e) (drop (offsetAt c e) (c .tails)) in
     let z : length (useList (tailAt c) (e + 1) n) ≡ length (useList (tailAt c) e n) + hits n (tailAt c e) = ap (λ (k : ℕ). length (useList (tailAt c) k n)) (add-one e) ∙ list-more (tailAt c) e n in
     let q : e + suc left ≡ (e + 1) + left = omega arith in
