@@ -10,7 +10,7 @@ use lib.Seq.{drop-cons}
 use borrow.Author.Tests.{eq-eqb, ne-eqb}
 use Rattle.weights.specs.declared.Offer.{Offer}
 use Rattle.weights.specs.declared.Offer.the-variants.{Nothing, Found}
-use Rattle.weights.specs.Figures.{isStruck}
+use Rattle.weights.specs.Figures.{isStruckMark}
 use Rattle.weights.specs.Measures.{Algebra, fold, weigh}
 use Rattle.weights.specs.Choice.{pick}
 use Rattle.weights.specs.Labels.{label}
@@ -42,11 +42,11 @@ module _ (A : Algebra) (e own : ℕ) (w t : ℕ → ℕ) (j d : ℕ) (tail : Lis
   unfolding rest noneZero each greatestDepth fold
   rest-end h = rw (drop-of-length-le tail h, max-zero)
 
-module _ (A : Algebra) (e own : ℕ) (w t : ℕ → ℕ) (tail : List ℕ) where
-  pub rest-whole : isStruck own ≡ false → rest A e own w t (A .unit) 0 tail ≡ offerOf A (not (isStruck own)) own tail w t e
+module _ (A : Algebra) (e own mark : ℕ) (w t : ℕ → ℕ) (tail : List ℕ) where
+  pub rest-whole : isStruckMark mark ≡ false → rest A e own w t (A .unit) 0 tail ≡ offerOf A (not (isStruckMark mark)) own tail w t e
   unfolding rest offerOf weigh
   rest-whole p = rw (p, zero-max)
 
-  pub struck-nothing : isStruck own ≡ true → Nothing ≡ offerOf A (not (isStruck own)) own tail w t e
+  pub struck-nothing : isStruckMark mark ≡ true → Nothing ≡ offerOf A (not (isStruckMark mark)) own tail w t e
   unfolding offerOf
   struck-nothing p = rw p

@@ -1,13 +1,14 @@
 // What a hyperedge offers its head: the candidate that it gives from the labels in the columns.
 use weights::Hyperedge;
 use weights::Label;
+use weights::Mark;
 use weights::Measure;
 use weights::Offer;
 use weights::Weight;
 ghost use mathlib.Core.Path.{_≡_};
 ghost use mathlib.Core.Bool.{not};
 ghost use Prim.Native.Nat.{max};
-ghost use Rattle.weights.specs.Figures.{isStruck};
+ghost use Rattle.weights.specs.Figures.{isStruckMark};
 ghost use Rattle.weights.specs.Measures.{algebra};
 ghost use Rattle.provenance.specs.Labelling.{offerOf};
 ghost use Rattle.columns.specs.Columns.{tailOf, cell};
@@ -23,20 +24,21 @@ pub fn deeper(a: u64, b: u64) -> u64
     a
 }
 
-// What hyperedge e of this own weight and tail gives from the labels in the columns; nothing where
-// it is struck or a vertex of its tail is unmade.
+// What hyperedge e of this own weight, mark and tail gives from the labels in the columns; nothing
+// where it is struck or a vertex of its tail is unmade.
 fn candidate(
     measure: Measure,
     e: Hyperedge,
     own: Weight,
+    mark: Mark,
     tail: &[u64],
     weights: &[u64],
     depths: &[u64],
 ) -> Offer
     requires { ⌜ Legible (now tail) (now weights) (now depths) ⌝ }
-    ensures { λ r. ⌜ r ≡ offerOf (algebra measure) (not (isStruck (own .0))) (own .0) (now (tail .entry)) (cell (now (weights .entry))) (cell (now (depths .entry))) (e .0) ⌝ }
+    ensures { λ r. ⌜ r ≡ offerOf (algebra measure) (not (isStruckMark (mark .0))) (own .0) (now (tail .entry)) (cell (now (weights .entry))) (cell (now (depths .entry))) (e .0) ⌝ }
 {
-    if own.is_struck() {
+    if mark.is_struck() {
         return Offer::Nothing;
     }
     let mut joined = Weight::unit(measure);
@@ -67,16 +69,29 @@ pub fn offer(
     measure: Measure,
     e: Hyperedge,
     own: &[u64],
+    strikes: &[u64],
     spans: &[u64],
     tails: &[u64],
     weights: &[u64],
     depths: &[u64],
 ) -> Offer
-    requires { ⌜ EdgeIn (e .0) (now own) (now spans) (now tails) (now weights) (now depths) ⌝ }
-    ensures { λ r. ⌜ r ≡ offerOf (algebra measure) (not (isStruck (cell (now (own .entry)) (e .0)))) (cell (now (own .entry)) (e .0)) (tailOf (now (spans .entry)) (now (tails .entry)) (e .0)) (cell (now (weights .entry))) (cell (now (depths .entry))) (e .0) ⌝ }
+    requires { ⌜ EdgeIn (e .0) (now own) (now strikes) (now spans) (now tails) (now weights) (now depths) ⌝ }
+    ensures { λ r.
+        let live = not (isStruckMark (cell (now (strikes .entry)) (e .0))) in
+        let tail = tailOf (now (spans .entry)) (now (tails .entry)) (e .0) in
+        ⌜ r ≡ offerOf (algebra measure) live (cell (now (own .entry)) (e .0)) tail (cell (now (weights .entry))) (cell (now (depths .entry))) (e .0) ⌝ }
 {
     let i = e.0 as usize;
     let weight = own[i];
+    let mark = strikes[i];
     let tail = columns::tail_of(e, spans, tails);
-    candidate(measure, e, Weight(weight), tail, weights, depths)
+    candidate(
+        measure,
+        e,
+        Weight(weight),
+        Mark(mark),
+        tail,
+        weights,
+        depths,
+    )
 }

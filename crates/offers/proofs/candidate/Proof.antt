@@ -1,11 +1,11 @@
 -- `offers::candidate` meets its contract. The invariant: what is left of the tail gives, from what was joined so far, what the whole tail does. Assumes nothing.
 use mathlib.Core.Path.{_≡_, sym, _∙_}
-use Prim.Native.Nat.{_≤_, _<_, _-_}
+use Prim.Native.Nat.{ℕ, _≤_, _<_, _-_}
 use native.Mathlib.Omega.{arith}
 use borrow.Author.Needs.{needs}
 use lib.ListN.{length, drop}
 use mathlib.Core.Bool.{false}
-use Rattle.weights.specs.Figures.{isStruck}
+use Rattle.weights.specs.Figures.{isStruckMark}
 use Rattle.weights.specs.Measures.{algebra}
 use Rattle.columns.specs.Acceptance.{mostVertices}
 use Rattle.columns.specs.Columns.{cell}
@@ -21,7 +21,7 @@ abbrev μ-loop : tie.MeasureT-loop
 μ-loop measure e own tail weights depths joined₀ deepest₀ i₀ joined deepest i = length tail - i
 
 returns : tie.Need-returns Inv-loop μ-loop
-returns c = struck-nothing _ _ (c .before .before .before .before .before .args .own .0) _ _ _ (sym (c .before .is-struck .ensures) ∙ c .if1 .taken)
+returns c = struck-nothing _ _ _ (c .before .before .before .before .before .args .mark .0) _ _ _ (sym (c .before .is-struck .ensures) ∙ c .if1 .taken)
 
 loop-holds : tie.Need-loop-holds Inv-loop μ-loop
 loop-holds c = (omega arith, omega arith, rw (c .unit .ensures))
@@ -31,7 +31,10 @@ inside : (c : tie.In-loop Inv-loop μ-loop) → let a = c .before .before .befor
 inside c = c .before .before .before .before .before .before .before .before .pre .inside (c .before .loop .i) (c .loop-test .taken)
 
 -- past the first test the hyperedge is not struck
-standing : (c : tie.Else1 Inv-loop μ-loop) → isStruck (c .before .before .before .before .before .args .own .0) ≡ false
+abbrev mark : tie.Else1 Inv-loop μ-loop → ℕ
+mark c = c .before .before .before .before .before .args .mark .0
+
+standing : (c : tie.Else1 Inv-loop μ-loop) → isStruckMark (mark c) ≡ false
 standing c = sym (c .before .is-struck .ensures) ∙ c .if1 .left
 
 mul-depth : tie.Need-mul-depth Inv-loop μ-loop
@@ -46,7 +49,7 @@ returns-2 c =
     let q = p .before .before in
     rest-stop _ _ _ _ _ _ _ _ _ (c .before .before .before .loop-test .taken) (c .if2 .taken)
     ∙ p .loop .inv .2
-    ∙ rest-whole _ _ _ _ _ _ (standing (q))
+    ∙ rest-whole _ _ _ (mark q) _ _ _ (standing q)
 
 mul-weight : tie.Need-mul-weight Inv-loop μ-loop
 mul-weight c = omega (arith, inside (c .before .before .before))
@@ -68,10 +71,11 @@ loop-again c =
 
 returns-3 : tie.Need-returns-3 Inv-loop μ-loop
 returns-3 c =
+    let q = c .before .before .before .before in
     rw (c .finish .ensures)
     (rest-end _ _ _ _ _ _ _ _ _ (c .before .loop-test .left)
     ∙ c .before .before .loop .inv .2
-    ∙ rest-whole _ _ _ _ _ _ (standing (c .before .before .before .before)))
+    ∙ rest-whole _ _ _ (mark q) _ _ _ (standing q))
 
 pub candidate-spec : {M : Type 1} → statement M
 candidate-spec =

@@ -4,7 +4,7 @@ use mathlib.Core.Bool.{not}
 use mathlib.Core.List.{List}
 use Prim.Native.Nat.{ℕ}
 use borrow.Author.Needs.{needs}
-use Rattle.weights.specs.Figures.{isStruck}
+use Rattle.weights.specs.Figures.{isStruckMark}
 use Rattle.weights.specs.Measures.{algebra}
 use Rattle.provenance.specs.Labelling.{offerOf}
 use Rattle.columns.specs.Columns.{cell}
@@ -14,15 +14,16 @@ use Rattle.offers.proofs.offer.Tie as tie
 
 candidate-requires : tie.Need-candidate-requires
 candidate-requires c κs =
-    let entry = c .before .before .before .before .before .before .before in
+    let entry = c .before .before .before .before .before .before .before .before .before in
     subst (λ (t : List ℕ). Legible t (entry .args .weights .now) (entry .args .depths .now)) (sym (c .tail-of .ensures)) (entry .pre .legible)
 
 returns : tie.Need-returns
 returns c =
-    let a = c .before .before .before .before .before .before .before .before .args in
+    let a = c .before .before .before .before .before .before .before .before .before .before .args in
     let own = cell (a .own .now) (a .e .0) in
+    let live = not (isStruckMark (cell (a .strikes .now) (a .e .0))) in
     c .candidate .ensures
-    ∙ ap (λ (t : List ℕ). offerOf (algebra (a .measure)) (not (isStruck own)) own t (cell (a .weights .now)) (cell (a .depths .now)) (a .e .0)) (c .before .tail-of .ensures)
+    ∙ ap (λ (t : List ℕ). offerOf (algebra (a .measure)) live own t (cell (a .weights .now)) (cell (a .depths .now)) (a .e .0)) (c .before .tail-of .ensures)
 
 pub offer-spec : {M : Type 1} → statement M
-offer-spec = tie.close (tie.spec (λ c. search needs) (λ c. search needs) (λ c κs. search needs) candidate-requires returns)
+offer-spec = tie.close (tie.spec (λ c. search needs) (λ c. search needs) (λ c. search needs) (λ c. search needs) (λ c κs. search needs) candidate-requires returns)
