@@ -16,12 +16,12 @@ use Rattle.weights.specs.declared.Measure.{Measure}
 use Rattle.weights.specs.declared.Measure.the-variants.{Cost, Days}
 use Rattle.weights.specs.Labels.{label}
 use Rattle.weights.specs.Measures.{Algebra, algebra, fold}
-use Rattle.weights.specs.Figures.{over, isStruck}
+use Rattle.weights.specs.Figures.{over, isStruckMark}
 use Rattle.weights.specs.declared.Offer.{Offer}
 use Rattle.weights.specs.declared.Offer.the-variants.{Nothing, Found}
 use Rattle.provenance.specs.Labelling.{each, greatestDepth, noneZero}
 use Rattle.provenance.specs.BestFirst.{opening}
-use Rattle.columns.specs.Columns.{Columns, headAt, ownAt, tailAt, cell}
+use Rattle.columns.specs.Columns.{Columns, headAt, strikeAt, tailAt, cell}
 use Rattle.tables.specs.Table.{hypergraph}
 use Rattle.offers.proofs.Laws.{rest, rest-more}
 use Rattle.minima.specs.Minima.{none, keys, Grouped}
@@ -137,7 +137,7 @@ module _ (A : Algebra) (c : Columns) (w d : ℕ → ℕ) (s : Lines) (u e i j g 
       }
 
   -- e itself waits for u, if there is room for it
-  pub waiter-same : Sizes (length (c .heads)) s → e < places (length (c .heads)) → e < length (c .heads) → isStruck (ownAt c e) ≡ false
+  pub waiter-same : Sizes (length (c .heads)) s → e < places (length (c .heads)) → e < length (c .heads) → isStruckMark (strikeAt c e) ≡ false
       → i < length (tailAt c e) → cell (tailAt c e) i ≡ u → Carried A w d (tailAt c e) i j g → Waiter A c w d after u e
   waiter-same z m h n b y k =
       let p = getD-set-same (s .at) e i 0 (omega (arith, z .at)) in
@@ -274,7 +274,7 @@ module _ (A : Algebra) (c : Columns) (w d : ℕ → ℕ) (heads : (e : ℕ) → 
       -- e waits for another vertex
       pub went-waits : (i j g : ℕ) → Sizes (length (c .heads)) s → e < places (length (c .heads)) → ((k : ℕ) → k < length (tailAt c e) → cell (tailAt c e) k < c .vertices) → c .vertices ≤ 1024
           → busy e → (busy′ e → ⊥)
-          → isStruck (ownAt c e) ≡ false → i < length (tailAt c e) → d (cell (tailAt c e) i) ≡ 0 → Carried A w d (tailAt c e) i j g
+          → isStruckMark (strikeAt c e) ≡ false → i < length (tailAt c e) → d (cell (tailAt c e) i) ≡ 0 → Carried A w d (tailAt c e) i j g
           → Waiting A c w d (pushed s (cell (tailAt c e) i) e i j g) q′ busy′
       went-waits i j g z m inside few was gone n b y k =
           record {

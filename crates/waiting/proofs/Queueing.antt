@@ -15,11 +15,11 @@ use Rattle.weights.specs.declared.Offer.{Offer}
 use Rattle.weights.specs.declared.Offer.the-variants.{Nothing}
 use Rattle.weights.specs.Choice.{pick}
 use Rattle.weights.proofs.Choice.{apart}
-use Rattle.weights.specs.Figures.{isStruck}
+use Rattle.weights.specs.Figures.{isStruckMark}
 use Rattle.weights.specs.Measures.{Algebra}
 use Rattle.provenance.specs.Labelling.{noneZero, offerOf}
 use Rattle.provenance.specs.BestFirst.{opening}
-use Rattle.columns.specs.Columns.{Columns, headAt, ownAt, tailAt, cell}
+use Rattle.columns.specs.Columns.{Columns, headAt, strikeAt, tailAt, cell}
 use Rattle.tables.specs.Table.{hypergraph}
 use Rattle.minima.specs.Minima.{none, keys, raised}
 use Rattle.minima.proofs.Laws.{raised-same, raised-other, raised-grouped}
@@ -30,7 +30,7 @@ use Rattle.waiting.specs.Lines.{Lines, Extends, Chain, Waiter, keyOn, Pl
 use Rattle.waiting.proofs.Keeping.{chain-on, chain-each, unmade-before, made-still, waiter-on, source-bound}
 
 -- a struck hyperedge offers nothing
-open-struck : (A : Algebra) (c : Columns) (w d : ℕ → ℕ) (e : ℕ) → isStruck (ownAt c e) ≡ true → opening A (hypergraph c) (cell (c .own)) w d e ≡ Nothing
+open-struck : (A : Algebra) (c : Columns) (w d : ℕ → ℕ) (e : ℕ) → isStruckMark (strikeAt c e) ≡ true → opening A (hypergraph c) (cell (c .own)) w d e ≡ Nothing
 unfolding opening offerOf
 open-struck A c w d e p = rw p (go (eqb (d (headAt c e)) 0))
   where
@@ -63,14 +63,14 @@ module _ (A : Algebra) (c : Columns) (w d : ℕ → ℕ) {s : Lines} where
     bound u l = source-bound A c w d heads fits q u (W .offers u l)
 
     below-key : (u : ℕ) → u < keys → (e : ℕ) → e < length (c .heads) → headAt c e ≡ u → cell q u ≤ key e
-    below-key u l e h p = go (isStruck (ownAt c e)) refl (ℕ-discrete (d (headAt c e)) 0)
+    below-key u l e h p = go (isStruckMark (strikeAt c e)) refl (ℕ-discrete (d (headAt c e)) 0)
       where
         placed : Placed A c w d (W .lists) q (λ e. ⊥) e → cell q u ≤ key e
         placed (kept b) = absurd b
         placed (waits v k z i) = omega (arith, bound u l, shut z (chain-each (W .chained v k z) e i))
         placed (heard r b) = omega (arith, ap (cell q) p)
 
-        go : (t : Bool) → isStruck (ownAt c e) ≡ t → Dec (d (headAt c e) ≡ 0) → cell q u ≤ key e
+        go : (t : Bool) → isStruckMark (strikeAt c e) ≡ t → Dec (d (headAt c e) ≡ 0) → cell q u ≤ key e
         go true t z = omega (arith, bound u l, ap keyOf (open-struck A c w d e t))
         go false t (yes z) = placed (W .covered e h t z)
         go false t (no n) = omega (arith, bound u l, ap keyOf (open-made A (hypergraph c) (cell (c .own)) w d e n))

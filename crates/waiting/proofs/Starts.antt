@@ -11,9 +11,9 @@ use lib.Seq.{getD-set-other, set-getD}
 use Rattle.weights.specs.declared.Measure.{Measure}
 use Rattle.weights.specs.declared.Measure.the-variants.{Cost, Days}
 use Rattle.weights.proofs.Choice.{apart}
-use Rattle.weights.specs.Figures.{isStruck}
+use Rattle.weights.specs.Figures.{isStruckMark}
 use Rattle.weights.specs.Measures.{algebra}
-use Rattle.columns.specs.Columns.{Columns, headAt, ownAt, offsetAt, lengthAt, tailAt, cell}
+use Rattle.columns.specs.Columns.{Columns, headAt, strikeAt, offsetAt, lengthAt, tailAt, cell}
 use Rattle.minima.specs.Minima.{Grouped}
 use Rattle.minima.proofs.Laws.{no-keys, no-keys-grouped}
 use Rattle.waiting.specs.Lines.{Lines, lines, pushed, Linkable, Linked, Untouched, Carried, Gone, ended, kept, Moved, stays, waits, Went, Offerable, Going, Starting, Rested, Empty}
@@ -66,7 +66,7 @@ next-or i x h = go (ℕ-discrete x i)
 
 module _ {m : Measure} {c : Columns} {ws ds : List ℕ} {s : Lines} {q : List ℕ} {i : ℕ} (x : Starting m c ws ds s q i) where
   -- a struck hyperedge is passed over
-  pub struck-next : isStruck (ownAt c i) ≡ true → Starting m c ws ds s q (i + 1)
+  pub struck-next : isStruckMark (strikeAt c i) ≡ true → Starting m c ws ds s q (i + 1)
   struck-next t = record {
     sizes = x .sizes;
     unmade = x .unmade;
@@ -74,12 +74,12 @@ module _ {m : Measure} {c : Columns} {ws ds : List ℕ} {s : Lines} {q : List �
     waiting = waiting-on (λ e h u b. go e u (next-or i e b)) (λ e b. omega arith) (x .waiting);
   }
     where
-      go : (e : ℕ) → isStruck (ownAt c e) ≡ false → (e ≡ i) ⊎ (i + 1 ≤ e) → i + 1 ≤ e
-      go e u (inl p) = apart (sym u ∙ ap (λ (z : ℕ). isStruck (ownAt c z)) p ∙ t)
+      go : (e : ℕ) → isStruckMark (strikeAt c e) ≡ false → (e ≡ i) ⊎ (i + 1 ≤ e) → i + 1 ≤ e
+      go e u (inl p) = apart (sym u ∙ ap (λ (z : ℕ). isStruckMark (strikeAt c z)) p ∙ t)
       go e u (inr h) = h
 
   -- any other goes on from the start of its tail
-  module _ (o : Offerable c ws ds q) (h : i < length (c .heads)) (u : isStruck (ownAt c i) ≡ false) where
+  module _ (o : Offerable c ws ds q) (h : i < length (c .heads)) (u : isStruckMark (strikeAt c i) ≡ false) where
     pub going : {j : ℕ} → j ≡ algebra m .unit → Going m c ws ds s i 0 j 0
     going {j} p = record {
       sizes = x .sizes;

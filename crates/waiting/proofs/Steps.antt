@@ -15,13 +15,13 @@ use Rattle.weights.specs.declared.Label.{Label}
 use Rattle.weights.specs.declared.Offer.{Offer}
 use Rattle.weights.specs.declared.Offer.the-variants.{Nothing, Found}
 use Rattle.weights.specs.Choice.{pick}
-use Rattle.weights.specs.Figures.{isStruck}
+use Rattle.weights.specs.Figures.{isStruckMark}
 use Rattle.weights.specs.Labels.{label}
 use Rattle.weights.specs.Measures.{Algebra, algebra, fold}
 use Rattle.provenance.specs.Hypergraph.{Hypergraph}
 use Rattle.provenance.specs.Labelling.{each, greatestDepth, noneZero}
 use Rattle.provenance.specs.BestFirst.{opening}
-use Rattle.columns.specs.Columns.{Columns, headAt, ownAt, offsetAt, lengthAt, tailAt, cell}
+use Rattle.columns.specs.Columns.{Columns, headAt, ownAt, strikeAt, offsetAt, lengthAt, tailAt, cell}
 use Rattle.tables.specs.Table.{hypergraph}
 use Rattle.columns.proofs.Accepted.{table-accepted, below-at}
 use Rattle.columns.proofs.Usable.{edge-in}
@@ -122,9 +122,9 @@ module _ (A : Algebra) (c : Columns) (w d : ℕ → ℕ) (e : ℕ) where
         go true m z = refl
         go false m z = absurd (let y : _≡_ {A = ℕ} 0 1 = cc in omega arith)
 
-    pub end-open : isStruck (ownAt c e) ≡ false → d (headAt c e) ≡ 0 → Found (label (A .finish (ownAt c e) j) (g + 1) e) ≡ here
+    pub end-open : isStruckMark (strikeAt c e) ≡ false → d (headAt c e) ≡ 0 → Found (label (A .finish (ownAt c e) j) (g + 1) e) ≡ here
     unfolding opening
-    end-open u f = at-end ∙ rest-whole A e (ownAt c e) w d (tailAt c e) u ∙ rw (eq-eqb _ _ f)
+    end-open u f = at-end ∙ rest-whole A e (ownAt c e) (strikeAt c e) w d (tailAt c e) u ∙ rw (eq-eqb _ _ f)
 
   -- at a vertex that is unmade nothing is offered
   pub heard-nothing : (q : List ℕ) (i : ℕ) → i < length (tailAt c e) → d (cell (tailAt c e) i) ≡ 0 → q ≡ offered q (headAt c e) here

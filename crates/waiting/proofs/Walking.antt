@@ -7,9 +7,9 @@ use mathlib.Core.List.{List, _∷_, List·Memᴰ, List·Memᴰ·head, List·Mem�
 use native.Mathlib.Omega.{arith}
 use lib.ListN.{length}
 use Rattle.weights.specs.declared.Measure.{Measure}
-use Rattle.weights.specs.Figures.{isStruck}
+use Rattle.weights.specs.Figures.{isStruckMark}
 use Rattle.weights.specs.Measures.{Algebra, algebra}
-use Rattle.columns.specs.Columns.{Columns, ownAt, tailAt, cell}
+use Rattle.columns.specs.Columns.{Columns, strikeAt, tailAt, cell}
 use Rattle.waiting.specs.Lines.{end, Lines, places, pushed, Chain, ended, linked, Waiter, Placed, kept, waits, heard, Waiting, Moved, stays, Went, Offerable, Waking, Rested, Wakeful}
 use Rattle.waiting.proofs.Keeping.{chain-other, pushed-sizes, went-stays, went-waits}
 use Rattle.waiting.proofs.Steps.{few, edge-few, edge-room, head-key, tail-below, edge-fits}
@@ -22,7 +22,7 @@ placed-on f (waits v l z i) = waits v l z i
 placed-on f (heard r b) = heard r b
 
 pub waiting-on : {A : Algebra} {c : Columns} {w d : ℕ → ℕ} {s : Lines} {q : List ℕ} {busy busy′ : ℕ → Type 0}
-    → ((e : ℕ) → e < length (c .heads) → isStruck (ownAt c e) ≡ false → busy e → busy′ e) → ((e : ℕ) → busy′ e → busy e) → Waiting A c w d s q busy
+    → ((e : ℕ) → e < length (c .heads) → isStruckMark (strikeAt c e) ≡ false → busy e → busy′ e) → ((e : ℕ) → busy′ e → busy e) → Waiting A c w d s q busy
     → Waiting A c w d s q busy′
 waiting-on f g W =
     record {

@@ -10,11 +10,11 @@ use lib.ListN.{length, drop, set, replicate}
 use lib.Dec.{leb}
 use Rattle.weights.specs.declared.Measure.{Measure}
 use Rattle.weights.specs.declared.Measure.the-variants.{Cost, Days}
-use Rattle.weights.specs.Figures.{isStruck}
+use Rattle.weights.specs.Figures.{isStruckMark}
 use Rattle.weights.specs.Measures.{Algebra, algebra}
 use Rattle.provenance.specs.Labelling.{noneZero}
 use Rattle.provenance.specs.BestFirst.{opening}
-use Rattle.columns.specs.Columns.{Columns, headAt, ownAt, tailAt, cell}
+use Rattle.columns.specs.Columns.{Columns, headAt, strikeAt, tailAt, cell}
 use Rattle.tables.specs.Table.{hypergraph}
 use Rattle.columns.specs.Acceptance.{mostVertices, mostEdges, longestTail}
 use Rattle.weights.specs.Choice.{pick}
@@ -110,7 +110,7 @@ module _ (A : Algebra) (c : Columns) (w d : ℕ → ℕ) where
   -- hyperedge e waits for v
   pub record Waiter (s : Lines) (v e : ℕ) : Type 0 where
     pub numbered : e < length (c .heads)
-    pub unstruck : isStruck (ownAt c e) ≡ false
+    pub unstruck : isStruckMark (strikeAt c e) ≡ false
     pub before : cell (s .at) e < length (tailAt c e)
     pub here : cell (tailAt c e) (cell (s .at) e) ≡ v
     pub passed : Carried A w d (tailAt c e) (cell (s .at) e) (cell (s .joined) e) (cell (s .deepest) e)
@@ -129,7 +129,7 @@ module _ (A : Algebra) (c : Columns) (w d : ℕ → ℕ) where
   pub record Waiting (s : Lines) (q : List ℕ) (busy : ℕ → Type 0) : Type 0 where
     pub lists : ℕ → List ℕ
     pub chained : (v : ℕ) → v < c .vertices → d v ≡ 0 → Chain (Waiter s v) (s .next) (cell (s .first) v) (lists v)
-    pub covered : (e : ℕ) → e < length (c .heads) → isStruck (ownAt c e) ≡ false → d (headAt c e) ≡ 0 → Placed lists q busy e
+    pub covered : (e : ℕ) → e < length (c .heads) → isStruckMark (strikeAt c e) ≡ false → d (headAt c e) ≡ 0 → Placed lists q busy e
     pub apart : (v e : ℕ) → v < c .vertices → d v ≡ 0 → List·Memᴰ e (lists v) → busy e → ⊥
     pub grouped : Grouped q
     pub offers : (u : ℕ) → u < keys → (cell q u ≡ none) ⊎ ((e : ℕ) × ((e < length (c .heads)) × ((headAt c e ≡ u) × (cell q u ≡ keyOn e))))
@@ -171,7 +171,7 @@ pub record Offerable (c : Columns) (ws ds q : List ℕ) : Type 0 where
 pub record Going (m : Measure) (c : Columns) (ws ds : List ℕ) (s : Lines) (e i j g : ℕ) : Type 0 where
   pub sizes : Sizes (length (c .heads)) s
   pub numbered : e < length (c .heads)
-  pub unstruck : isStruck (ownAt c e) ≡ false
+  pub unstruck : isStruckMark (strikeAt c e) ≡ false
   pub fresh : cell ds (headAt c e) ≡ 0
   pub passed : Carried (algebra m) (cell ws) (cell ds) (tailAt c e) i j g
 

@@ -5,6 +5,7 @@
 use offers::deeper;
 use weights::Hyperedge;
 use weights::Label;
+use weights::Mark;
 use weights::Measure;
 use weights::Vertex;
 use weights::Weight;
@@ -113,6 +114,7 @@ fn advance(
     from: Reached,
     heads: &[u64],
     own: &[u64],
+    strikes: &[u64],
     spans: &[u64],
     tails: &[u64],
     weights: &[u64],
@@ -124,11 +126,11 @@ fn advance(
     deepest: &mut [u16],
     queue: &mut [u64],
 )
-    requires { let c = lent (now heads) (now own) (now spans) (now tails) (now depths) in
+    requires { let c = lent (now heads) (now own) (now strikes) (now spans) (now tails) (now depths) in
         let s = lines (now first) (now next) (now at) (now joined) (now deepest) in
         ⌜ (Offerable c (now weights) (now depths) (now queue)) × Going measure c (now weights) (now depths) s (e .0) (from .at) (from .joined .0) (from .deepest) ⌝ }
     ensures { λ r.
-        let c = lent (now (heads .entry)) (now (own .entry)) (now (spans .entry)) (now (tails .entry)) (now (depths .entry)) in
+        let c = lent (now (heads .entry)) (now (own .entry)) (now (strikes .entry)) (now (spans .entry)) (now (tails .entry)) (now (depths .entry)) in
         let s = lines (now (first .entry)) (now (next .entry)) (now (at .entry)) (now (joined .entry)) (now (deepest .entry)) in
         let s′ = lines (now (first .exit)) (now (next .exit)) (now (at .exit)) (now (joined .exit)) (now (deepest .exit)) in
         ⌜ Went (algebra measure) c (cell (now (weights .entry))) (cell (now (depths .entry))) (e .0) s s′ (now (queue .entry)) (now (queue .exit)) ⌝ }
@@ -164,6 +166,7 @@ fn wake(
     e: Hyperedge,
     heads: &[u64],
     own: &[u64],
+    strikes: &[u64],
     spans: &[u64],
     tails: &[u64],
     weights: &[u64],
@@ -175,11 +178,11 @@ fn wake(
     deepest: &mut [u16],
     queue: &mut [u64],
 )
-    requires { let c = lent (now heads) (now own) (now spans) (now tails) (now depths) in
+    requires { let c = lent (now heads) (now own) (now strikes) (now spans) (now tails) (now depths) in
         let s = lines (now first) (now next) (now at) (now joined) (now deepest) in
         ⌜ (Offerable c (now weights) (now depths) (now queue)) × Wakeful measure c (now weights) (now depths) s (e .0) ⌝ }
     ensures { λ r.
-        let c = lent (now (heads .entry)) (now (own .entry)) (now (spans .entry)) (now (tails .entry)) (now (depths .entry)) in
+        let c = lent (now (heads .entry)) (now (own .entry)) (now (strikes .entry)) (now (spans .entry)) (now (tails .entry)) (now (depths .entry)) in
         let s = lines (now (first .entry)) (now (next .entry)) (now (at .entry)) (now (joined .entry)) (now (deepest .entry)) in
         let s′ = lines (now (first .exit)) (now (next .exit)) (now (at .exit)) (now (joined .exit)) (now (deepest .exit)) in
         ⌜ Went (algebra measure) c (cell (now (weights .entry))) (cell (now (depths .entry))) (e .0) s s′ (now (queue .entry)) (now (queue .exit)) ⌝ }
@@ -203,6 +206,7 @@ fn wake(
         from,
         heads,
         own,
+        strikes,
         spans,
         tails,
         weights,
@@ -222,6 +226,7 @@ pub fn wake_all(
     v: Vertex,
     heads: &[u64],
     own: &[u64],
+    strikes: &[u64],
     spans: &[u64],
     tails: &[u64],
     weights: &[u64],
@@ -233,11 +238,11 @@ pub fn wake_all(
     deepest: &mut [u16],
     queue: &mut [u64],
 )
-    requires { let c = lent (now heads) (now own) (now spans) (now tails) (now depths) in
+    requires { let c = lent (now heads) (now own) (now strikes) (now spans) (now tails) (now depths) in
         let s = lines (now first) (now next) (now at) (now joined) (now deepest) in
         ⌜ (Offerable c (now weights) (now depths) (now queue)) × ((v .0 < length (now depths)) × Waking measure c (now weights) (now depths) s (now queue) (v .0) (cell (now first) (v .0))) ⌝ }
     ensures { λ r.
-        let c = lent (now (heads .entry)) (now (own .entry)) (now (spans .entry)) (now (tails .entry)) (now (depths .entry)) in
+        let c = lent (now (heads .entry)) (now (own .entry)) (now (strikes .entry)) (now (spans .entry)) (now (tails .entry)) (now (depths .entry)) in
         let s′ = lines (now (first .exit)) (now (next .exit)) (now (at .exit)) (now (joined .exit)) (now (deepest .exit)) in
         ⌜ Rested measure c (now (weights .entry)) (now (depths .entry)) s′ (now (queue .exit)) ⌝ }
 {
@@ -253,6 +258,7 @@ pub fn wake_all(
             e,
             heads,
             own,
+            strikes,
             spans,
             tails,
             weights,
@@ -275,6 +281,7 @@ fn begin(
     e: Hyperedge,
     heads: &[u64],
     own: &[u64],
+    strikes: &[u64],
     spans: &[u64],
     tails: &[u64],
     weights: &[u64],
@@ -286,17 +293,17 @@ fn begin(
     deepest: &mut [u16],
     queue: &mut [u64],
 )
-    requires { let c = lent (now heads) (now own) (now spans) (now tails) (now depths) in
+    requires { let c = lent (now heads) (now own) (now strikes) (now spans) (now tails) (now depths) in
         let s = lines (now first) (now next) (now at) (now joined) (now deepest) in
         ⌜ (Offerable c (now weights) (now depths) (now queue)) × ((e .0 < length (now heads)) × Starting measure c (now weights) (now depths) s (now queue) (e .0)) ⌝ }
     ensures { λ r.
-        let c = lent (now (heads .entry)) (now (own .entry)) (now (spans .entry)) (now (tails .entry)) (now (depths .entry)) in
+        let c = lent (now (heads .entry)) (now (own .entry)) (now (strikes .entry)) (now (spans .entry)) (now (tails .entry)) (now (depths .entry)) in
         let s′ = lines (now (first .exit)) (now (next .exit)) (now (at .exit)) (now (joined .exit)) (now (deepest .exit)) in
         ⌜ Starting measure c (now (weights .entry)) (now (depths .entry)) s′ (now (queue .exit)) (e .0 + 1) ⌝ }
 {
     let i = e.0 as usize;
-    let figure = own[i];
-    let struck = Weight(figure).is_struck();
+    let mark = strikes[i];
+    let struck = Mark(mark).is_struck();
     if struck {
         return;
     }
@@ -319,6 +326,7 @@ fn begin(
         from,
         heads,
         own,
+        strikes,
         spans,
         tails,
         weights,
@@ -337,6 +345,7 @@ pub fn start(
     measure: Measure,
     heads: &[u64],
     own: &[u64],
+    strikes: &[u64],
     spans: &[u64],
     tails: &[u64],
     weights: &[u64],
@@ -348,11 +357,11 @@ pub fn start(
     deepest: &mut [u16],
     queue: &mut [u64],
 )
-    requires { let c = lent (now heads) (now own) (now spans) (now tails) (now depths) in
+    requires { let c = lent (now heads) (now own) (now strikes) (now spans) (now tails) (now depths) in
         let s = lines (now first) (now next) (now at) (now joined) (now deepest) in
         ⌜ (Offerable c (now weights) (now depths) (now queue)) × Empty c (now depths) s (now queue) ⌝ }
     ensures { λ r.
-        let c = lent (now (heads .entry)) (now (own .entry)) (now (spans .entry)) (now (tails .entry)) (now (depths .entry)) in
+        let c = lent (now (heads .entry)) (now (own .entry)) (now (strikes .entry)) (now (spans .entry)) (now (tails .entry)) (now (depths .entry)) in
         let s′ = lines (now (first .exit)) (now (next .exit)) (now (at .exit)) (now (joined .exit)) (now (deepest .exit)) in
         ⌜ Rested measure c (now (weights .entry)) (now (depths .entry)) s′ (now (queue .exit)) ⌝ }
 {
@@ -365,6 +374,7 @@ pub fn start(
             e,
             heads,
             own,
+            strikes,
             spans,
             tails,
             weights,

@@ -20,105 +20,105 @@ use Rattle.waiting.specs.Lines.{lines, Gone}
 use Rattle.waiting.proofs.Steps.{passable, edge-few, head-key, tails-few, tail-length, tail-at, edge-fits, found-fits, span-length, end-open, went-on, went-out, pushable}
 
 -- as far as the tail goes, or to a vertex that is unmade
-gone : (c : tie.After-go-on) → let a = c .before .before .before .before .before .before .before .before .before .before .before .before .before .before .before .before .args in
+gone : (c : tie.After-go-on) → let a = c .before .before .before .before .before .before .before .before .before .before .before .before .before .before .before .before .before .args in
     Gone (algebra (a .measure)) (cell (a .weights .now)) (cell (a .depths .now))
-    (tailAt (lent (a .heads .now) (a .own .now) (a .spans .now) (a .tails .now) (a .depths .now)) (a .e .0)) (c .go-on .result .at)
+    (tailAt (lent (a .heads .now) (a .own .now) (a .strikes .now) (a .spans .now) (a .tails .now) (a .depths .now)) (a .e .0)) (c .go-on .result .at)
     (c .go-on .result .joined .0) (c .go-on .result .deepest)
 gone c = rw span-length at (c .go-on .ensures)
 
 -- the length of the tail
-long : (c : tie.After-go-on) → let a = c .before .before .before .before .before .before .before .before .before .before .before .before .before .before .before .before .args in
-    length (tailAt (lent (a .heads .now) (a .own .now) (a .spans .now) (a .tails .now) (a .depths .now)) (a .e .0)) ≡ lengthAt
-    (lent (a .heads .now) (a .own .now) (a .spans .now) (a .tails .now) (a .depths .now)) (a .e .0)
+long : (c : tie.After-go-on) → let a = c .before .before .before .before .before .before .before .before .before .before .before .before .before .before .before .before .before .args in
+    length (tailAt (lent (a .heads .now) (a .own .now) (a .strikes .now) (a .spans .now) (a .tails .now) (a .depths .now)) (a .e .0)) ≡ lengthAt
+    (lent (a .heads .now) (a .own .now) (a .strikes .now) (a .spans .now) (a .tails .now) (a .depths .now)) (a .e .0)
 long c =
     tail-length
-    (c .before .before .before .before .before .before .before .before .before .before .before .before .before .before .before .before .pre .0)
-    (c .before .before .before .before .before .before .before .before .before .before .before .before .before .before .before .before .args .e .0)
-    (c .before .before .before .before .before .before .before .before .before .before .before .before .before .before .before .before .pre .1 .numbered)
-
-further : (c : tie.Then1) → let a = c .before .before .before .before .before .before .before .before .before .before .before .before .before .before .before .before .before .args in
-    c .before .go-on .result .at < length (tailAt (lent (a .heads .now) (a .own .now) (a .spans .now) (a .tails .now) (a .depths .now)) (a .e .0))
-further c = omega (arith, long (c .before), c .if1 .taken)
-
-vertex : (c : tie.Then1) → let a = c .before .before .before .before .before .before .before .before .before .before .before .before .before .before .before .before .before .args in
-    cell (tailAt (lent (a .heads .now) (a .own .now) (a .spans .now) (a .tails .now) (a .depths .now)) (a .e .0))
-    (c .before .go-on .result .at) ≡ cell (a .tails .now)
-    (offsetAt (lent (a .heads .now) (a .own .now) (a .spans .now) (a .tails .now) (a .depths .now)) (a .e .0) + c .before .go-on .result .at)
-vertex c =
-    tail-at
     (c .before .before .before .before .before .before .before .before .before .before .before .before .before .before .before .before .before .pre .0)
     (c .before .before .before .before .before .before .before .before .before .before .before .before .before .before .before .before .before .args .e .0)
     (c .before .before .before .before .before .before .before .before .before .before .before .before .before .before .before .before .before .pre .1 .numbered)
+
+further : (c : tie.Then1) → let a = c .before .before .before .before .before .before .before .before .before .before .before .before .before .before .before .before .before .before .args in
+    c .before .go-on .result .at < length (tailAt (lent (a .heads .now) (a .own .now) (a .strikes .now) (a .spans .now) (a .tails .now) (a .depths .now)) (a .e .0))
+further c = omega (arith, long (c .before), c .if1 .taken)
+
+vertex : (c : tie.Then1) → let a = c .before .before .before .before .before .before .before .before .before .before .before .before .before .before .before .before .before .before .args in
+    cell (tailAt (lent (a .heads .now) (a .own .now) (a .strikes .now) (a .spans .now) (a .tails .now) (a .depths .now)) (a .e .0))
+    (c .before .go-on .result .at) ≡ cell (a .tails .now)
+    (offsetAt (lent (a .heads .now) (a .own .now) (a .strikes .now) (a .spans .now) (a .tails .now) (a .depths .now)) (a .e .0) + c .before .go-on .result .at)
+vertex c =
+    tail-at
+    (c .before .before .before .before .before .before .before .before .before .before .before .before .before .before .before .before .before .before .pre .0)
+    (c .before .before .before .before .before .before .before .before .before .before .before .before .before .before .before .before .before .before .args .e .0)
+    (c .before .before .before .before .before .before .before .before .before .before .before .before .before .before .before .before .before .before .pre .1 .numbered)
     (c .before .go-on .result .at) (c .if1 .taken)
 
-finished : (c : tie.Else1) → let a = c .before .before .before .before .before .before .before .before .before .before .before .before .before .before .before .before .before .args in
-    length (tailAt (lent (a .heads .now) (a .own .now) (a .spans .now) (a .tails .now) (a .depths .now)) (a .e .0)) ≤ c .before .go-on .result .at
+finished : (c : tie.Else1) → let a = c .before .before .before .before .before .before .before .before .before .before .before .before .before .before .before .before .before .before .args in
+    length (tailAt (lent (a .heads .now) (a .own .now) (a .strikes .now) (a .spans .now) (a .tails .now) (a .depths .now)) (a .e .0)) ≤ c .before .go-on .result .at
 finished c = omega (arith, long (c .before), c .if1 .left)
 
 -- what is offered
 is-open : (c : tie.After-struct-known) → let a =
-    c .before .before .before .before .before .before .before .before .before .before .before .before .before .before .before .before .before .before .before .before .before .args in
+    c .before .before .before .before .before .before .before .before .before .before .before .before .before .before .before .before .before .before .before .before .before .before .args in
     Found (label (c .before .finish .result .0) (c .before .before .before .before .before .go-on .result .deepest + 1) (a .e .0)) ≡ opening
-    (algebra (a .measure)) (hypergraph (lent (a .heads .now) (a .own .now) (a .spans .now) (a .tails .now) (a .depths .now))) (cell (a .own .now))
+    (algebra (a .measure)) (hypergraph (lent (a .heads .now) (a .own .now) (a .strikes .now) (a .spans .now) (a .tails .now) (a .depths .now))) (cell (a .own .now))
     (cell (a .weights .now)) (cell (a .depths .now)) (a .e .0)
 is-open c =
-    let a = c .before .before .before .before .before .before .before .before .before .before .before .before .before .before .before .before .before .before .before .before .before .args in
+    let a = c .before .before .before .before .before .before .before .before .before .before .before .before .before .before .before .before .before .before .before .before .before .before .args in
     ap (λ (z : ℕ). Found (label z (c .before .before .before .before .before .go-on .result .deepest + 1) (a .e .0))) (c .before .finish .ensures)
-    ∙ end-open (algebra (a .measure)) (lent (a .heads .now) (a .own .now) (a .spans .now) (a .tails .now) (a .depths .now)) (cell (a .weights .now))
+    ∙ end-open (algebra (a .measure)) (lent (a .heads .now) (a .own .now) (a .strikes .now) (a .spans .now) (a .tails .now) (a .depths .now)) (cell (a .weights .now))
     (cell (a .depths .now)) (a .e .0) (gone (c .before .before .before .before .before) .passed) (finished (c .before .before .before .before))
-    (c .before .before .before .before .before .before .before .before .before .before .before .before .before .before .before .before .before .before .before .before .before .pre .1 .unstruck)
-    (c .before .before .before .before .before .before .before .before .before .before .before .before .before .before .before .before .before .before .before .before .before .pre .1 .fresh)
+    (c .before .before .before .before .before .before .before .before .before .before .before .before .before .before .before .before .before .before .before .before .before .before .pre .1 .unstruck)
+    (c .before .before .before .before .before .before .before .before .before .before .before .before .before .before .before .before .before .before .before .before .before .before .pre .1 .fresh)
 
 shared-slice-read-offset : tie.Need-shared-slice-read-offset
 shared-slice-read-offset c =
-    let p = c .before .before .before .before .before .before .before .before .before .before .before .before .before in
+    let p = c .before .before .before .before .before .before .before .before .before .before .before .before .before .before in
     omega (arith, edge-in (p .pre .0 .usable) (p .args .e .0) (p .pre .1 .numbered) .placed .span)
 
 shared-slice-read-size : tie.Need-shared-slice-read-size
 shared-slice-read-size c =
-    let p = c .before .before .before .before .before .before .before .before .before .before .before .before .before .before in
+    let p = c .before .before .before .before .before .before .before .before .before .before .before .before .before .before .before in
     omega (arith, edge-in (p .pre .0 .usable) (p .args .e .0) (p .pre .1 .numbered) .placed .span)
 
 add-stop : tie.Need-add-stop
 add-stop c =
-    let p = c .before .before .before .before .before .before .before .before .before .before .before .before .before .before in
+    let p = c .before .before .before .before .before .before .before .before .before .before .before .before .before .before .before in
     omega (arith, edge-in (p .pre .0 .usable) (p .args .e .0) (p .pre .1 .numbered) .placed .within)
 
 mul-go-on : tie.Need-mul-go-on
 mul-go-on c =
-    let p = c .before .before .before .before .before .before .before .before .before .before .before .before .before .before in
+    let p = c .before .before .before .before .before .before .before .before .before .before .before .before .before .before .before in
     omega (arith, edge-in (p .pre .0 .usable) (p .args .e .0) (p .pre .1 .numbered) .placed .within)
 
 part-go-on-end : tie.Need-part-go-on-end
 part-go-on-end c =
-    let p = c .before .before .before .before .before .before .before .before .before .before .before .before .before .before in
+    let p = c .before .before .before .before .before .before .before .before .before .before .before .before .before .before .before in
     omega (arith, edge-in (p .pre .0 .usable) (p .args .e .0) (p .pre .1 .numbered) .placed .within)
 
 go-on-requires : tie.Need-go-on-requires
 go-on-requires c κs =
-    let p = c .before .before .before .before .before .before .before .before .before .before .before .before .before .before .before in
+    let p = c .before .before .before .before .before .before .before .before .before .before .before .before .before .before .before .before in
     rw span-length (passable (p .pre .0) (p .args .e .0) (p .pre .1 .numbered), p .pre .1 .passed)
 
 add-v : tie.Need-add-v
 add-v c =
-    let p = c .before .before .before .before .before .before .before .before .before .before .before .before .before .before .before .before .before in
+    let p = c .before .before .before .before .before .before .before .before .before .before .before .before .before .before .before .before .before .before in
     omega (arith, edge-in (p .pre .0 .usable) (p .args .e .0) (p .pre .1 .numbered) .placed .within, c .if1 .taken, tails-few (p .pre .0) (p .args .e .0) (p .pre .1 .numbered))
 
 mul-v : tie.Need-mul-v
 mul-v c =
-    let p = c .before .before .before .before .before .before .before .before .before .before .before .before .before .before .before .before .before in
+    let p = c .before .before .before .before .before .before .before .before .before .before .before .before .before .before .before .before .before .before in
     omega (arith, edge-in (p .pre .0 .usable) (p .args .e .0) (p .pre .1 .numbered) .placed .within, c .if1 .taken, tails-few (p .pre .0) (p .args .e .0) (p .pre .1 .numbered))
 
 shared-slice-read-v : tie.Need-shared-slice-read-v
 shared-slice-read-v c =
-    let p = c .before .before .before .before .before .before .before .before .before .before .before .before .before .before .before .before .before .before in
+    let p = c .before .before .before .before .before .before .before .before .before .before .before .before .before .before .before .before .before .before .before in
     omega (arith, edge-in (p .pre .0 .usable) (p .args .e .0) (p .pre .1 .numbered) .placed .within, c .before .if1 .taken)
 
 wait-requires : tie.Need-wait-requires
 wait-requires c κs =
     let p = c .before .before .before .before .before .before in
     let q = p .before in
-    let r = q .before .before .before .before .before .before .before .before .before .before .before .before .before .before .before .before in
+    let r = q .before .before .before .before .before .before .before .before .before .before .before .before .before .before .before .before .before in
     pushable (r .pre .0) (r .pre .1) _ _ _ _ (gone (q)) (further (p)) (vertex (p))
 
 returns : tie.Need-returns
@@ -126,14 +126,14 @@ returns c =
     let p = c .before .before .before .before .before .before .before .before .before .before in
     let q = p .before .before .before .before .before .before .before in
     let r = q .before in
-    let s = r .before .before .before .before .before .before .before .before .before .before .before .before .before .before .before .before in
+    let s = r .before .before .before .before .before .before .before .before .before .before .before .before .before .before .before .before .before in
     let a = s .args in
-    went-on (algebra (a .measure)) (lent (a .heads .now) (a .own .now) (a .spans .now) (a .tails .now) (a .depths .now)) (cell (a .weights .now))
+    went-on (algebra (a .measure)) (lent (a .heads .now) (a .own .now) (a .strikes .now) (a .spans .now) (a .tails .now) (a .depths .now)) (cell (a .weights .now))
     (cell (a .depths .now)) (a .e .0) (a .queue .now) _ _ _ _ (gone (r)) (further (q)) (vertex (q)) (p .wait .ensures)
 
 shared-slice-read-figure : tie.Need-shared-slice-read-figure
 shared-slice-read-figure c =
-    let p = c .before .before .before .before .before .before .before .before .before .before .before .before .before .before .before .before .before .before in
+    let p = c .before .before .before .before .before .before .before .before .before .before .before .before .before .before .before .before .before .before .before in
     omega (arith, edge-in (p .pre .0 .usable) (p .args .e .0) (p .pre .1 .numbered) .own)
 
 add-depth : tie.Need-add-depth
@@ -141,18 +141,18 @@ add-depth c = omega (arith, gone (c .before .before .before .before .before) .pa
 
 pack-requires : tie.Need-pack-requires
 pack-requires c κs =
-    let p = c .before .before .before .before .before .before .before .before .before .before .before .before .before .before .before .before .before .before .before .before .before in
+    let p = c .before .before .before .before .before .before .before .before .before .before .before .before .before .before .before .before .before .before .before .before .before .before in
     found-fits (edge-fits (p .pre .0) (p .args .e .0) (p .pre .1 .numbered) (p .args .measure)) (is-open c)
 
 mul-h : tie.Need-mul-h
 mul-h c =
-    let p = c .before .before .before .before .before .before .before .before .before .before .before .before .before .before .before .before .before .before .before .before .before .before in
+    let p = c .before .before .before .before .before .before .before .before .before .before .before .before .before .before .before .before .before .before .before .before .before .before .before in
     omega (arith, edge-few (p .pre .0) (p .args .e .0) (p .pre .1 .numbered))
 
 lower-requires : tie.Need-lower-requires
 lower-requires c κs =
     let p =
-    c .before .before .before .before .before .before .before .before .before .before .before .before .before .before .before .before .before .before .before .before .before .before .before .before in
+    c .before .before .before .before .before .before .before .before .before .before .before .before .before .before .before .before .before .before .before .before .before .before .before .before .before in
     (p .pre .0 .sized, head-key (p .pre .0) (p .args .e .0) (p .pre .1 .numbered))
 
 returns-2 : tie.Need-returns-2
@@ -161,9 +161,9 @@ returns-2 c =
     let q = p .before in
     let r = q .before .before .before .before in
     let s = r .before in
-    let u = s .before .before .before .before .before .before .before .before .before .before .before .before .before .before .before .before in
+    let u = s .before .before .before .before .before .before .before .before .before .before .before .before .before .before .before .before .before in
     let a = u .args in
-    went-out (algebra (a .measure)) (lent (a .heads .now) (a .own .now) (a .spans .now) (a .tails .now) (a .depths .now))
+    went-out (algebra (a .measure)) (lent (a .heads .now) (a .own .now) (a .strikes .now) (a .spans .now) (a .tails .now) (a .depths .now))
     (cell (a .weights .now)) (cell (a .depths .now)) (a .e .0)
     (lines (a .first .now) (a .next .now) (a .at .now) (a .joined .now) (a .deepest .now)) _ _ _ (gone (s)) (finished (r))
     (c .before .before .lower .ensures ∙ ap (λ (z : ℕ). lowered (a .queue .now) (cell (a .heads .now) (a .e .0)) z) (p .pack .ensures)

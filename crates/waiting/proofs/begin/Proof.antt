@@ -6,7 +6,7 @@ use mathlib.Core.Path.{_≡_, sym, _∙_}
 use mathlib.Core.Bool.{false}
 use native.Mathlib.Omega.{arith}
 use borrow.Author.Needs.{needs}
-use Rattle.weights.specs.Figures.{isStruck}
+use Rattle.weights.specs.Figures.{isStruckMark}
 use Rattle.columns.specs.Columns.{cell}
 use Rattle.columns.proofs.Usable.{edge-in}
 use Rattle.waiting.proofs.Steps.{tails-few}
@@ -14,16 +14,16 @@ use Rattle.waiting.proofs.Starts.{struck-next, going, first-linkable, f
 
 -- the start, seen from the test of the mark
 abbrev entry : tie.After-is-struck → tie.Start
-entry c = c .before .before .before .before .before .before .before .before .before .before .before .before .before .before
+entry c = c .before .before .before .before .before .before .before .before .before .before .before .before .before .before .before
 
 -- past the test the hyperedge is not struck
-unstruck : (c : tie.Else1) → isStruck (cell (entry (c .before) .args .own .now) (entry (c .before) .args .e .0)) ≡ false
+unstruck : (c : tie.Else1) → isStruckMark (cell (entry (c .before) .args .strikes .now) (entry (c .before) .args .e .0)) ≡ false
 unstruck c = sym (c .before .is-struck .ensures) ∙ c .if1 .left
 
-shared-slice-read-figure : tie.Need-shared-slice-read-figure
-shared-slice-read-figure c =
-    let p = c .before .before .before .before .before .before .before .before .before .before .before .before .before in
-    omega (arith, edge-in (p .pre .0 .usable) (p .args .e .0) (p .pre .1 .0) .own)
+shared-slice-read-mark : tie.Need-shared-slice-read-mark
+shared-slice-read-mark c =
+    let p = c .before .before .before .before .before .before .before .before .before .before .before .before .before .before in
+    omega (arith, edge-in (p .pre .0 .usable) (p .args .e .0) (p .pre .1 .0) .mark)
 
 returns : tie.Need-returns
 returns c = struck-next (entry (c .before) .pre .1 .1) (sym (c .before .is-struck .ensures) ∙ c .if1 .taken)
@@ -84,7 +84,7 @@ begin-spec =
     tie.close
     (tie.spec
     (λ c. search needs)
-    shared-slice-read-figure
+    shared-slice-read-mark
     (λ c κs. search needs)
     returns
     (λ c. search needs)

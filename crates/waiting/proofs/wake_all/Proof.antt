@@ -11,21 +11,21 @@ use Rattle.waiting.proofs.Short.{steps}
 use Rattle.waiting.proofs.Walking.{wakeful, below, placed, walked, rested}
 
 abbrev Inv-loop : tie.InvT-loop
-Inv-loop measure heads own spans tails weights depths first₀ next₀ at₀ joined₀ deepest₀ queue₀ place l₀ first next at joined deepest queue l =
-    Waking measure (lent heads own spans tails depths) weights depths (lines first next at joined deepest) queue place l
+Inv-loop measure heads own strikes spans tails weights depths first₀ next₀ at₀ joined₀ deepest₀ queue₀ place l₀ first next at joined deepest queue l =
+    Waking measure (lent heads own strikes spans tails depths) weights depths (lines first next at joined deepest) queue place l
 
 abbrev μ-loop : tie.MeasureT-loop
-μ-loop measure heads own spans tails weights depths first₀ next₀ at₀ joined₀ deepest₀ queue₀ place l₀ first next at joined deepest queue l = steps next 4096 l
+μ-loop measure heads own strikes spans tails weights depths first₀ next₀ at₀ joined₀ deepest₀ queue₀ place l₀ first next at joined deepest queue l = steps next 4096 l
 
 -- hyperedges can be offered to the queue as it is
-queued : (c : tie.At-loop Inv-loop μ-loop) → let a = c .before .before .before .before .before .before .before .before .before .before .before .before .before .before .args in
-    Offerable (lent (a .heads .now) (a .own .now) (a .spans .now) (a .tails .now) (a .depths .now)) (a .weights .now) (a .depths .now) (c .loop .queue)
+queued : (c : tie.At-loop Inv-loop μ-loop) → let a = c .before .before .before .before .before .before .before .before .before .before .before .before .before .before .before .args in
+    Offerable (lent (a .heads .now) (a .own .now) (a .strikes .now) (a .spans .now) (a .tails .now) (a .depths .now)) (a .weights .now) (a .depths .now) (c .loop .queue)
 queued c =
     record {
       usable =
-          c .before .before .before .before .before .before .before .before .before .before .before .before .before .before .pre .0 .usable;
+          c .before .before .before .before .before .before .before .before .before .before .before .before .before .before .before .pre .0 .usable;
       fitted =
-          c .before .before .before .before .before .before .before .before .before .before .before .before .before .before .pre .0 .fitted;
+          c .before .before .before .before .before .before .before .before .before .before .before .before .before .before .before .pre .0 .fitted;
       sized = c .loop .inv .waiting .grouped .sized;
     }
 
@@ -35,16 +35,16 @@ low c = below (queued (c .before)) (c .before .loop .inv) (c .loop-test .taken)
 
 mul-l : tie.Need-mul-l Inv-loop μ-loop
 mul-l c =
-    let p = c .before .before .before .before .before .before .before .before .before .before .before .before in
+    let p = c .before .before .before .before .before .before .before .before .before .before .before .before .before in
     omega (arith, p .pre .1 .1 .sizes .first, p .pre .1 .0, vertices-few (p .pre .0))
 
 slice-read-l : tie.Need-slice-read-l Inv-loop μ-loop
 slice-read-l c =
-    let p = c .before .before .before .before .before .before .before .before .before .before .before .before .before in
+    let p = c .before .before .before .before .before .before .before .before .before .before .before .before .before .before in
     omega (arith, p .pre .1 .1 .sizes .first, p .pre .1 .0, vertices-few (p .pre .0))
 
 loop-holds : tie.Need-loop-holds Inv-loop μ-loop
-loop-holds c = c .before .before .before .before .before .before .before .before .before .before .before .before .before .pre .1 .1
+loop-holds c = c .before .before .before .before .before .before .before .before .before .before .before .before .before .before .pre .1 .1
 
 cast-i : tie.Need-cast-i Inv-loop μ-loop
 cast-i c = omega (arith, low c)
@@ -81,31 +81,31 @@ loop-again c =
 same-length : tie.Need-same-length Inv-loop μ-loop
 same-length c =
     c .before .loop .inv .sizes .first
-    ∙ sym (c .before .before .before .before .before .before .before .before .before .before .before .before .before .before .before .pre .1 .1 .sizes .first)
+    ∙ sym (c .before .before .before .before .before .before .before .before .before .before .before .before .before .before .before .before .pre .1 .1 .sizes .first)
 
 same-length-2 : tie.Need-same-length-2 Inv-loop μ-loop
 same-length-2 c =
     c .before .loop .inv .sizes .next
-    ∙ sym (c .before .before .before .before .before .before .before .before .before .before .before .before .before .before .before .pre .1 .1 .sizes .next)
+    ∙ sym (c .before .before .before .before .before .before .before .before .before .before .before .before .before .before .before .before .pre .1 .1 .sizes .next)
 
 same-length-3 : tie.Need-same-length-3 Inv-loop μ-loop
 same-length-3 c =
-    c .before .loop .inv .sizes .at ∙ sym (c .before .before .before .before .before .before .before .before .before .before .before .before .before .before .before .pre .1 .1 .sizes .at)
+    c .before .loop .inv .sizes .at ∙ sym (c .before .before .before .before .before .before .before .before .before .before .before .before .before .before .before .before .pre .1 .1 .sizes .at)
 
 same-length-4 : tie.Need-same-length-4 Inv-loop μ-loop
 same-length-4 c =
     c .before .loop .inv .sizes .joined
-    ∙ sym (c .before .before .before .before .before .before .before .before .before .before .before .before .before .before .before .pre .1 .1 .sizes .joined)
+    ∙ sym (c .before .before .before .before .before .before .before .before .before .before .before .before .before .before .before .before .pre .1 .1 .sizes .joined)
 
 same-length-5 : tie.Need-same-length-5 Inv-loop μ-loop
 same-length-5 c =
     c .before .loop .inv .sizes .deepest
-    ∙ sym (c .before .before .before .before .before .before .before .before .before .before .before .before .before .before .before .pre .1 .1 .sizes .deepest)
+    ∙ sym (c .before .before .before .before .before .before .before .before .before .before .before .before .before .before .before .before .pre .1 .1 .sizes .deepest)
 
 same-length-6 : tie.Need-same-length-6 Inv-loop μ-loop
 same-length-6 c =
     c .before .loop .inv .waiting .grouped .sized
-    ∙ sym (c .before .before .before .before .before .before .before .before .before .before .before .before .before .before .before .pre .0 .sized)
+    ∙ sym (c .before .before .before .before .before .before .before .before .before .before .before .before .before .before .before .before .pre .0 .sized)
 
 returns : tie.Need-returns Inv-loop μ-loop
 returns c = rested (queued (c .before)) (c .before .loop .inv) (c .loop-test .left)
