@@ -46,6 +46,7 @@ fn turn(
     measure: Measure,
     heads: &[u64],
     own: &[u64],
+    strikes: &[u64],
     spans: &[u64],
     tails: &[u64],
     weights: &mut [u64],
@@ -58,12 +59,12 @@ fn turn(
     deepest: &mut [u16],
     queue: &mut [u64],
 )
-    requires { let c = lent (now heads) (now own) (now spans) (now tails) (now depths) in
+    requires { let c = lent (now heads) (now own) (now strikes) (now spans) (now tails) (now depths) in
         let a = answers (now weights) (now depths) (now edges) in
         let s = lines (now first) (now next) (now at) (now joined) (now deepest) in
         ⌜ Underway measure c a s (now queue) ⌝ }
     ensures { λ r.
-        let c = lent (now (heads .entry)) (now (own .entry)) (now (spans .entry)) (now (tails .entry)) (now (depths .entry)) in
+        let c = lent (now (heads .entry)) (now (own .entry)) (now (strikes .entry)) (now (spans .entry)) (now (tails .entry)) (now (depths .entry)) in
         let a = answers (now (weights .entry)) (now (depths .entry)) (now (edges .entry)) in
         let a′ = answers (now (weights .exit)) (now (depths .exit)) (now (edges .exit)) in
         let s′ = lines (now (first .exit)) (now (next .exit)) (now (at .exit)) (now (joined .exit)) (now (deepest .exit)) in
@@ -81,6 +82,7 @@ fn turn(
         v,
         heads,
         own,
+        strikes,
         spans,
         tails,
         weights,
@@ -99,6 +101,7 @@ fn turns(
     measure: Measure,
     heads: &[u64],
     own: &[u64],
+    strikes: &[u64],
     spans: &[u64],
     tails: &[u64],
     weights: &mut [u64],
@@ -111,12 +114,12 @@ fn turns(
     deepest: &mut [u16],
     queue: &mut [u64],
 )
-    requires { let c = lent (now heads) (now own) (now spans) (now tails) (now depths) in
+    requires { let c = lent (now heads) (now own) (now strikes) (now spans) (now tails) (now depths) in
         let a = answers (now weights) (now depths) (now edges) in
         let s = lines (now first) (now next) (now at) (now joined) (now deepest) in
         ⌜ Begun measure c a s (now queue) ⌝ }
     ensures { λ r.
-        let c = lent (now (heads .entry)) (now (own .entry)) (now (spans .entry)) (now (tails .entry)) (now (depths .entry)) in
+        let c = lent (now (heads .entry)) (now (own .entry)) (now (strikes .entry)) (now (spans .entry)) (now (tails .entry)) (now (depths .entry)) in
         let a′ = answers (now (weights .exit)) (now (depths .exit)) (now (edges .exit)) in
         ⌜ a′ ≡ best-first (algebra measure) (hypergraph c) (cell (now (own .entry))) ⌝ }
 {
@@ -126,6 +129,7 @@ fn turns(
             measure,
             heads,
             own,
+            strikes,
             spans,
             tails,
             weights,
@@ -148,17 +152,18 @@ fn label_few(
     measure: Measure,
     heads: &[u64],
     own: &[u64],
+    strikes: &[u64],
     spans: &[u64],
     tails: &[u64],
     weights: &mut [u64],
     depths: &mut [u64],
     edges: &mut [u64],
 )
-    requires { let c = lent (now heads) (now own) (now spans) (now tails) (now depths) in
+    requires { let c = lent (now heads) (now own) (now strikes) (now spans) (now tails) (now depths) in
         let a = answers (now weights) (now depths) (now edges) in
         ⌜ (Blank measure c a) × (length (now heads) ≤ fewEdges) ⌝ }
     ensures { λ r.
-        let c = lent (now (heads .entry)) (now (own .entry)) (now (spans .entry)) (now (tails .entry)) (now (depths .entry)) in
+        let c = lent (now (heads .entry)) (now (own .entry)) (now (strikes .entry)) (now (spans .entry)) (now (tails .entry)) (now (depths .entry)) in
         let a′ = answers (now (weights .exit)) (now (depths .exit)) (now (edges .exit)) in
         ⌜ a′ ≡ best-first (algebra measure) (hypergraph c) (cell (now (own .entry))) ⌝ }
 {
@@ -172,6 +177,7 @@ fn label_few(
         measure,
         heads,
         own,
+        strikes,
         spans,
         tails,
         weights,
@@ -187,6 +193,7 @@ fn label_few(
         measure,
         heads,
         own,
+        strikes,
         spans,
         tails,
         weights,
@@ -206,17 +213,18 @@ fn label_many(
     measure: Measure,
     heads: &[u64],
     own: &[u64],
+    strikes: &[u64],
     spans: &[u64],
     tails: &[u64],
     weights: &mut [u64],
     depths: &mut [u64],
     edges: &mut [u64],
 )
-    requires { let c = lent (now heads) (now own) (now spans) (now tails) (now depths) in
+    requires { let c = lent (now heads) (now own) (now strikes) (now spans) (now tails) (now depths) in
         let a = answers (now weights) (now depths) (now edges) in
         ⌜ (Blank measure c a) × (fewEdges < length (now heads)) ⌝ }
     ensures { λ r.
-        let c = lent (now (heads .entry)) (now (own .entry)) (now (spans .entry)) (now (tails .entry)) (now (depths .entry)) in
+        let c = lent (now (heads .entry)) (now (own .entry)) (now (strikes .entry)) (now (spans .entry)) (now (tails .entry)) (now (depths .entry)) in
         let a′ = answers (now (weights .exit)) (now (depths .exit)) (now (edges .exit)) in
         ⌜ a′ ≡ best-first (algebra measure) (hypergraph c) (cell (now (own .entry))) ⌝ }
 {
@@ -230,6 +238,7 @@ fn label_many(
         measure,
         heads,
         own,
+        strikes,
         spans,
         tails,
         weights,
@@ -245,6 +254,7 @@ fn label_many(
         measure,
         heads,
         own,
+        strikes,
         spans,
         tails,
         weights,
@@ -264,21 +274,42 @@ pub fn label_all(
     measure: Measure,
     heads: &[u64],
     own: &[u64],
+    strikes: &[u64],
     spans: &[u64],
     tails: &[u64],
     weights: &mut [u64],
     depths: &mut [u64],
     edges: &mut [u64],
 )
-    requires { ⌜ Blank measure (lent (now heads) (now own) (now spans) (now tails) (now depths)) (answers (now weights) (now depths) (now edges)) ⌝ }
+    requires { ⌜ Blank measure (lent (now heads) (now own) (now strikes) (now spans) (now tails) (now depths)) (answers (now weights) (now depths) (now edges)) ⌝ }
     ensures { λ r.
-        let c = lent (now (heads .entry)) (now (own .entry)) (now (spans .entry)) (now (tails .entry)) (now (depths .entry)) in
+        let c = lent (now (heads .entry)) (now (own .entry)) (now (strikes .entry)) (now (spans .entry)) (now (tails .entry)) (now (depths .entry)) in
         let a′ = answers (now (weights .exit)) (now (depths .exit)) (now (edges .exit)) in
         ⌜ a′ ≡ best-first (algebra measure) (hypergraph c) (cell (now (own .entry))) ⌝ }
 {
     if heads.len() <= 256 {
-        label_few(measure, heads, own, spans, tails, weights, depths, edges);
+        label_few(
+            measure,
+            heads,
+            own,
+            strikes,
+            spans,
+            tails,
+            weights,
+            depths,
+            edges,
+        );
         return;
     }
-    label_many(measure, heads, own, spans, tails, weights, depths, edges);
+    label_many(
+        measure,
+        heads,
+        own,
+        strikes,
+        spans,
+        tails,
+        weights,
+        depths,
+        edges,
+    );
 }

@@ -6,7 +6,7 @@ use Rattle.waiting.proofs.Steps.{places-few}
 use Rattle.bestfirst.proofs.Clear.{clear-columns, offerable, emptied, ready}
 
 abbrev entry : tie.After-queue → tie.Start
-entry c = c .before .before .before .before .before .before .before .before .before .before .before .before .before .before .before
+entry c = c .before .before .before .before .before .before .before .before .before .before .before .before .before .before .before .before
 
 start-requires : tie.Need-start-requires
 start-requires c κs =

@@ -9,28 +9,28 @@ use Rattle.bestfirst.proofs.Turning.{here, stuck, found, placeable, sto
 
 -- what the least key tells is what is next
 is-next : (c : tie.After-unpack)
-    → Found (c .unpack .result) ≡ here (c .before .before .before .before .before .before .before .before .before .before .before .before .before .before .before .before .before .pre)
+    → Found (c .unpack .result) ≡ here (c .before .before .before .before .before .before .before .before .before .before .before .before .before .before .before .before .before .before .pre)
 is-next c =
     found
-    (c .before .before .before .before .before .before .before .before .before .before .before .before .before .before .before .before .before .pre)
+    (c .before .before .before .before .before .before .before .before .before .before .before .before .before .before .before .before .before .before .pre)
     _ (c .before .before .least .ensures) (c .before .if1 .left) (c .unpack .ensures)
 
 returns : tie.Need-returns
 returns c =
-    let p = c .before .before .before .before .before .before .before .before .before .before .before .before .before .before .before .before in
+    let p = c .before .before .before .before .before .before .before .before .before .before .before .before .before .before .before .before .before in
     (stuck (p .pre) _ (c .before .least .ensures) (c .if1 .taken), p .pre .waits)
 
 store-requires : tie.Need-store-requires
 store-requires c κs =
     placeable
-    (c .before .before .before .before .before .before .before .before .before .before .before .before .before .before .before .before .before .before .before .before .pre)
+    (c .before .before .before .before .before .before .before .before .before .before .before .before .before .before .before .before .before .before .before .before .before .pre)
     (is-next (c .before .before .before))
 
 raise-requires : tie.Need-raise-requires
 raise-requires c κs =
     let p = c .before .before .before .before .before .before .before in
     let q = p .before .before .before .before in
-    let r = q .before .before .before .before .before .before .before .before .before .before .before .before .before .before .before .before .before in
+    let r = q .before .before .before .before .before .before .before .before .before .before .before .before .before .before .before .before .before .before in
     raisable (r .pre) (is-next (q)) (p .store .ensures .1) (p .store .ensures .0)
 
 wake-all-requires : tie.Need-wake-all-requires
@@ -38,7 +38,7 @@ wake-all-requires c κs =
     let p = c .before .before .before .before .before .before .before .before .before .before in
     let q = p .before .before .before .before .before .before .before .before in
     let r = q .before .before .before .before in
-    let s = r .before .before .before .before .before .before .before .before .before .before .before .before .before .before .before .before .before in
+    let s = r .before .before .before .before .before .before .before .before .before .before .before .before .before .before .before .before .before .before in
     waking-after (s .pre) (is-next (r)) (q .store .ensures .1) (q .store .ensures .0) (p .raise .ensures)
 
 returns-2 : tie.Need-returns-2
@@ -46,7 +46,7 @@ returns-2 c =
     let p = c .before .before .before .before .before .before .before .before .before .before .before .before in
     let q = p .before .before .before .before .before .before .before .before .before .before .before .before .before .before .before .before .before .before .before in
     let r = q .before .before .before .before in
-    let s = r .before .before .before .before .before .before .before .before .before .before .before .before .before .before .before .before .before in
+    let s = r .before .before .before .before .before .before .before .before .before .before .before .before .before .before .before .before .before .before in
     (stored-turn (s .pre) (is-next (r)) (q .store .ensures .1) (q .store .ensures .0), waits-after (s .pre) (is-next (r)) (q .store .ensures .1) (q .store .ensures .0) (p .wake-all .ensures))
 
 pub turn-spec : {M : Type 1} → statement M
