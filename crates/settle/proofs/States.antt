@@ -1,17 +1,15 @@
 -- A part is unmade exactly if it has no make-up, over exactly if it has one and the plain sum of every one is above the ceiling, and in days never over.
 -- Assumes nothing.
 use mathlib.Core.Path.{_≡_, sym, _∙_, ap}
-use mathlib.Core.Bool.{false}
 use mathlib.Core.List.{List}
 use mathlib.Core.Logic.{_↔_}
 use Prim.Native.Nat.{ℕ, _≤_, _<_, max}
 use native.Mathlib.Omega.{arith}
-use borrow.Author.Tests.{eqb-false, not-true}
 use Rattle.weights.specs.declared.Measure.{Measure}
 use Rattle.weights.specs.declared.Measure.the-variants.{Cost, Days}
 use Rattle.weights.specs.declared.State.the-variants.{Made, Over, Unmade}
 use Rattle.weights.specs.declared.Label.{Label}
-use Rattle.weights.specs.Figures.{greatest, struck, over, capped, isStruck}
+use Rattle.weights.specs.Figures.{greatest, over, capped}
 use Rattle.weights.specs.Labels.{unmade, entryOf}
 use Rattle.weights.proofs.Laws.{at-most}
 use Rattle.weights.specs.Measures.{Algebra, algebra, cost, days, fold, weigh}
@@ -44,10 +42,6 @@ module _ {A : Algebra} {H : Hypergraph} {own : ℕ → ℕ} {l : Label} {v : ℕ
   made-deep (underivable q n) d = absurd (n d)
   made-deep (derivable k) d = omega (arith, deep (k .shown), k .deep)
 
--- an own figure that is allowed and not struck
-pub unstruck-own : (x : ℕ) → x ≤ struck → isStruck x ≡ false → x ≤ greatest
-unstruck-own x h p = let n : ¬ (x ≡ struck) = eqb-false x struck p in omega arith
-
 module _ (c : Columns) (p : acceptance c ≡ Accepted) where
   mutual
     unfolding weight weigh fold
@@ -55,7 +49,7 @@ module _ (c : Columns) (p : acceptance c ≡ Accepted) where
     -- in days a make-up's figure is at most the greatest own figure
     days-low : {v : ℕ} (d : Derivation (hypergraph c) v) → weight days (ownAt c) d ≤ greatest
     days-low (node e s h ds) =
-        let o = unstruck-own (ownAt c e) (table-accepted c p .each e (s .numbered) .1 .own) (not-true _ (s .unstruck)) in
+        let o = table-accepted c p .each e (s .numbered) .1 .own in
         let r = all-low 0 (omega arith) ds in
         omega arith
 

@@ -30,24 +30,35 @@ pub fn label(
     measure: Measure,
     heads: &[u64],
     own: &[u64],
+    strikes: &[u64],
     spans: &[u64],
     tails: &[u64],
     weights: &mut [u64],
     depths: &mut [u64],
     edges: &mut [u64],
 )
-    requires { let c = lent (now heads) (now own) (now spans) (now tails) (now depths) in
+    requires { let c = lent (now heads) (now own) (now strikes) (now spans) (now tails) (now depths) in
         let a = answers (now weights) (now depths) (now edges) in
         ⌜ AcceptedColumns c a ⌝ }
     ensures { λ r.
-        let c = lent (now (heads .entry)) (now (own .entry)) (now (spans .entry)) (now (tails .entry)) (now (depths .entry)) in
+        let c = lent (now (heads .entry)) (now (own .entry)) (now (strikes .entry)) (now (spans .entry)) (now (tails .entry)) (now (depths .entry)) in
         let a′ = answers (now (weights .exit)) (now (depths .exit)) (now (edges .exit)) in
         ⌜ a′ ≡ answersOf measure c ⌝ }
 {
     columns::set_all(weights, 0);
     columns::set_all(depths, 0);
     columns::set_all(edges, 0);
-    bestfirst::label_all(measure, heads, own, spans, tails, weights, depths, edges);
+    bestfirst::label_all(
+        measure,
+        heads,
+        own,
+        strikes,
+        spans,
+        tails,
+        weights,
+        depths,
+        edges,
+    );
 }
 
 // Leaves the table's answers in the three answer columns, or refuses and leaves them as they are.
@@ -56,6 +67,7 @@ pub fn settle(
     n: u64,
     heads: &[u64],
     own: &[u64],
+    strikes: &[u64],
     spans: &[u64],
     tails: &[u64],
     weights: &mut [u64],
@@ -63,17 +75,27 @@ pub fn settle(
     edges: &mut [u64],
 ) -> Acceptance
     ensures { λ r.
-        let c = columns n (now (heads .entry)) (now (own .entry)) (now (spans .entry)) (now (tails .entry)) in
+        let c = columns n (now (heads .entry)) (now (own .entry)) (now (strikes .entry)) (now (spans .entry)) (now (tails .entry)) in
         let a = answers (now (weights .entry)) (now (depths .entry)) (now (edges .entry)) in
         let a′ = answers (now (weights .exit)) (now (depths .exit)) (now (edges .exit)) in
         ⌜ record { result = r; left = a′ } ≡ settled measure c a ⌝ }
 {
-    let a = columns::check_lent(n, heads, own, spans, tails, weights, depths, edges);
+    let a = columns::check_lent(n, heads, own, strikes, spans, tails, weights, depths, edges);
     match a {
         Acceptance::Refused(r) => return Acceptance::Refused(r),
         Acceptance::Accepted => {}
     }
-    label(measure, heads, own, spans, tails, weights, depths, edges);
+    label(
+        measure,
+        heads,
+        own,
+        strikes,
+        spans,
+        tails,
+        weights,
+        depths,
+        edges,
+    );
     Acceptance::Accepted
 }
 
@@ -110,17 +132,18 @@ fn vertex_right(
     v: Vertex,
     heads: &[u64],
     own: &[u64],
+    strikes: &[u64],
     spans: &[u64],
     tails: &[u64],
     weights: &[u64],
     depths: &[u64],
     edges: &[u64],
 ) -> bool
-    requires { let c = lent (now heads) (now own) (now spans) (now tails) (now depths) in
+    requires { let c = lent (now heads) (now own) (now strikes) (now spans) (now tails) (now depths) in
         let a = answers (now weights) (now depths) (now edges) in
         ⌜ (Turning c a) × (v .0 < length (now depths)) ⌝ }
     ensures { λ r.
-        let c = lent (now (heads .entry)) (now (own .entry)) (now (spans .entry)) (now (tails .entry)) (now (depths .entry)) in
+        let c = lent (now (heads .entry)) (now (own .entry)) (now (strikes .entry)) (now (spans .entry)) (now (tails .entry)) (now (depths .entry)) in
         let a = answers (now (weights .entry)) (now (depths .entry)) (now (edges .entry)) in
         ⌜ r ≡ vertexRight (algebra measure) (hypergraph c) (cell (now (own .entry))) (labels a) (v .0) ⌝ }
 {
@@ -141,7 +164,16 @@ fn vertex_right(
     if heads[j] != v.0 {
         return false;
     }
-    let o = offer(measure, Hyperedge(e), own, spans, tails, weights, depths);
+    let o = offer(
+        measure,
+        Hyperedge(e),
+        own,
+        strikes,
+        spans,
+        tails,
+        weights,
+        depths,
+    );
     gives(o, Weight(w), d)
 }
 
@@ -151,23 +183,24 @@ fn edge_right(
     e: Hyperedge,
     heads: &[u64],
     own: &[u64],
+    strikes: &[u64],
     spans: &[u64],
     tails: &[u64],
     weights: &[u64],
     depths: &[u64],
     edges: &[u64],
 ) -> bool
-    requires { let c = lent (now heads) (now own) (now spans) (now tails) (now depths) in
+    requires { let c = lent (now heads) (now own) (now strikes) (now spans) (now tails) (now depths) in
         let a = answers (now weights) (now depths) (now edges) in
         ⌜ (Turning c a) × (e .0 < length (now heads)) ⌝ }
     ensures { λ r.
-        let c = lent (now (heads .entry)) (now (own .entry)) (now (spans .entry)) (now (tails .entry)) (now (depths .entry)) in
+        let c = lent (now (heads .entry)) (now (own .entry)) (now (strikes .entry)) (now (spans .entry)) (now (tails .entry)) (now (depths .entry)) in
         let a = answers (now (weights .entry)) (now (depths .entry)) (now (edges .entry)) in
         ⌜ r ≡ edgeRight (algebra measure) (hypergraph c) (cell (now (own .entry))) (labels a) (e .0) ⌝ }
 {
     let i = e.0 as usize;
     let v = heads[i] as usize;
-    let o = offer(measure, e, own, spans, tails, weights, depths);
+    let o = offer(measure, e, own, strikes, spans, tails, weights, depths);
     let weight = weights[v];
     let depth = depths[v];
     let root = edges[v];
@@ -184,22 +217,34 @@ fn vertices_right(
     measure: Measure,
     heads: &[u64],
     own: &[u64],
+    strikes: &[u64],
     spans: &[u64],
     tails: &[u64],
     weights: &[u64],
     depths: &[u64],
     edges: &[u64],
 ) -> bool
-    requires { ⌜ Turning (lent (now heads) (now own) (now spans) (now tails) (now depths)) (answers (now weights) (now depths) (now edges)) ⌝ }
+    requires { ⌜ Turning (lent (now heads) (now own) (now strikes) (now spans) (now tails) (now depths)) (answers (now weights) (now depths) (now edges)) ⌝ }
     ensures { λ r.
-        let c = lent (now (heads .entry)) (now (own .entry)) (now (spans .entry)) (now (tails .entry)) (now (depths .entry)) in
+        let c = lent (now (heads .entry)) (now (own .entry)) (now (strikes .entry)) (now (spans .entry)) (now (tails .entry)) (now (depths .entry)) in
         let a = answers (now (weights .entry)) (now (depths .entry)) (now (edges .entry)) in
         ⌜ r ≡ every (vertexRight (algebra measure) (hypergraph c) (cell (now (own .entry))) (labels a)) (length (now (depths .entry))) ⌝ }
 {
     let mut i = 0;
     while i < depths.len() {
         let v = Vertex(i as u64);
-        if !vertex_right(measure, v, heads, own, spans, tails, weights, depths, edges) {
+        if !vertex_right(
+            measure,
+            v,
+            heads,
+            own,
+            strikes,
+            spans,
+            tails,
+            weights,
+            depths,
+            edges,
+        ) {
             return false;
         }
         i += 1;
@@ -212,22 +257,34 @@ fn edges_right(
     measure: Measure,
     heads: &[u64],
     own: &[u64],
+    strikes: &[u64],
     spans: &[u64],
     tails: &[u64],
     weights: &[u64],
     depths: &[u64],
     edges: &[u64],
 ) -> bool
-    requires { ⌜ Turning (lent (now heads) (now own) (now spans) (now tails) (now depths)) (answers (now weights) (now depths) (now edges)) ⌝ }
+    requires { ⌜ Turning (lent (now heads) (now own) (now strikes) (now spans) (now tails) (now depths)) (answers (now weights) (now depths) (now edges)) ⌝ }
     ensures { λ r.
-        let c = lent (now (heads .entry)) (now (own .entry)) (now (spans .entry)) (now (tails .entry)) (now (depths .entry)) in
+        let c = lent (now (heads .entry)) (now (own .entry)) (now (strikes .entry)) (now (spans .entry)) (now (tails .entry)) (now (depths .entry)) in
         let a = answers (now (weights .entry)) (now (depths .entry)) (now (edges .entry)) in
         ⌜ r ≡ every (edgeRight (algebra measure) (hypergraph c) (cell (now (own .entry))) (labels a)) (length (now (heads .entry))) ⌝ }
 {
     let mut i = 0;
     while i < heads.len() {
         let e = Hyperedge(i as u64);
-        if !edge_right(measure, e, heads, own, spans, tails, weights, depths, edges) {
+        if !edge_right(
+            measure,
+            e,
+            heads,
+            own,
+            strikes,
+            spans,
+            tails,
+            weights,
+            depths,
+            edges,
+        ) {
             return false;
         }
         i += 1;
@@ -242,25 +299,46 @@ pub fn answers_right(
     n: u64,
     heads: &[u64],
     own: &[u64],
+    strikes: &[u64],
     spans: &[u64],
     tails: &[u64],
     weights: &[u64],
     depths: &[u64],
     edges: &[u64],
 ) -> bool
-    requires { ⌜ AcceptedColumns (columns n (now heads) (now own) (now spans) (now tails)) (answers (now weights) (now depths) (now edges)) ⌝ }
+    requires { ⌜ AcceptedColumns (columns n (now heads) (now own) (now strikes) (now spans) (now tails)) (answers (now weights) (now depths) (now edges)) ⌝ }
     ensures { λ r.
-        let c = columns n (now (heads .entry)) (now (own .entry)) (now (spans .entry)) (now (tails .entry)) in
+        let c = columns n (now (heads .entry)) (now (own .entry)) (now (strikes .entry)) (now (spans .entry)) (now (tails .entry)) in
         let a = answers (now (weights .entry)) (now (depths .entry)) (now (edges .entry)) in
         ⌜ r ≡ sameAnswers a (answersOf measure c) ⌝ }
 {
     if !columns::all_below(n + 1, depths) {
         return false;
     }
-    if !vertices_right(measure, heads, own, spans, tails, weights, depths, edges) {
+    if !vertices_right(
+        measure,
+        heads,
+        own,
+        strikes,
+        spans,
+        tails,
+        weights,
+        depths,
+        edges,
+    ) {
         return false;
     }
-    edges_right(measure, heads, own, spans, tails, weights, depths, edges)
+    edges_right(
+        measure,
+        heads,
+        own,
+        strikes,
+        spans,
+        tails,
+        weights,
+        depths,
+        edges,
+    )
 }
 
 // The same of any table, or why it is refused: yes or no, and never 8.
@@ -269,6 +347,7 @@ pub fn check_answers(
     n: u64,
     heads: &[u64],
     own: &[u64],
+    strikes: &[u64],
     spans: &[u64],
     tails: &[u64],
     weights: &[u64],
@@ -276,16 +355,27 @@ pub fn check_answers(
     edges: &[u64],
 ) -> Verdict
     ensures { λ r.
-        let c = columns n (now (heads .entry)) (now (own .entry)) (now (spans .entry)) (now (tails .entry)) in
+        let c = columns n (now (heads .entry)) (now (own .entry)) (now (strikes .entry)) (now (spans .entry)) (now (tails .entry)) in
         let a = answers (now (weights .entry)) (now (depths .entry)) (now (edges .entry)) in
         ⌜ r ≡ checked measure c a ⌝ }
 {
-    let a = columns::check_lent(n, heads, own, spans, tails, weights, depths, edges);
+    let a = columns::check_lent(n, heads, own, strikes, spans, tails, weights, depths, edges);
     match a {
         Acceptance::Refused(r) => return Verdict::Refused(r),
         Acceptance::Accepted => {}
     }
-    if answers_right(measure, n, heads, own, spans, tails, weights, depths, edges) {
+    if answers_right(
+        measure,
+        n,
+        heads,
+        own,
+        strikes,
+        spans,
+        tails,
+        weights,
+        depths,
+        edges,
+    ) {
         return Verdict::Yes;
     }
     Verdict::No

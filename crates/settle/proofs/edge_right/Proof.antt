@@ -11,15 +11,15 @@ use Rattle.settle.proofs.edge_right.Tie as tie
 
 offer-requires : tie.Need-offer-requires
 offer-requires c κs =
-    let p = c .before .before .before .before .before .before .before .before in
+    let p = c .before .before .before .before .before .before .before .before .before in
     edge-in (p .pre .0 .usable) _ (p .pre .1)
 
 -- the head has its place in the columns
 inside : (c : tie.After-offer)
-    → getD (c .before .before .before .before .before .before .before .before .before .args .heads .now)
-    (c .before .before .before .before .before .before .before .before .before .args .e .0) 0 < length
-    (c .before .before .before .before .before .before .before .before .before .args .depths .now)
-inside c = head-in (c .before .before .before .before .before .before .before .before .before .pre .0 .usable) _ (c .before .before .before .before .before .before .before .before .before .pre .1)
+    → getD (c .before .before .before .before .before .before .before .before .before .before .args .heads .now)
+    (c .before .before .before .before .before .before .before .before .before .before .args .e .0) 0 < length
+    (c .before .before .before .before .before .before .before .before .before .before .args .depths .now)
+inside c = head-in (c .before .before .before .before .before .before .before .before .before .before .pre .0 .usable) _ (c .before .before .before .before .before .before .before .before .before .before .pre .1)
 
 mul-weight : tie.Need-mul-weight
 mul-weight c = omega (arith, inside c)

@@ -8,7 +8,7 @@ use Rattle.settle.proofs.label.Tie as tie
 
 -- the table and the answer columns as they came
 abbrev tableOf : tie.Start → Columns
-tableOf c = let a = c .args in columns (length (a .depths .now)) (a .heads .now) (a .own .now) (a .spans .now) (a .tails .now)
+tableOf c = let a = c .args in columns (length (a .depths .now)) (a .heads .now) (a .own .now) (a .strikes .now) (a .spans .now) (a .tails .now)
 
 abbrev came : tie.Start → Answers
 came c = let a = c .args in answers (a .weights .now) (a .depths .now) (a .edges .now)
@@ -18,7 +18,7 @@ label-all-requires c κs =
     let p = c .before .before .before .before .before in
     let q = p .before .before .before .before in
     let r = q .before .before .before .before in
-    let s = r .before .before .before .before .before .before .before .before .before in
+    let s = r .before .before .before .before .before .before .before .before .before .before in
     all-unmade (s .args .measure) (tableOf s) (came s) (s .pre) (r .set-all .ensures) (q .set-all2 .ensures) (p .set-all3 .ensures)
 
 returns : tie.Need-returns
@@ -27,7 +27,7 @@ returns c =
     let p = l .before .before .before .before .before .before in
     let q = p .before .before .before .before in
     let r = q .before .before .before .before in
-    let s = r .before .before .before .before .before .before .before .before .before in
+    let s = r .before .before .before .before .before .before .before .before .before .before in
     labelled (s .args .measure) (tableOf s) (came s) (s .pre) (r .set-all .ensures) (q .set-all2 .ensures) (p .set-all3 .ensures) (l .label-all .ensures)
 
 pub label-spec : {M : Type 1} → statement M

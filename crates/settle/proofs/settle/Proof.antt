@@ -11,13 +11,13 @@ use Rattle.settle.proofs.Settled.{settled-refused, settled-all, told-ac
 
 -- the table and the answer columns as they came, which are accepted
 abbrev tableOf : tie.Start → Columns
-tableOf c = let a = c .args in columns (a .n) (a .heads .now) (a .own .now) (a .spans .now) (a .tails .now)
+tableOf c = let a = c .args in columns (a .n) (a .heads .now) (a .own .now) (a .strikes .now) (a .spans .now) (a .tails .now)
 
 abbrev came : tie.Start → Answers
 came c = let a = c .args in answers (a .weights .now) (a .depths .now) (a .edges .now)
 
 abbrev entry : tie.After-enum-told → tie.Start
-entry c = c .before .before .before .before .before .before .before .before .before .before .before .before .before
+entry c = c .before .before .before .before .before .before .before .before .before .before .before .before .before .before
 
 accepted : (c : tie.After-enum-told) → lentAcceptance (tableOf (entry c)) (came (entry c)) ≡ Accepted
 accepted c = sym (c .before .before .check-lent .ensures) ∙ c .enum-told .given .1

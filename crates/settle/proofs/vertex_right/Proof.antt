@@ -28,7 +28,7 @@ returns-4 c = rw (ne-eqb _ _ (c .before .before .before .before .if1 .left), lt-
 offer-requires : tie.Need-offer-requires
 offer-requires c κs =
     edge-in
-    (c .before .before .before .before .before .before .before .before .before .before .before .before .before .before .before .pre .0 .usable) _
+    (c .before .before .before .before .before .before .before .before .before .before .before .before .before .before .before .before .pre .0 .usable) _
     (c .before .before .before .if3 .left)
 
 returns-5 : tie.Need-returns-5
@@ -36,7 +36,7 @@ unfolding vertexRight
 returns-5 c =
     let p = c .before .before .before .before .before in
     let q = p .before in
-    let r = q .before .before .before .before .before .before .before .before .before .before .before in
+    let r = q .before .before .before .before .before .before .before .before .before .before .before .before in
     let a = r .args in
     rw (ne-eqb _ _ (q .if1 .left), lt-ltb _ _ (p .if3 .left), eq-eqb _ _ (c .before .before .if4 .left))
     (c .gives .ensures ∙ ap (λ (o : Offer). gives o (cell (a .weights .now) (a .v .0)) (cell (a .depths .now) (a .v .0))) (c .before .offer .ensures))
