@@ -1,20 +1,20 @@
 -- Every table within the limits is read back from its text. Assumes nothing.
-use Prim.Native.Nat.{ℕ, suc, _+_, _*_, _≤_, _<_}
+use Prim.Native.Nat.{ℕ, zero, suc, _+_, _*_, _≤_, _<_}
 use mathlib.Core.Path.{_≡_, refl, sym, _∙_, ap}
 use mathlib.Core.List.{List, [], _∷_, _++_, append-assoc, append-nil}
-use mathlib.Core.Bool.{Bool, true, false}
+use mathlib.Core.Bool.{Bool, true}
 use native.Mathlib.Omega.{arith}
 use lib.ListN.{length, length-append}
 use lib.Seq.{append-snoc}
-use borrow.Author.Tests.{lt-ltb, eqb-true, eqb-false, eq-eqb}
+use borrow.Author.Tests.{lt-ltb, eq-eqb}
 use Rattle.weights.specs.declared.Measure.{Measure}
 use Rattle.weights.specs.declared.Measure.the-variants.{Cost, Days}
-use Rattle.weights.specs.Figures.{struck, isStruck}
+use Rattle.weights.specs.Figures.{greatest, struckMark, standing}
 use Rattle.weights.specs.Choice.{pick}
 use Rattle.columns.specs.Acceptance.{mostVertices, mostEdges, mostListed, allBelow}
 use Rattle.columns.proofs.Accepted.{below-at}
 use Rattle.text.specs.Tables.{Edge, edge, Table, listedInAll}
-use Rattle.text.specs.Render.{digits, word, firstWord, measureText, header, ownText, tailText, edgeText, edgesText, tableText}
+use Rattle.text.specs.Render.{digits, word, firstWord, measureText, header, markText, ownText, tailText, edgeText, edgesText, tableText}
 use Rattle.text.specs.Machine.{
   Place,
   Vertices,
@@ -78,13 +78,12 @@ run-digits p =
     (λ d h l. rw (digits-one d h) (first-digit p d h l))
     (λ v d pos h rec l. rw (digits-more v d pos h, run-append (First p) (digits v) ((48 + d) ∷ []), rec (omega arith)) (next-digit p v d pos h l))
 
-run-own : (t : Table) (h o : ℕ) → o ≤ struck → run (First (Own t h)) (ownText o) ≡ Within (Own t h) o
-unfolding ownText run step instead limit digitOf
-run-own t h o l = go (isStruck o) refl
-  where
-    go : (b : Bool) → isStruck o ≡ b → run (First (Own t h)) (pick b (45 ∷ []) (digits o)) ≡ Within (Own t h) o
-    go true e = ap (λ (x : ℕ). Within (Own t h) x) (sym (eqb-true o struck e))
-    go false e = let n = eqb-false o struck e in run-digits (Own t h) o (omega arith)
+-- an own figure, with `-` before it or without
+run-own : (t : Table) (h o k : ℕ) → o ≤ greatest → k ≤ struckMark → run (First (Own t h standing)) (ownText o k) ≡ Within (Own t h k) o
+unfolding markText ownText run step instead limit digitOf
+run-own t h o zero l m = run-digits (Own t h 0) o (omega arith)
+run-own t h o (suc zero) l m = run-digits (Own t h 1) o (omega arith)
+run-own t h o (suc (suc k)) l m = absurd (omega arith)
 
 -- a word is spelled to its end
 pub run-word : (w : ℕ) (ws : List ℕ) (p : Place) → run (Spelling (w ∷ ws) p) (w ∷ ws) ≡ First p
@@ -94,17 +93,17 @@ run-word w (v ∷ ws) p = ap (λ (c : Bool). run (pick c (Spelling (v ∷ ws) p)
 
 -- Lines ------------------------------------------------------------------------------------------------------------------------------------
 
-after-space : (t : Table) (h o : ℕ) (xs : List ℕ) → length xs < mayList t → after t h o xs 32 ≡ First (Listed t h o xs)
+after-space : (t : Table) (h o k : ℕ) (xs : List ℕ) → length xs < mayList t → after t h o k xs 32 ≡ First (Listed t h o k xs)
 unfolding after
-after-space t h o xs l = rw (lt-ltb _ _ l)
+after-space t h o k xs l = rw (lt-ltb _ _ l)
 
-after-end : (t : Table) (h o : ℕ) (xs : List ℕ) → after t h o xs 10 ≡ First (Head (withEdge t (edge h o xs)))
+after-end : (t : Table) (h o k : ℕ) (xs : List ℕ) → after t h o k xs 10 ≡ First (Head (withEdge t (edge h o k xs)))
 unfolding after
-after-end t h o xs = refl
+after-end t h o k xs = refl
 
 -- σ stands behind the parts xs
-Behind : Table → (h o : ℕ) → List ℕ → State → Type 0
-Behind t h o xs σ = (b : ℕ) → digitOf b ≡ 10 → step σ b ≡ after t h o xs b
+Behind : Table → (h o k : ℕ) → List ℕ → State → Type 0
+Behind t h o k xs σ = (b : ℕ) → digitOf b ≡ 10 → step σ b ≡ after t h o k xs b
 
 below-first : (n v : ℕ) (vs : List ℕ) → allBelow n (v ∷ vs) ≡ true → v < n
 below-first n v vs e = below-at n (v ∷ vs) e 0 (omega arith)
@@ -113,33 +112,35 @@ below-rest : (n v : ℕ) (vs : List ℕ) → allBelow n (v ∷ vs) ≡ true → 
 unfolding allBelow
 below-rest n v vs e = rw (lt-ltb v n (below-first n v vs e)) at e
 
-run-tail : (t : Table) (h o : ℕ) (vs xs : List ℕ) (σ : State) → Behind t h o xs σ → allBelow (t .vertices) vs ≡ true → length (xs ++ vs) ≤ mayList t
-    → run σ (tailText vs ++ 10 ∷ []) ≡ First (Head (withEdge t (edge h o (xs ++ vs))))
+run-tail : (t : Table) (h o k : ℕ) (vs xs : List ℕ) (σ : State) → Behind t h o k xs σ → allBelow (t .vertices) vs ≡ true → length (xs ++ vs) ≤ mayList t
+    → run σ (tailText vs ++ 10 ∷ []) ≡ First (Head (withEdge t (edge h o k (xs ++ vs))))
 unfolding run Behind tailText digitOf limit ended
-run-tail t h o [] xs σ w a l = w 10 refl ∙ after-end t h o xs ∙ ap (λ (z : List ℕ). First (Head (withEdge t (edge h o z)))) (sym (append-nil xs))
-run-tail t h o (v ∷ vs) xs σ w a l =
+run-tail t h o k [] xs σ w a l = w 10 refl ∙ after-end t h o k xs ∙ ap (λ (z : List ℕ). First (Head (withEdge t (edge h o k z)))) (sym (append-nil xs))
+run-tail t h o k (v ∷ vs) xs σ w a l =
     let q : length (xs ++ v ∷ vs) ≡ length xs + suc (length vs) = length-append xs (v ∷ vs) in
     let q′ : length ((xs ++ v ∷ []) ++ vs) ≡ length (xs ++ v ∷ vs) = ap length (append-snoc xs v vs) in
-    ap (λ (τ : State). run τ ((digits v ++ tailText vs) ++ 10 ∷ [])) (w 32 refl ∙ after-space t h o xs (omega arith))
-    ∙ ap (run (First (Listed t h o xs))) (append-assoc (digits v) (tailText vs) (10 ∷ []))
-    ∙ run-append (First (Listed t h o xs)) (digits v) (tailText vs ++ 10 ∷ [])
-    ∙ ap (λ (τ : State). run τ (tailText vs ++ 10 ∷ [])) (run-digits (Listed t h o xs) v (below-first (t .vertices) v vs a))
-    ∙ run-tail t h o vs (xs ++ v ∷ []) (Within (Listed t h o xs) v) (number-ended (Listed t h o xs) v) (below-rest (t .vertices) v vs a) (omega arith)
-    ∙ ap (λ (z : List ℕ). First (Head (withEdge t (edge h o z)))) (append-snoc xs v vs)
+    ap (λ (τ : State). run τ ((digits v ++ tailText vs) ++ 10 ∷ [])) (w 32 refl ∙ after-space t h o k xs (omega arith))
+    ∙ ap (run (First (Listed t h o k xs))) (append-assoc (digits v) (tailText vs) (10 ∷ []))
+    ∙ run-append (First (Listed t h o k xs)) (digits v) (tailText vs ++ 10 ∷ [])
+    ∙ ap (λ (τ : State). run τ (tailText vs ++ 10 ∷ [])) (run-digits (Listed t h o k xs) v (below-first (t .vertices) v vs a))
+    ∙ run-tail t h o k vs (xs ++ v ∷ []) (Within (Listed t h o k xs) v) (number-ended (Listed t h o k xs) v) (below-rest (t .vertices) v vs a) (omega arith)
+    ∙ ap (λ (z : List ℕ). First (Head (withEdge t (edge h o k z)))) (append-snoc xs v vs)
 
 run-edge : (t : Table) (e : Edge) → length (t .edges) < mostEdges → EdgeFits (t .vertices) e → listedInAll (t .edges) + length (e .tail) ≤ mostListed
     → run (First (Head t)) (edgeText e ++ 10 ∷ []) ≡ First (Head (withEdge t e))
 unfolding edgeText limit Behind ended run digitOf
 run-edge t e r f m =
     let line = tailText (e .tail) ++ 10 ∷ [] in
+    let own = ownText (e .own) (e .mark) in
+    let place = Own t (e .head) (e .mark) in
     let s = f .short in
-    ap (run (First (Head t))) (append-assoc (digits (e .head) ++ 32 ∷ ownText (e .own)) (tailText (e .tail)) (10 ∷ []) ∙ append-assoc (digits (e .head)) (32 ∷ ownText (e .own)) line)
-    ∙ run-append (First (Head t)) (digits (e .head)) (32 ∷ (ownText (e .own) ++ line))
-    ∙ ap (λ (σ : State). run σ (32 ∷ (ownText (e .own) ++ line))) (run-digits (Head t) (e .head) (rw (lt-ltb _ _ r) (f .head)))
-    ∙ ap (λ (σ : State). run σ (ownText (e .own) ++ line)) (number-ended (Head t) (e .head) 32 refl)
-    ∙ run-append (First (Own t (e .head))) (ownText (e .own)) line
-    ∙ ap (λ (σ : State). run σ line) (run-own t (e .head) (e .own) (f .own))
-    ∙ run-tail t (e .head) (e .own) (e .tail) [] (Within (Own t (e .head)) (e .own)) (number-ended (Own t (e .head)) (e .own)) (f .tail) (omega arith)
+    ap (run (First (Head t))) (append-assoc (digits (e .head) ++ 32 ∷ own) (tailText (e .tail)) (10 ∷ []) ∙ append-assoc (digits (e .head)) (32 ∷ own) line)
+    ∙ run-append (First (Head t)) (digits (e .head)) (32 ∷ (own ++ line))
+    ∙ ap (λ (σ : State). run σ (32 ∷ (own ++ line))) (run-digits (Head t) (e .head) (rw (lt-ltb _ _ r) (f .head)))
+    ∙ ap (λ (σ : State). run σ (own ++ line)) (number-ended (Head t) (e .head) 32 refl)
+    ∙ run-append (First (Own t (e .head) standing)) own line
+    ∙ ap (λ (σ : State). run σ line) (run-own t (e .head) (e .own) (e .mark) (f .own) (f .mark))
+    ∙ run-tail t (e .head) (e .own) (e .mark) (e .tail) [] (Within place (e .own)) (number-ended place (e .own)) (f .tail) (omega arith)
 
 abbrev tableIs : ℕ → Measure → List Edge → Table
 tableIs n m es = record { vertices = n; measure = m; edges = es }

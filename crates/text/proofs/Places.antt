@@ -79,8 +79,8 @@ last-moved : (σ : State) (p : Place) (w b : ℕ) → lineOf σ ≡ 1 → LastOf
 unfolding lineOf lineAt
 last-moved σ Vertices w b q l e = stays (other b w e l) (sym q)
 last-moved σ (Head t) w b q l e = ends (eq-eqb b 10 (eqb-true b w e ∙ l .0)) (l .1 ∙ ap suc (sym q))
-last-moved σ (Own t h) w b q l e = absurd l
-last-moved σ (Listed t h o xs) w b q l e = absurd l
+last-moved σ (Own t h k) w b q l e = absurd l
+last-moved σ (Listed t h o k xs) w b q l e = absurd l
 
 spell-moved : (σ : State) (ws : List ℕ) (p : Place) (b : ℕ) → lineOf σ ≡ 1 → Spells ws p → Moved σ b (spell ws p b)
 unfolding spell lineOf
@@ -92,26 +92,27 @@ grown-moved : (σ : State) (p : Place) (v b : ℕ) → lineAt p ≡ lineOf σ �
 unfolding grown lineOf
 grown-moved σ p v b q e = pick-by (Moved σ b) (ltb v _) (λ f. stays (digit-stays b e) q) (λ f. fails (sym q))
 
-after-moved : (σ : State) (t : Table) (h o : ℕ) (xs : List ℕ) (b : ℕ) → lineOf σ ≡ nextLine t → Moved σ b (after t h o xs b)
+after-moved : (σ : State) (t : Table) (h o k : ℕ) (xs : List ℕ) (b : ℕ) → lineOf σ ≡ nextLine t → Moved σ b (after t h o k xs b)
 unfolding after lineOf lineAt
-after-moved σ t h o xs b q =
+after-moved σ t h o k xs b q =
     pick-by (Moved σ b) (eqb b 32)
     (λ f. pick-by (Moved σ b) (ltb (length xs) (mayList t)) (λ l. stays (other b 32 f (λ e. omega arith)) (sym q)) (λ l. fails q))
-    (λ _. pick-by (Moved σ b) (eqb b 10) (λ f. ends f (let a = length-append (t .edges) (edge h o xs ∷ []) in omega arith)) (λ f. fails q))
+    (λ _. pick-by (Moved σ b) (eqb b 10) (λ f. ends f (let a = length-append (t .edges) (edge h o k xs ∷ []) in omega arith)) (λ f. fails q))
 
 ended-moved : (p : Place) (v b : ℕ) → Moved (Within p v) b (ended p v b)
 unfolding ended lineOf lineAt
 ended-moved Vertices v b = pick-by (Moved _ b) (eqb b 10) (λ f. ends f refl) (λ n. spell-moved (Within Vertices v) (word ++ 10 ∷ []) (Head (begun v spoken)) b refl (word-spells v))
 ended-moved (Head t) v b = pick-by (Moved _ b) (eqb b 32) (λ f. stays (other b 32 f (λ e. omega arith)) refl) (λ f. fails refl)
-ended-moved (Own t h) v b = after-moved (Within (Own t h) v) t h v [] b refl
-ended-moved (Listed t h o xs) v b = after-moved (Within (Listed t h o xs) v) t h o (xs ++ v ∷ []) b refl
+ended-moved (Own t h k) v b = after-moved (Within (Own t h k) v) t h v k [] b refl
+ended-moved (Listed t h o k xs) v b = after-moved (Within (Listed t h o k xs) v) t h o k (xs ++ v ∷ []) b refl
 
 instead-moved : (p : Place) (b : ℕ) → Moved (First p) b (instead p b)
 unfolding instead lineOf lineAt
 instead-moved Vertices b = fails refl
 instead-moved (Head t) b = fails refl
-instead-moved (Own t h) b = pick-by (Moved _ b) (eqb b 45) (λ f. stays (other b 45 f (λ e. omega arith)) refl) (λ f. fails refl)
-instead-moved (Listed t h o xs) b = fails refl
+instead-moved (Own t h zero) b = pick-by (Moved _ b) (eqb b 45) (λ f. stays (other b 45 f (λ e. omega arith)) refl) (λ f. fails refl)
+instead-moved (Own t h (suc k)) b = fails refl
+instead-moved (Listed t h o k xs) b = fails refl
 
 moved : (σ : State) (b : ℕ) (s : List ℕ) → Reached σ s → Moved σ b (step σ b)
 unfolding step lineOf
@@ -135,8 +136,8 @@ unfolding finish lineOf lineAt
 wrong-at (Spelling ws p) k e = cc
 wrong-at (First Vertices) k e = cc
 wrong-at (First (Head t)) k e = absurd (never (sym e))
-wrong-at (First (Own t h)) k e = cc
-wrong-at (First (Listed t h o xs)) k e = cc
+wrong-at (First (Own t h x)) k e = cc
+wrong-at (First (Listed t h o x xs)) k e = cc
 wrong-at (Within p v) k e = cc
 wrong-at (Failed l) k e = cc
 

@@ -5,6 +5,7 @@ use mathlib.Core.Path.{_≡_, refl, sym, _∙_, ap}
 use mathlib.Core.List.{List, [], _∷_, _++_}
 use native.Mathlib.Omega.{arith}
 use borrow.Author.Tests.{lt-ltb}
+use Rattle.weights.specs.Figures.{standing}
 use Rattle.text.specs.Tables.{edge, Table, listedInAll}
 use Rattle.text.specs.Render.{default}
 use Rattle.text.specs.Machine.{Place, Vertices, Head, Own, Listed, State, Spelling, First, Within, Failed, begun, withEdge, limit, digitOf, grown, after, ended, step, run, finish, begin, parse}
@@ -28,11 +29,11 @@ first-ends : (p : Place) (s : List ℕ) → Reached (First p) s → Ends (First 
 unfolding run step digitOf grown limit ended after listedInAll
 first-ends Vertices s r = record { rest = 48 ∷ 10 ∷ []; table = begun 0 default; there = refl }
 first-ends (Head t) s r = record { rest = []; table = t; there = refl }
-first-ends (Own t h) s r = record { rest = 48 ∷ 10 ∷ []; table = withEdge t (edge h 0 []); there = refl }
-first-ends (Listed t h o xs) s r =
+first-ends (Own t h k) s r = record { rest = 48 ∷ 10 ∷ []; table = withEdge t (edge h 0 k []); there = refl }
+first-ends (Listed t h o k xs) s r =
     let l : h < t .vertices = r .1 .0 .one-more .head in
     let l′ : 0 < t .vertices = omega arith in
-    record { rest = 48 ∷ 10 ∷ []; table = withEdge t (edge h o (xs ++ 0 ∷ [])); there = rw (lt-ltb _ _ l′) }
+    record { rest = 48 ∷ 10 ∷ []; table = withEdge t (edge h o k (xs ++ 0 ∷ [])); there = rw (lt-ltb _ _ l′) }
 
 spelled : (ws : List ℕ) (p : Place) → Spells ws p → run (Spelling ws p) ws ≡ First p
 spelled [] p s = absurd s
@@ -45,9 +46,9 @@ ends (Spelling ws p) s r g =
     record { rest = ws ++ e .rest; table = e .table; there = run-append (Spelling ws p) ws (e .rest) ∙ ap (λ (σ : State). run σ (e .rest)) (spelled ws p (r .2)) ∙ e .there }
 ends (First p) s r g = first-ends p s r
 ends (Within Vertices v) s r g = record { rest = 10 ∷ []; table = begun v default; there = refl }
-ends (Within (Head t) v) s r g = record { rest = 32 ∷ 48 ∷ 10 ∷ []; table = withEdge t (edge v 0 []); there = unfold grown limit in refl }
-ends (Within (Own t h) v) s r g = record { rest = 10 ∷ []; table = withEdge t (edge h v []); there = refl }
-ends (Within (Listed t h o xs) v) s r g = record { rest = 10 ∷ []; table = withEdge t (edge h o (xs ++ v ∷ [])); there = refl }
+ends (Within (Head t) v) s r g = record { rest = 32 ∷ 48 ∷ 10 ∷ []; table = withEdge t (edge v 0 standing []); there = unfold grown limit in refl }
+ends (Within (Own t h k) v) s r g = record { rest = 10 ∷ []; table = withEdge t (edge h v k []); there = refl }
+ends (Within (Listed t h o k xs) v) s r g = record { rest = 10 ∷ []; table = withEdge t (edge h o k (xs ++ v ∷ [])); there = refl }
 ends (Failed l) s r g = absurd g
 
 pub others-begin-one : (p : List ℕ) → NotFailed (run begin p) → Begins p

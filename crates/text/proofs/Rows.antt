@@ -12,10 +12,10 @@ use borrow.Author.Tests.{lt-ltb, le-leb, eq-eqb}
 use Rattle.weights.specs.declared.Measure.{Measure}
 use Rattle.refusal.specs.declared.Acceptance.{Acceptance}
 use Rattle.refusal.specs.declared.Acceptance.the-variants.{Accepted}
-use Rattle.columns.specs.Columns.{Columns, headAt, ownAt, offsetAt, lengthAt, part, tailAt}
+use Rattle.columns.specs.Columns.{Columns, headAt, ownAt, strikeAt, offsetAt, lengthAt, part, tailAt}
 use Rattle.columns.specs.Acceptance.{mostEdges, mostListed, longestTail, andThen, allBelow, edgeAcceptance, edgeAt, edgesAcceptance, acceptance}
 use Rattle.columns.proofs.Accepted.{both-accepted, edge-accepted, table-accepted, below-at}
-use Rattle.text.specs.Tables.{Edge, edge, Table, edgesFrom, edgesOf, tableOf, listedInAll, headsOf, ownsOf, spansFrom, tailsOf, columnsOf, closed}
+use Rattle.text.specs.Tables.{Edge, edge, Table, edgesFrom, edgesOf, tableOf, listedInAll, eachOf, headsOf, ownsOf, marksOf, spansFrom, tailsOf, columnsOf, closed}
 use Rattle.text.specs.Rows.{EdgeFits, All, none, one, WithinLimits}
 
 pub all-snoc : {P : Edge → Type 0} {es : List Edge} {e : Edge} → All P es → P e → All P (es ++ e ∷ [])
@@ -38,15 +38,10 @@ pub total-snoc : (es : List Edge) (e : Edge) → listedInAll (es ++ e ∷ []) �
 unfolding listedInAll
 total-snoc es e = total-append es (e ∷ []) ∙ omega arith
 
-pub heads-append : (es fs : List Edge) → headsOf (es ++ fs) ≡ headsOf es ++ headsOf fs
-unfolding headsOf
-heads-append [] fs = refl
-heads-append (e ∷ es) fs = ap (λ (z : List ℕ). e .head ∷ z) (heads-append es fs)
-
-pub owns-append : (es fs : List Edge) → ownsOf (es ++ fs) ≡ ownsOf es ++ ownsOf fs
-unfolding ownsOf
-owns-append [] fs = refl
-owns-append (e ∷ es) fs = ap (λ (z : List ℕ). e .own ∷ z) (owns-append es fs)
+pub each-append : (f : Edge → ℕ) (es fs : List Edge) → eachOf f (es ++ fs) ≡ eachOf f es ++ eachOf f fs
+unfolding eachOf
+each-append f [] fs = refl
+each-append f (e ∷ es) fs = ap (λ (z : List ℕ). f e ∷ z) (each-append f es fs)
 
 pub tails-append : (es fs : List Edge) → tailsOf (es ++ fs) ≡ tailsOf es ++ tailsOf fs
 unfolding tailsOf
@@ -60,15 +55,19 @@ spans-append from (e ∷ es) fs =
     ap (λ (z : List ℕ). from ∷ length (e .tail) ∷ z) (spans-append (from + length (e .tail)) es fs
     ∙ ap (λ (z : ℕ). spansFrom (from + length (e .tail)) es ++ spansFrom z fs) (add-assoc from (length (e .tail)) (listedInAll es)))
 
+pub length-each : (f : Edge → ℕ) (es : List Edge) → length (eachOf f es) ≡ length es
+unfolding eachOf
+length-each f [] = refl
+length-each f (e ∷ es) = ap suc (length-each f es)
+
 pub length-heads : (es : List Edge) → length (headsOf es) ≡ length es
-unfolding headsOf
-length-heads [] = refl
-length-heads (e ∷ es) = ap suc (length-heads es)
+length-heads = length-each (λ e. e .head)
 
 pub length-owns : (es : List Edge) → length (ownsOf es) ≡ length es
-unfolding ownsOf
-length-owns [] = refl
-length-owns (e ∷ es) = ap suc (length-owns es)
+length-owns = length-each (λ e. e .own)
+
+pub length-marks : (es : List Edge) → length (marksOf es) ≡ length es
+length-marks = length-each (λ e. e .mark)
 
 pub length-spans : (from : ℕ) (es : List Edge) → length (spansFrom from es) ≡ 2 * length es
 unfolding spansFrom
@@ -86,13 +85,18 @@ module _ (n : ℕ) (es : List Edge) (e : Edge) (fs : List Edge) where
   abbrev C : Columns
   C = columnsOf n (es ++ e ∷ fs)
 
+  each-there : (f : Edge → ℕ) → getD (eachOf f (es ++ e ∷ fs)) (length es) 0 ≡ f e
+  unfolding eachOf
+  each-there f = rw (each-append f es (e ∷ fs)) (getD-at (eachOf f es) (f e) (eachOf f fs) 0 (length es) (length-each f es))
+
   head-there : headAt C (length es) ≡ e .head
-  unfolding headsOf
-  head-there = rw (heads-append es (e ∷ fs)) (getD-at (headsOf es) (e .head) (headsOf fs) 0 (length es) (length-heads es))
+  head-there = each-there (λ x. x .head)
 
   own-there : ownAt C (length es) ≡ e .own
-  unfolding ownsOf
-  own-there = rw (owns-append es (e ∷ fs)) (getD-at (ownsOf es) (e .own) (ownsOf fs) 0 (length es) (length-owns es))
+  own-there = each-there (λ x. x .own)
+
+  mark-there : strikeAt C (length es) ≡ e .mark
+  mark-there = each-there (λ x. x .mark)
 
   offset-there : offsetAt C (length es) ≡ listedInAll es
   unfolding spansFrom
@@ -118,8 +122,10 @@ module _ (n : ℕ) (es : List Edge) (e : Edge) (fs : List Edge) where
   tail-there : tailAt C (length es) ≡ e .tail
   tail-there = ap₂ (λ (a b : ℕ). part a b (C .tails)) offset-there length-there ∙ part-there
 
-  edge-there : edge (headAt C (length es)) (ownAt C (length es)) (tailAt C (length es)) ≡ e
-  edge-there = ap₂ (λ (a b : ℕ). edge a b (tailAt C (length es))) head-there own-there ∙ ap (edge (e .head) (e .own)) tail-there
+  edge-there : edge (headAt C (length es)) (ownAt C (length es)) (strikeAt C (length es)) (tailAt C (length es)) ≡ e
+  edge-there =
+      ap₂ (λ (a b : ℕ). edge a b (strikeAt C (length es)) (tailAt C (length es))) head-there own-there
+      ∙ ap₂ (edge (e .head) (e .own)) mark-there tail-there
 
 one-further : (es : List Edge) (e : Edge) → length (es ++ e ∷ []) ≡ length es + 1
 one-further es e = length-append es (e ∷ [])
@@ -141,8 +147,8 @@ unfolding edgesAcceptance edgesFrom
 edges-fit c zero e end p = none
 edges-fit c (suc left) e end p =
     let t = both-accepted (edgeAt c e end) (edgesAcceptance c left (e + 1) (offsetAt c e + lengthAt c e)) p in
-    let a = edge-accepted _ _ _ _ _ _ _ _ (t .0) in
-    one (record { head = a .head; own = a .own; short = short-part (a .short); tail = a .listed }) (edges-fit c left (e + 1) (offsetAt c e + lengthAt c e) (t .1))
+    let a = edge-accepted _ _ _ _ _ _ _ _ _ (t .0) in
+    one (record { head = a .head; own = a .own; mark = a .mark; short = short-part (a .short); tail = a .listed }) (edges-fit c left (e + 1) (offsetAt c e + lengthAt c e) (t .1))
   where
     short-part : lengthAt c e ≤ longestTail → length (tailAt c e) ≤ longestTail
     short-part h = let l = length-take (lengthAt c e) (drop (offsetAt c e) (c .tails)) in omega arith
@@ -153,7 +159,7 @@ unfolding edgesAcceptance edgesFrom listedInAll
 covered c zero e end h p = omega arith
 covered c (suc left) e end h p =
     let t = both-accepted (edgeAt c e end) (edgesAcceptance c left (e + 1) (offsetAt c e + lengthAt c e)) p in
-    let a = edge-accepted _ _ _ _ _ _ _ _ (t .0) in
+    let a = edge-accepted _ _ _ _ _ _ _ _ _ (t .0) in
     let f = a .from in
     let r = covered c left (e + 1) (offsetAt c e + lengthAt c e) (a .within) (t .1) in
     let l = length-take (lengthAt c e) (drop (offsetAt c e) (c .tails)) in
@@ -164,20 +170,14 @@ unfolding edgesFrom
 length-edges c zero e = refl
 length-edges c (suc left) e = ap suc (length-edges c left (e + 1))
 
-edges-pass : (c : Columns) → acceptance c ≡ Accepted → edgesAcceptance c (length (c .heads)) 0 0 ≡ Accepted
-unfolding acceptance
-edges-pass c p =
-    let t = table-accepted c p in
-    rw (le-leb _ _ (t .few), eq-eqb _ _ (t .own), le-leb _ _ (t .edges), eq-eqb _ _ (t .spans), le-leb _ _ (t .tails)) at p
-
 pub accepted-fits : (m : Measure) (c : Columns) → acceptance c ≡ Accepted → WithinLimits (tableOf m c)
 accepted-fits m c p =
     let t = table-accepted c p in
     let l = length-edges c (length (c .heads)) 0 in
     let k = t .edges in
     let j = t .tails in
-    let r = covered c (length (c .heads)) 0 0 (omega arith) (edges-pass c p) in
-    record { vertices = t .few; edges = omega arith; listed = omega arith; each = edges-fit c (length (c .heads)) 0 0 (edges-pass c p) }
+    let r = covered c (length (c .heads)) 0 0 (omega arith) (t .rest) in
+    record { vertices = t .few; edges = omega arith; listed = omega arith; each = edges-fit c (length (c .heads)) 0 0 (t .rest) }
 
 -- Within the limits is accepted --------------------------------------------------------------------------------------------------------------
 
@@ -189,8 +189,9 @@ module _ (n : ℕ) (es : List Edge) (e : Edge) (fs : List Edge) (f : EdgeFits n 
   edge-passes : edgeAt (columnsOf n (es ++ e ∷ fs)) (length es) (listedInAll es) ≡ Accepted
   unfolding edgeAcceptance
   edge-passes =
-      rw (head-there n es e fs, own-there n es e fs, offset-there n es e fs, length-there n es e fs)
-      (rw (lt-ltb _ _ (f .head), le-leb _ _ (f .own), le-leb (listedInAll es) (listedInAll es) (omega arith), le-leb _ _ (f .short), le-leb _ _ within-column, part-there n es e fs, f .tail))
+      let from = le-leb (listedInAll es) (listedInAll es) (omega arith) in
+      rw (head-there n es e fs, own-there n es e fs, mark-there n es e fs, offset-there n es e fs, length-there n es e fs)
+      (rw (lt-ltb _ _ (f .head), le-leb _ _ (f .own), le-leb _ _ (f .mark), from, le-leb _ _ (f .short), le-leb _ _ within-column, part-there n es e fs, f .tail))
 
 edges-passed : (n : ℕ) (es fs : List Edge) → All (EdgeFits n) fs → edgesAcceptance (columnsOf n (es ++ fs)) (length fs) (length es) (listedInAll es) ≡ Accepted
 unfolding edgesAcceptance
@@ -209,6 +210,7 @@ unfolding acceptance listedInAll
 fits-accepted t f =
     let h = length-heads (t .edges) in
     let o = length-owns (t .edges) in
+    let i = length-marks (t .edges) in
     let s = length-spans 0 (t .edges) in
     let l = length-tails (t .edges) in
     let k = f .edges in
@@ -216,6 +218,7 @@ fits-accepted t f =
     rw (
       le-leb _ _ (f .vertices),
       eq-eqb (length (ownsOf (t .edges))) (length (headsOf (t .edges))) (omega arith),
+      eq-eqb (length (marksOf (t .edges))) (length (headsOf (t .edges))) (omega arith),
       le-leb (length (headsOf (t .edges))) mostEdges (omega arith),
       eq-eqb (length (spansFrom 0 (t .edges))) (2 * length (headsOf (t .edges))) (omega arith),
       le-leb (length (tailsOf (t .edges))) mostListed (omega arith),

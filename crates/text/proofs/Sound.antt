@@ -1,6 +1,6 @@
 -- What was read is what the state shows, so a text that is read to its end is the text of the table that it gives, and that table is within the limits.
 -- Assumes nothing.
-use Prim.Native.Nat.{ℕ, _+_, _*_, _≤_, _<_}
+use Prim.Native.Nat.{ℕ, zero, suc, _+_, _*_, _≤_, _<_}
 use mathlib.Core.Path.{_≡_, refl, sym, _∙_, ap, ap₂, subst}
 use mathlib.Core.List.{List, [], _∷_, _++_, append-assoc, append-nil}
 use mathlib.Core.Bool.{true}
@@ -8,12 +8,12 @@ use native.Mathlib.Omega.{arith}
 use lib.ListN.{length, length-append}
 use lib.Seq.{append-snoc}
 use lib.Dec.{ltb, eqb}
-use borrow.Author.Tests.{ltb-true, eqb-true, ne-eqb}
+use borrow.Author.Tests.{ltb-true, eqb-true}
 use Rattle.weights.specs.declared.Measure.{Measure}
-use Rattle.weights.specs.Figures.{struck}
+use Rattle.weights.specs.Figures.{greatest, standing, struckMark}
 use Rattle.columns.specs.Acceptance.{mostVertices, mostEdges, mostListed, allBelow}
 use Rattle.text.specs.Tables.{Edge, edge, Table, listedInAll}
-use Rattle.text.specs.Render.{digits, default, spoken, word, firstWord, measureText, header, ownText, tailText, edgeText, edgesText, tableText}
+use Rattle.text.specs.Render.{digits, default, spoken, word, firstWord, measureText, header, markText, ownText, tailText, edgeText, edgesText, tableText}
 use Rattle.text.specs.Machine.{
   Place,
   Vertices,
@@ -85,40 +85,34 @@ begun-fits n m h = record { vertices = h; edges = omega arith; listed = omega ar
 unfoldable pub before : Place → List ℕ
 before Vertices = firstWord
 before (Head t) = tableText t
-before (Own t h) = (tableText t ++ digits h) ++ 32 ∷ []
-before (Listed t h o xs) = (tableText t ++ edgeText (edge h o xs)) ++ 32 ∷ []
-
-unfoldable pub numberText : Place → ℕ → List ℕ
-numberText Vertices v = digits v
-numberText (Head t) v = digits v
-numberText (Own t h) v = ownText v
-numberText (Listed t h o xs) v = digits v
+before (Own t h k) = ((tableText t ++ digits h) ++ 32 ∷ []) ++ markText k
+before (Listed t h o k xs) = (tableText t ++ edgeText (edge h o k xs)) ++ 32 ∷ []
 
 -- a line that may end here
-pub record EdgeSits (t : Table) (h o : ℕ) (xs : List ℕ) : Type 0 where
+pub record EdgeSits (t : Table) (h o k : ℕ) (xs : List ℕ) : Type 0 where
   pub fits : WithinLimits t
   pub room : length (t .edges) < mostEdges
-  pub one-more : EdgeFits (t .vertices) (edge h o xs)
+  pub one-more : EdgeFits (t .vertices) (edge h o k xs)
   pub listed : listedInAll (t .edges) + length xs ≤ mostListed
 
 abbrev pub Sits : Place → Type 0
 Sits Vertices = Unit {0}
 Sits (Head t) = WithinLimits t
-Sits (Own t h) = EdgeSits t h 0 []
-Sits (Listed t h o xs) = EdgeSits t h o xs × (length xs < mayList t)
+Sits (Own t h k) = EdgeSits t h 0 k []
+Sits (Listed t h o k xs) = EdgeSits t h o k xs × (length xs < mayList t)
 
 abbrev pub InPlace : Place → ℕ → Type 0
 InPlace Vertices v = v ≤ mostVertices
 InPlace (Head t) v = (v < t .vertices) × (length (t .edges) < mostEdges)
-InPlace (Own t h) v = v ≤ struck
-InPlace (Listed t h o xs) v = v < t .vertices
+InPlace (Own t h k) v = v ≤ greatest
+InPlace (Listed t h o k xs) v = v < t .vertices
 
 -- of a word's bytes the last is LF if the second line begins behind it, and no other is
 abbrev pub LastOf : Place → ℕ → Type 0
 LastOf Vertices w = w ≡ 10 → ⊥
 LastOf (Head t) w = (w ≡ 10) × (nextLine t ≡ 2)
-LastOf (Own t h) w = ⊥
-LastOf (Listed t h o xs) w = ⊥
+LastOf (Own t h k) w = ⊥
+LastOf (Listed t h o k xs) w = ⊥
 
 abbrev pub Spells : List ℕ → Place → Type 0
 Spells [] p = ⊥
@@ -129,7 +123,7 @@ Spells (w ∷ v ∷ ws) p = (w ≡ 10 → ⊥) × Spells (v ∷ ws) p
 abbrev pub Reached : State → List ℕ → Type 0
 Reached (Spelling ws p) s = (s ++ ws ≡ before p) × Sits p × Spells ws p
 Reached (First p) s = (before p ≡ s) × Sits p
-Reached (Within p v) s = (before p ++ numberText p v ≡ s) × Sits p × InPlace p v
+Reached (Within p v) s = (before p ++ digits v ≡ s) × Sits p × InPlace p v
 Reached (Failed l) s = Unit {0}
 
 pub begin-reached : Reached begin []
@@ -137,24 +131,6 @@ unfolding firstWord before
 begin-reached = (refl, tt, ((λ e. omega arith), ((λ e. omega arith), ((λ e. omega arith), ((λ e. omega arith), ((λ e. omega arith), (λ e. omega arith)))))))
 
 -- A step ---------------------------------------------------------------------------------------------------------------------------------
-
-own-digits : (o : ℕ) → o < struck → ownText o ≡ digits o
-unfolding ownText
-own-digits o h = rw (ne-eqb o struck (λ e. omega arith))
-
-number-one : (p : Place) (d : ℕ) → d < 10 → numberText p d ≡ (48 + d) ∷ []
-unfolding numberText
-number-one Vertices d h = digits-one d h
-number-one (Head t) d h = digits-one d h
-number-one (Own t g) d h = own-digits d (omega arith) ∙ digits-one d h
-number-one (Listed t g o xs) d h = digits-one d h
-
-number-more : (p : Place) (v d : ℕ) → 0 < v → d < 10 → 10 * v + d < limit p → numberText p (10 * v + d) ≡ numberText p v ++ (48 + d) ∷ []
-unfolding numberText limit
-number-more Vertices v d pos h l = digits-more v d pos h
-number-more (Head t) v d pos h l = digits-more v d pos h
-number-more (Own t g) v d pos h l = own-digits (10 * v + d) l ∙ digits-more v d pos h ∙ ap (λ (ds : List ℕ). ds ++ (48 + d) ∷ []) (sym (own-digits v (omega arith)))
-number-more (Listed t g o xs) v d pos h l = digits-more v d pos h
 
 placed : (p : Place) (v : ℕ) → v < limit p → InPlace p v
 unfolding limit
@@ -165,15 +141,15 @@ placed (Head t) v l =
   where
     none-below : v < 0 → ⊥
     none-below l = omega arith
-placed (Own t g) v l = omega arith
-placed (Listed t g o xs) v l = l
+placed (Own t g k) v l = omega arith
+placed (Listed t g o k xs) v l = l
 
-grown-reached : (p : Place) (v : ℕ) (s : List ℕ) → Sits p → (v < limit p → before p ++ numberText p v ≡ s) → Reached (grown p v) s
+grown-reached : (p : Place) (v : ℕ) (s : List ℕ) → Sits p → before p ++ digits v ≡ s → Reached (grown p v) s
 unfolding grown
-grown-reached p v s sits e = pick-by (λ (σ : State). Reached σ s) (ltb v (limit p)) (λ l. (e (ltb-true _ _ l), sits, placed p v (ltb-true _ _ l))) (λ f. tt)
+grown-reached p v s sits e = pick-by (λ (σ : State). Reached σ s) (ltb v (limit p)) (λ l. (e, sits, placed p v (ltb-true _ _ l))) (λ f. tt)
 
-edge-done : (t : Table) (h o : ℕ) (xs : List ℕ) → EdgeSits t h o xs → WithinLimits (withEdge t (edge h o xs))
-edge-done t h o xs g = record {
+edge-done : (t : Table) (h o k : ℕ) (xs : List ℕ) → EdgeSits t h o k xs → WithinLimits (withEdge t (edge h o k xs))
+edge-done t h o k xs g = record {
   vertices = g .fits .vertices;
   edges = simp length-append (let r = g .room in omega arith);
   listed = simp total-snoc (let r = g .listed in omega arith);
@@ -184,35 +160,45 @@ edge-done t h o xs g = record {
 joined : {l s : List ℕ} (b c : ℕ) → l ≡ s → eqb b c ≡ true → l ++ c ∷ [] ≡ s ++ b ∷ []
 joined b c e f = ap₂ (λ (l : List ℕ) (x : ℕ). l ++ x ∷ []) e (sym (eqb-true b c f))
 
-after-reached : (t : Table) (h o : ℕ) (xs : List ℕ) (b : ℕ) (s : List ℕ) → EdgeSits t h o xs → tableText t ++ edgeText (edge h o xs) ≡ s → Reached (after t h o xs b) (s ++ b ∷ [])
+after-reached : (t : Table) (h o k : ℕ) (xs : List ℕ) (b : ℕ) (s : List ℕ) → EdgeSits t h o k xs → tableText t ++ edgeText (edge h o k xs) ≡ s → Reached (after t h o k xs b) (s ++ b ∷ [])
 unfolding after before
-after-reached t h o xs b s g e =
+after-reached t h o k xs b s g e =
     let P : State → Type 0 = λ σ. Reached σ (s ++ b ∷ []) in
     pick-by P (eqb b 32)
     (λ f. pick-by P (ltb (length xs) (mayList t)) (λ l. (joined b 32 e f, (g, ltb-true _ _ l))) (λ l. tt))
-    (λ _. pick-by P (eqb b 10) (λ f. (text-more t (edge h o xs) ∙ joined b 10 e f, edge-done t h o xs g)) (λ f. tt))
+    (λ _. pick-by P (eqb b 10) (λ f. (text-more t (edge h o k xs) ∙ joined b 10 e f, edge-done t h o k xs g)) (λ f. tt))
 
-head-sits : (t : Table) (h o : ℕ) → WithinLimits t → length (t .edges) < mostEdges → h < t .vertices → o ≤ struck → EdgeSits t h o []
+head-sits : (t : Table) (h o k : ℕ) → WithinLimits t → length (t .edges) < mostEdges → h < t .vertices → o ≤ greatest → k ≤ struckMark → EdgeSits t h o k []
 unfolding allBelow
-head-sits t h o f r v l = record { fits = f; room = r; one-more = record { head = v; own = l; short = omega arith; tail = refl }; listed = let q = f .listed in omega arith }
+head-sits t h o k f r v l m = record {
+  fits = f;
+  room = r;
+  one-more = record { head = v; own = l; mark = m; short = omega arith; tail = refl };
+  listed = let q = f .listed in omega arith;
+}
 
-listed-sits : (t : Table) (h o : ℕ) (xs : List ℕ) (v : ℕ) → EdgeSits t h o xs → length xs < mayList t → v < t .vertices → EdgeSits t h o (xs ++ v ∷ [])
-listed-sits t h o xs v g r l =
+-- behind its head a line may have another own figure and another mark
+own-sits : (t : Table) (h o k o′ k′ : ℕ) → EdgeSits t h o k [] → o′ ≤ greatest → k′ ≤ struckMark → EdgeSits t h o′ k′ []
+own-sits t h o k o′ k′ g l m = head-sits t h o′ k′ (g .fits) (g .room) (g .one-more .head) l m
+
+listed-sits : (t : Table) (h o k : ℕ) (xs : List ℕ) (v : ℕ) → EdgeSits t h o k xs → length xs < mayList t → v < t .vertices → EdgeSits t h o k (xs ++ v ∷ [])
+listed-sits t h o k xs v g r l =
     let n = length-append xs (v ∷ []) in
+    let m = g .one-more in
     record {
       fits = g .fits;
       room = g .room;
-      one-more = record { head = g .one-more .head; own = g .one-more .own; short = omega arith; tail = below-snoc (t .vertices) xs v (g .one-more .tail) l };
+      one-more = record { head = m .head; own = m .own; mark = m .mark; short = omega arith; tail = below-snoc (t .vertices) xs v (m .tail) l };
       listed = omega arith;
     }
 
-own-text : (t : Table) (h o : ℕ) → tableText t ++ edgeText (edge h o []) ≡ ((tableText t ++ digits h) ++ 32 ∷ []) ++ ownText o
-unfolding edgeText tailText
-own-text t h o = simp (append-assoc, append-nil)
+own-text : (t : Table) (h o k : ℕ) → tableText t ++ edgeText (edge h o k []) ≡ (((tableText t ++ digits h) ++ 32 ∷ []) ++ markText k) ++ digits o
+unfolding edgeText ownText tailText
+own-text t h o k = simp (append-assoc, append-nil)
 
-listed-text : (t : Table) (h o : ℕ) (xs : List ℕ) (v : ℕ) → tableText t ++ edgeText (edge h o (xs ++ v ∷ [])) ≡ ((tableText t ++ edgeText (edge h o xs)) ++ 32 ∷ []) ++ digits v
+listed-text : (t : Table) (h o k : ℕ) (xs : List ℕ) (v : ℕ) → tableText t ++ edgeText (edge h o k (xs ++ v ∷ [])) ≡ ((tableText t ++ edgeText (edge h o k xs)) ++ 32 ∷ []) ++ digits v
 unfolding edgeText
-listed-text t h o xs v = rw (tail-text-snoc xs v) (simp append-assoc)
+listed-text t h o k xs v = rw (tail-text-snoc xs v) (simp append-assoc)
 
 spell-reached : (ws : List ℕ) (p : Place) (b : ℕ) (s : List ℕ) → s ++ ws ≡ before p → Sits p → Spells ws p → Reached (spell ws p b) (s ++ b ∷ [])
 unfolding spell
@@ -226,32 +212,35 @@ pub word-spells : (n : ℕ) → Spells (word ++ 10 ∷ []) (Head (begun n spoken
 unfolding word
 word-spells n = ((λ e. omega arith), ((λ e. omega arith), ((λ e. omega arith), ((λ e. omega arith), ((λ e. omega arith), (refl, refl))))))
 
-ended-reached : (p : Place) (v b : ℕ) → Sits p → InPlace p v → Reached (ended p v b) ((before p ++ numberText p v) ++ b ∷ [])
-unfolding ended before numberText measureText
+ended-reached : (p : Place) (v b : ℕ) → Sits p → InPlace p v → Reached (ended p v b) ((before p ++ digits v) ++ b ∷ [])
+unfolding ended before markText measureText
 ended-reached Vertices v b s h =
     pick-by (λ (σ : State). Reached σ ((firstWord ++ digits v) ++ b ∷ [])) (eqb b 10)
     (λ e. (text-begun v default ∙ joined {l = firstWord ++ digits v} b 10 refl e, begun-fits v default h))
     (λ f. spell-reached (word ++ 10 ∷ []) (Head (begun v spoken)) b (firstWord ++ digits v) (sym (text-begun v spoken)) (begun-fits v spoken h) (word-spells v))
 ended-reached (Head t) v b s h =
     pick-by (λ (σ : State). Reached σ ((tableText t ++ digits v) ++ b ∷ [])) (eqb b 32)
-    (λ e. (joined {l = tableText t ++ digits v} b 32 refl e, head-sits t v 0 s (h .1) (h .0) (omega arith))) (λ f. tt)
-ended-reached (Own t g) v b s h = after-reached t g v [] b _ (head-sits t g v (s .fits) (s .room) (s .one-more .head) h) (own-text t g v)
-ended-reached (Listed t g o xs) v b s h = after-reached t g o (xs ++ v ∷ []) b _ (listed-sits t g o xs v (s .0) (s .1) h) (listed-text t g o xs v)
+    (λ e. (append-nil _ ∙ joined {l = tableText t ++ digits v} b 32 refl e, head-sits t v 0 standing s (h .1) (h .0) (omega arith) (omega arith))) (λ f. tt)
+ended-reached (Own t g k) v b s h = after-reached t g v k [] b _ (own-sits t g 0 k v k s h (s .one-more .mark)) (own-text t g v k)
+ended-reached (Listed t g o k xs) v b s h = after-reached t g o k (xs ++ v ∷ []) b _ (listed-sits t g o k xs v (s .0) (s .1) h) (listed-text t g o k xs v)
 
 instead-reached : (p : Place) (b : ℕ) (s : List ℕ) → before p ≡ s → Sits p → Reached (instead p b) (s ++ b ∷ [])
-unfolding instead ownText numberText
+unfolding instead before markText
 instead-reached Vertices b s e h = tt
 instead-reached (Head t) b s e h = tt
-instead-reached (Own t g) b s e h = pick-by (λ (σ : State). Reached σ (s ++ b ∷ [])) (eqb b 45) (λ f. (joined b 45 e f, h, omega arith)) (λ f. tt)
-instead-reached (Listed t g o xs) b s e h = tt
+instead-reached (Own t g zero) b s e h =
+    pick-by (λ (σ : State). Reached σ (s ++ b ∷ [])) (eqb b 45)
+    (λ f. (joined {l = (tableText t ++ digits g) ++ 32 ∷ []} b 45 (sym (append-nil _) ∙ e) f, own-sits t g 0 standing 0 struckMark h (omega arith) (omega arith))) (λ f. tt)
+instead-reached (Own t g (suc k)) b s e h = tt
+instead-reached (Listed t g o k xs) b s e h = tt
 
-grew : (p : Place) (b : ℕ) (s : List ℕ) → before p ≡ s → digitOf b < 10 → before p ++ numberText p (digitOf b) ≡ s ++ b ∷ []
-grew p b s e l = ap₂ (λ (u w : List ℕ). u ++ w) e (number-one p (digitOf b) l ∙ ap (λ (x : ℕ). x ∷ []) (sym (digit-byte b l)))
+grew : (p : Place) (b : ℕ) (s : List ℕ) → before p ≡ s → digitOf b < 10 → before p ++ digits (digitOf b) ≡ s ++ b ∷ []
+grew p b s e l = ap₂ (λ (u w : List ℕ). u ++ w) e (digits-one (digitOf b) l ∙ ap (λ (x : ℕ). x ∷ []) (sym (digit-byte b l)))
 
-grew-more : (p : Place) (v b : ℕ) (s : List ℕ) → before p ++ numberText p v ≡ s → digitOf b < 10 → 0 < v → 10 * v + digitOf b < limit p → before p ++ numberText p (10 * v + digitOf b) ≡ s ++ b ∷ []
-grew-more p v b s e l pos h =
-    ap (λ (u : List ℕ). before p ++ u) (number-more p v (digitOf b) pos l h)
-    ∙ sym (append-assoc (before p) (numberText p v) ((48 + digitOf b) ∷ []))
+grew-more : (p : Place) (v b : ℕ) (s : List ℕ) → before p ++ digits v ≡ s → digitOf b < 10 → 0 < v → before p ++ digits (10 * v + digitOf b) ≡ s ++ b ∷ []
+grew-more p v b s e l pos =
+    ap (λ (u : List ℕ). before p ++ u) (digits-more v (digitOf b) pos l)
+    ∙ sym (append-assoc (before p) (digits v) ((48 + digitOf b) ∷ []))
     ∙ ap₂ (λ (u : List ℕ) (x : ℕ). u ++ x ∷ []) e (sym (digit-byte b l))
 
 pub step-reached : (σ : State) (b : ℕ) (s : List ℕ) → Reached σ s → Reached (step σ b) (s ++ b ∷ [])
@@ -259,11 +248,11 @@ unfolding step
 step-reached (Spelling ws p) b s r = spell-reached ws p b s (r .0) (r .1) (r .2)
 step-reached (First p) b s r =
     pick-by (λ (σ : State). Reached σ (s ++ b ∷ [])) (ltb (digitOf b) 10)
-    (λ e. grown-reached p (digitOf b) _ (r .1) (λ l. grew p b s (r .0) (ltb-true _ _ e)))
+    (λ e. grown-reached p (digitOf b) _ (r .1) (grew p b s (r .0) (ltb-true _ _ e)))
     (λ f. instead-reached p b s (r .0) (r .1))
 step-reached (Within p v) b s r =
     pick-by (λ (σ : State). Reached σ (s ++ b ∷ [])) (ltb (digitOf b) 10)
-    (λ e. pick-by (λ (σ : State). Reached σ (s ++ b ∷ [])) (ltb 0 v) (λ f. grown-reached p (10 * v + digitOf b) _ (r .1) (λ l. grew-more p v b s (r .0) (ltb-true _ _ e) (ltb-true _ _ f) l)) (λ f. tt))
+    (λ e. pick-by (λ (σ : State). Reached σ (s ++ b ∷ [])) (ltb 0 v) (λ f. grown-reached p (10 * v + digitOf b) _ (r .1) (grew-more p v b s (r .0) (ltb-true _ _ e) (ltb-true _ _ f))) (λ f. tt))
     (λ f. subst (λ (u : List ℕ). Reached (ended p v b) (u ++ b ∷ [])) (r .0) (ended-reached p v b (r .1) (r .2)))
 step-reached (Failed l) b s r = tt
 
@@ -282,8 +271,8 @@ unfolding finish before
 finished (Spelling ws p) s t r e = absurd (never e)
 finished (First Vertices) s t r e = absurd (never e)
 finished (First (Head u)) s t r e = let q : u ≡ t = cc in subst (λ (w : Table). WithinLimits w × (s ≡ tableText w)) q (r .1, sym (r .0))
-finished (First (Own u h)) s t r e = absurd (never e)
-finished (First (Listed u h o xs)) s t r e = absurd (never e)
+finished (First (Own u h k)) s t r e = absurd (never e)
+finished (First (Listed u h o k xs)) s t r e = absurd (never e)
 finished (Within p v) s t r e = absurd (never e)
 finished (Failed l) s t r e = absurd (never e)
 

@@ -1,12 +1,12 @@
 -- Reading, byte by byte from left to right and never ahead: a state for what was read, a step for each byte. Every limit is tested as early as it can
 -- fail, so a state that has not failed can still become a permitted text (Prefixes). The paper's "The text", and 14 of "What is turned away".
 -- Assumes nothing: these are definitions.
-use Prim.Native.Nat.{ℕ, _+_, _*_, _-_, min}
+use Prim.Native.Nat.{ℕ, zero, suc, _+_, _*_, _-_, min}
 use mathlib.Core.List.{List, [], _∷_, _++_}
 use lib.ListN.{length}
 use lib.Dec.{ltb, eqb}
 use Rattle.weights.specs.declared.Measure.{Measure}
-use Rattle.weights.specs.Figures.{struck}
+use Rattle.weights.specs.Figures.{greatest, standing, struckMark}
 use Rattle.weights.specs.Choice.{pick}
 use Rattle.columns.specs.Acceptance.{mostVertices, mostEdges, mostListed, longestTail}
 use Rattle.text.specs.Tables.{Edge, edge, Table, listedInAll}
@@ -16,8 +16,8 @@ use Rattle.text.specs.Render.{default, spoken, word, firstWord}
 pub data Place : Type 0 where
   Vertices : Place
   Head : Table → Place
-  Own : Table → (head : ℕ) → Place
-  Listed : Table → (head own : ℕ) → List ℕ → Place
+  Own : Table → (head mark : ℕ) → Place
+  Listed : Table → (head own mark : ℕ) → List ℕ → Place
 
 pub data State : Type 0 where
   -- of a word these bytes are left, and then a number begins there
@@ -47,14 +47,14 @@ mayList t = min (mostListed - listedInAll (t .edges)) longestTail
 unfoldable pub limit : Place → ℕ
 limit Vertices = mostVertices + 1
 limit (Head t) = pick (ltb (length (t .edges)) mostEdges) (t .vertices) 0
-limit (Own t h) = struck
-limit (Listed t h o xs) = t .vertices
+limit (Own t h k) = greatest + 1
+limit (Listed t h o k xs) = t .vertices
 
 unfoldable pub lineAt : Place → ℕ
 lineAt Vertices = 1
 lineAt (Head t) = nextLine t
-lineAt (Own t h) = nextLine t
-lineAt (Listed t h o xs) = nextLine t
+lineAt (Own t h k) = nextLine t
+lineAt (Listed t h o k xs) = nextLine t
 
 -- the digit that a byte is, else 10
 unfoldable pub digitOf : ℕ → ℕ
@@ -64,19 +64,20 @@ digitOf b = pick (ltb b 48) 10 (pick (ltb 57 b) 10 (b - 48))
 unfoldable pub grown : Place → ℕ → State
 grown p v = pick (ltb v (limit p)) (Within p v) (Failed (lineAt p))
 
--- a first byte that is no digit: `-` is the own figure of a struck line
+-- a first byte that is no digit: `-` marks the own figure of a struck line, and behind it the figure must begin
 unfoldable pub instead : Place → ℕ → State
 instead Vertices b = Failed 1
 instead (Head t) b = Failed (nextLine t)
-instead (Own t h) b = pick (eqb b 45) (Within (Own t h) struck) (Failed (nextLine t))
-instead (Listed t h o xs) b = Failed (nextLine t)
+instead (Own t h zero) b = pick (eqb b 45) (First (Own t h struckMark)) (Failed (nextLine t))
+instead (Own t h (suc k)) b = Failed (nextLine t)
+instead (Listed t h o k xs) b = Failed (nextLine t)
 
 -- the byte after an own figure or a listed part
-unfoldable pub after : Table → (head own : ℕ) → List ℕ → ℕ → State
-after t h o xs b =
+unfoldable pub after : Table → (head own mark : ℕ) → List ℕ → ℕ → State
+after t h o k xs b =
     pick (eqb b 32)
-    (pick (ltb (length xs) (mayList t)) (First (Listed t h o xs)) (Failed (nextLine t)))
-    (pick (eqb b 10) (First (Head (withEdge t (edge h o xs)))) (Failed (nextLine t)))
+    (pick (ltb (length xs) (mayList t)) (First (Listed t h o k xs)) (Failed (nextLine t)))
+    (pick (eqb b 10) (First (Head (withEdge t (edge h o k xs)))) (Failed (nextLine t)))
 
 -- a byte of a word
 unfoldable pub spell : List ℕ → Place → ℕ → State
@@ -87,9 +88,9 @@ spell (w ∷ v ∷ ws) p b = pick (eqb b w) (Spelling (v ∷ ws) p) (Failed 1)
 -- the byte after a number
 unfoldable pub ended : Place → (v b : ℕ) → State
 ended Vertices n b = pick (eqb b 10) (First (Head (begun n default))) (spell (word ++ 10 ∷ []) (Head (begun n spoken)) b)
-ended (Head t) h b = pick (eqb b 32) (First (Own t h)) (Failed (nextLine t))
-ended (Own t h) o b = after t h o [] b
-ended (Listed t h o xs) v b = after t h o (xs ++ v ∷ []) b
+ended (Head t) h b = pick (eqb b 32) (First (Own t h standing)) (Failed (nextLine t))
+ended (Own t h k) o b = after t h o k [] b
+ended (Listed t h o k xs) v b = after t h o k (xs ++ v ∷ []) b
 
 unfoldable pub step : State → ℕ → State
 step (Spelling ws p) b = spell ws p b
@@ -114,8 +115,8 @@ unfoldable pub finish : State → Parse
 finish (Spelling ws p) = Wrong 1
 finish (First Vertices) = Wrong 1
 finish (First (Head t)) = Whole t
-finish (First (Own t h)) = Wrong (nextLine t)
-finish (First (Listed t h o xs)) = Wrong (nextLine t)
+finish (First (Own t h k)) = Wrong (nextLine t)
+finish (First (Listed t h o k xs)) = Wrong (nextLine t)
 finish (Within p v) = Wrong (lineAt p)
 finish (Failed l) = Wrong l
 

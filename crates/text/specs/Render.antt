@@ -6,7 +6,7 @@ use mathlib.Core.Bool.{Bool, true, false}
 use lib.Dec.{ltb}
 use Rattle.weights.specs.declared.Measure.{Measure}
 use Rattle.weights.specs.declared.Measure.the-variants.{Cost, Days}
-use Rattle.weights.specs.Figures.{isStruck}
+use Rattle.weights.specs.Figures.{isStruckMark}
 use Rattle.weights.specs.Choice.{pick}
 use Rattle.refusal.specs.declared.Acceptance.the-variants.{Accepted}
 use Rattle.columns.specs.Columns.{Columns}
@@ -58,11 +58,14 @@ measureText m = pick (sameMeasure m default) (10 ∷ []) (word ++ 10 ∷ [])
 unfoldable pub header : ℕ → Measure → List ℕ
 header n m = (firstWord ++ digits n) ++ measureText m
 
--- A line for each hyperedge: head, own figure, listed parts, single spaces between -------------------------------------------------------
+-- A line for each hyperedge: head, own figure with its mark, listed parts, single spaces between ----------------------------------------
 
--- `-` if struck
-unfoldable pub ownText : ℕ → List ℕ
-ownText o = pick (isStruck o) (45 ∷ []) (digits o)
+-- `-` if struck, and the figure that the line keeps (document 02, 2026-02: "as `-500`; a bare `-` is refused")
+unfoldable pub markText : ℕ → List ℕ
+markText k = pick (isStruckMark k) (45 ∷ []) []
+
+unfoldable pub ownText : (own mark : ℕ) → List ℕ
+ownText o k = markText k ++ digits o
 
 unfoldable pub tailText : List ℕ → List ℕ
 tailText [] = []
@@ -70,7 +73,7 @@ tailText (v ∷ vs) = (32 ∷ digits v) ++ tailText vs
 
 -- a line up to its LF
 unfoldable pub edgeText : Edge → List ℕ
-edgeText e = digits (e .head) ++ (32 ∷ ownText (e .own)) ++ tailText (e .tail)
+edgeText e = digits (e .head) ++ (32 ∷ ownText (e .own) (e .mark)) ++ tailText (e .tail)
 
 unfoldable pub edgesText : List Edge → List ℕ
 edgesText [] = []

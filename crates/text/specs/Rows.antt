@@ -5,7 +5,7 @@ use mathlib.Core.Path.{_≡_}
 use mathlib.Core.List.{List, [], _∷_}
 use mathlib.Core.Bool.{true}
 use lib.ListN.{length}
-use Rattle.weights.specs.Figures.{struck}
+use Rattle.weights.specs.Figures.{greatest, struckMark}
 use Rattle.columns.specs.Acceptance.{mostVertices, mostEdges, mostListed, longestTail, allBelow}
 use Rattle.text.specs.Tables.{Edge, Table, listedInAll}
 
@@ -14,7 +14,8 @@ use Rattle.text.specs.Tables.{Edge, Table, listedInAll}
 -- a line of a table of n vertices
 pub record EdgeFits (n : ℕ) (e : Edge) : Type 0 where
   pub head : e .head < n
-  pub own : e .own ≤ struck
+  pub own : e .own ≤ greatest
+  pub mark : e .mark ≤ struckMark
   pub short : length (e .tail) ≤ longestTail
   pub tail : allBelow n (e .tail) ≡ true
 

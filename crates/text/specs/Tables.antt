@@ -4,16 +4,17 @@ use Prim.Native.Nat.{ℕ, zero, suc, _+_}
 use mathlib.Core.List.{List, [], _∷_, _++_}
 use lib.ListN.{length}
 use Rattle.weights.specs.declared.Measure.{Measure}
-use Rattle.columns.specs.Columns.{Columns, columns, headAt, ownAt, tailAt}
+use Rattle.columns.specs.Columns.{Columns, columns, headAt, ownAt, strikeAt, tailAt}
 
--- a line of the table: its head, its own figure, the parts that it lists
+-- a line of the table: its head, its own figure, its strike mark, the parts that it lists
 pub record Edge : Type 0 where
   pub head : ℕ
   pub own : ℕ
+  pub mark : ℕ
   pub tail : List ℕ
 
-abbrev pub edge : (head own : ℕ) → List ℕ → Edge
-edge h o xs = record { head = h; own = o; tail = xs }
+abbrev pub edge : (head own mark : ℕ) → List ℕ → Edge
+edge h o k xs = record { head = h; own = o; mark = k; tail = xs }
 
 pub record Table : Type 0 where
   pub vertices : ℕ
@@ -23,7 +24,7 @@ pub record Table : Type 0 where
 -- the hyperedges of columns: the `left` from e on, and all
 unfoldable pub edgesFrom : Columns → (left e : ℕ) → List Edge
 edgesFrom c zero e = []
-edgesFrom c (suc left) e = edge (headAt c e) (ownAt c e) (tailAt c e) ∷ edgesFrom c left (e + 1)
+edgesFrom c (suc left) e = edge (headAt c e) (ownAt c e) (strikeAt c e) (tailAt c e) ∷ edgesFrom c left (e + 1)
 
 abbrev pub edgesOf : Columns → List Edge
 edgesOf c = edgesFrom c (length (c .heads)) 0
@@ -36,14 +37,19 @@ unfoldable pub listedInAll : List Edge → ℕ
 listedInAll [] = 0
 listedInAll (e ∷ es) = length (e .tail) + listedInAll es
 
--- the four columns of hyperedges, spans from an offset on without gaps
-unfoldable pub headsOf : List Edge → List ℕ
-headsOf [] = []
-headsOf (e ∷ es) = e .head ∷ headsOf es
+-- the five columns of hyperedges, spans from an offset on without gaps
+unfoldable pub eachOf : (Edge → ℕ) → List Edge → List ℕ
+eachOf f [] = []
+eachOf f (e ∷ es) = f e ∷ eachOf f es
 
-unfoldable pub ownsOf : List Edge → List ℕ
-ownsOf [] = []
-ownsOf (e ∷ es) = e .own ∷ ownsOf es
+abbrev pub headsOf : List Edge → List ℕ
+headsOf = eachOf (λ e. e .head)
+
+abbrev pub ownsOf : List Edge → List ℕ
+ownsOf = eachOf (λ e. e .own)
+
+abbrev pub marksOf : List Edge → List ℕ
+marksOf = eachOf (λ e. e .mark)
 
 unfoldable pub spansFrom : ℕ → List Edge → List ℕ
 spansFrom offset [] = []
@@ -54,7 +60,7 @@ tailsOf [] = []
 tailsOf (e ∷ es) = e .tail ++ tailsOf es
 
 abbrev pub columnsOf : ℕ → List Edge → Columns
-columnsOf n es = columns n (headsOf es) (ownsOf es) (spansFrom 0 es) (tailsOf es)
+columnsOf n es = columns n (headsOf es) (ownsOf es) (marksOf es) (spansFrom 0 es) (tailsOf es)
 
 -- the same table with its gaps closed
 abbrev pub closed : Columns → Columns
