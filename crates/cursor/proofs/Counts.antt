@@ -7,9 +7,10 @@ use mathlib.Core.Bool.{Bool, true, false}
 use native.Mathlib.Omega.{arith}
 use lib.ListN.{length, getD, drop, length-drop, List·getD-eq-default}
 use lib.Dec.{ltb, eqb}
-use borrow.Author.Tests.{ltb-true, ltb-false, eqb-true}
+use borrow.Author.Tests.{ltb-true, ltb-false}
 use Rattle.weights.specs.declared.Weight.{Weight}
-use Rattle.weights.specs.Figures.{struck}
+use Rattle.weights.specs.declared.Mark.{Mark}
+use Rattle.weights.specs.Figures.{greatest, standing, struckMark}
 use Rattle.text.specs.Machine.{digitOf}
 use Rattle.text.proofs.Digits.{pick-by}
 use Rattle.cursor.specs.declared.Found.{Found}
@@ -60,21 +61,22 @@ number-counts s at limit v next e =
     let l = length-drop at s in
     (r .0, r .1, omega arith)
 
--- the same of an own figure
+-- the same of an own figure, with its mark
 abbrev WeightCounts : (at end : ℕ) → FoundWeight → Type 0
-WeightCounts at end (Own w next) = (w .0 ≤ struck) × (at < next) × (next ≤ end)
+WeightCounts at end (Own w k next) = (w .0 ≤ greatest) × (k .0 ≤ struckMark) × (at < next) × (next ≤ end)
 WeightCounts at end NotAWeight = Unit {0}
 
-as-weight-counts : (s : List ℕ) (at : ℕ) (f : Found) → numberAt s at struck ≡ f → WeightCounts at (length s) (asWeight f)
-as-weight-counts s at (Number v next) e = let r = number-counts s at struck v next e in (omega arith, r .1, r .2)
-as-weight-counts s at NotANumber e = tt
+as-weight-counts : (s : List ℕ) (at from : ℕ) (k : Mark) (f : Found) → at ≤ from → k .0 ≤ struckMark → numberAt s from (greatest + 1) ≡ f → WeightCounts at (length s) (asWeight k f)
+as-weight-counts s at from k (Number v next) h m e = let r = number-counts s from (greatest + 1) v next e in (omega arith, m, omega arith, r .2)
+as-weight-counts s at from k NotANumber h m e = tt
 
 weight-count : (s : List ℕ) (at : ℕ) → WeightCounts at (length s) (weightAt s at)
 unfolding weightAt
 weight-count s at =
     pick-by (WeightCounts at (length s)) (eqb (getD s at 0) 45)
-    (λ e. let h = byte-within s at 45 (eqb-true _ _ e) (omega arith) in (omega arith, omega arith, omega arith))
-    (λ e. as-weight-counts s at (numberAt s at struck) refl)
+    (λ e. as-weight-counts s at (at + 1) (record { 0 = struckMark }) (numberAt s (at + 1) (greatest + 1)) (omega arith) (omega arith) refl)
+    (λ e. as-weight-counts s at at (record { 0 = standing }) (numberAt s at (greatest + 1)) (omega arith) (omega arith) refl)
 
-pub weight-counts : (s : List ℕ) (at : ℕ) (w : Weight) (next : ℕ) → weightAt s at ≡ Own w next → (w .0 ≤ struck) × (at < next) × (next ≤ length s)
-weight-counts s at w next e = rw e at (weight-count s at)
+pub weight-counts : (s : List ℕ) (at : ℕ) (w : Weight) (k : Mark) (next : ℕ) → weightAt s at ≡ Own w k next
+    → (w .0 ≤ greatest) × (k .0 ≤ struckMark) × (at < next) × (next ≤ length s)
+weight-counts s at w k next e = rw e at (weight-count s at)

@@ -1,11 +1,12 @@
 -- What stands at a place of a text: a number, an own figure, a separator, each with the place behind it. The paper's "The text": numbers are decimal without
--- leading zeros; `-` if struck, and the number 1000000001 is refused; where a number must stand, anything but digits ends the reading.
+-- leading zeros; where a number must stand, anything but digits ends the reading. Document 02, 2026-02: of a struck line "`-` and the kept figure".
 -- Assumes nothing: these are definitions.
 use Prim.Native.Nat.{ℕ, _+_, _*_}
 use mathlib.Core.List.{List, [], _∷_}
 use lib.ListN.{getD, drop}
 use lib.Dec.{ltb, eqb}
-use Rattle.weights.specs.Figures.{struck}
+use Rattle.weights.specs.declared.Mark.{Mark}
+use Rattle.weights.specs.Figures.{greatest, standing, struckMark}
 use Rattle.weights.specs.Choice.{pick}
 use Rattle.text.specs.Machine.{digitOf}
 use Rattle.cursor.specs.declared.Found.{Found}
@@ -35,13 +36,16 @@ numberOf (b ∷ bs) at limit =
 unfoldable pub numberAt : List ℕ → (at limit : ℕ) → Found
 numberAt s at limit = numberOf (drop at s) at limit
 
--- a number as an own figure
-abbrev pub asWeight : Found → FoundWeight
-asWeight (Number v next) = Own (record { 0 = v }) next
-asWeight NotANumber = NotAWeight
+-- a number as the own figure of a line with this mark
+abbrev pub asWeight : Mark → Found → FoundWeight
+asWeight k (Number v next) = Own (record { 0 = v }) k next
+asWeight k NotANumber = NotAWeight
 
 unfoldable pub weightAt : List ℕ → ℕ → FoundWeight
-weightAt s at = pick (eqb (getD s at 0) 45) (Own (record { 0 = struck }) (at + 1)) (asWeight (numberAt s at struck))
+weightAt s at =
+    pick (eqb (getD s at 0) 45)
+    (asWeight (record { 0 = struckMark }) (numberAt s (at + 1) (greatest + 1)))
+    (asWeight (record { 0 = standing }) (numberAt s at (greatest + 1)))
 
 unfoldable pub separatorAt : List ℕ → ℕ → Separator
 separatorAt s at = pick (eqb (getD s at 0) 32) (Space (at + 1)) (pick (eqb (getD s at 0) 10) (LineEnd (at + 1)) Neither)

@@ -1,11 +1,14 @@
 // What stands at a place of a text: a byte, a number, an own weight, a separator, the text's end. Each
 // is read from left to right, and nothing behind the byte that ends it is looked at.
+use weights::Mark;
 use weights::Weight;
 ghost use mathlib.Core.Path.{_≡_};
 ghost use lib.ListN.{length, getD};
 ghost use lib.Dec.{leb};
+ghost use Prim.Native.Nat.{_+_};
+ghost use Rattle.weights.specs.Figures.{greatest};
 ghost use Rattle.text.specs.Machine.{digitOf};
-ghost use Rattle.cursor.specs.Cursor.{numberAt, weightAt, separatorAt};
+ghost use Rattle.cursor.specs.Cursor.{numberAt, asWeight, weightAt, separatorAt};
 
 // A number, with the place behind it.
 pub enum Found {
@@ -13,9 +16,9 @@ pub enum Found {
     NotANumber,
 }
 
-// An own weight, with the place behind it.
+// An own weight and the strike mark of its line, with the place behind them.
 pub enum FoundWeight {
-    Own(Weight, usize),
+    Own(Weight, Mark, usize),
     NotAWeight,
 }
 
@@ -86,20 +89,27 @@ pub fn number_at(text: &[u8], at: usize, limit: u64) -> Found
     Found::Number(v, i)
 }
 
-// The own weight at a place: a number, or `-` for the struck mark, which as a number is none.
+// The number at a place, as the own weight of a line with this mark.
+fn figure_at(text: &[u8], at: usize, mark: Mark) -> FoundWeight
+    ensures { λ r. ⌜ r ≡ asWeight mark (numberAt (now (text .entry)) at (greatest + 1)) ⌝ }
+{
+    let found = number_at(text, at, Weight::GREATEST.0 + 1);
+    let Found::Number(v, next) = found else {
+        return FoundWeight::NotAWeight;
+    };
+    FoundWeight::Own(Weight(v), mark, next)
+}
+
+// The own weight at a place: a number, and in a struck line `-` directly before it.
 pub fn weight_at(text: &[u8], at: usize) -> FoundWeight
     ensures { λ r. ⌜ r ≡ weightAt (now (text .entry)) at ⌝ }
 {
     let b = byte_at(text, at);
     if b == b'-' {
-        let next = at + 1;
-        return FoundWeight::Own(Weight::STRUCK, next);
+        let from = at + 1;
+        return figure_at(text, from, Mark::STRUCK);
     }
-    let found = number_at(text, at, Weight::STRUCK.0);
-    let Found::Number(v, next) = found else {
-        return FoundWeight::NotAWeight;
-    };
-    FoundWeight::Own(Weight(v), next)
+    figure_at(text, at, Mark::STANDS)
 }
 
 pub fn separator_at(text: &[u8], at: usize) -> Separator
