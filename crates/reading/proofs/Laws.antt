@@ -12,6 +12,7 @@ use borrow.Author.Tests.{eq-eqb, ne-eqb}
 use Rattle.weights.specs.declared.Measure.{Measure}
 use Rattle.weights.specs.declared.Vertex.{Vertex}
 use Rattle.weights.specs.declared.Weight.{Weight}
+use Rattle.weights.specs.declared.Mark.{Mark}
 use Rattle.refusal.specs.declared.Reading.the-variants as reading
 use Rattle.columns.specs.Acceptance.{mostVertices, mostEdges, mostListed, longestTail}
 use Rattle.text.specs.Machine.{Parse, Whole, Wrong, parse}
@@ -181,27 +182,27 @@ line-unstemmed s n most at room e =
     let q : rowAt s n most at ≡ Fails [] = ap (onStem s n most) e in
     record { answer = ap lineOf (sym q); room = filled-none room ∙ ap (λ (R : Row). filled (stored R) room) (sym q) }
 
-abbrev pub lineWith : Vertex → Weight → Tail → Line
-lineWith h o (tail.Ends k next) = line.Edge h o k next
-lineWith h o tail.Wrong = line.Wrong
+abbrev pub lineWith : Vertex → Weight → Mark → Tail → Line
+lineWith h o b (tail.Ends k next) = line.Edge h o b k next
+lineWith h o b tail.Wrong = line.Wrong
 
-pub line-listed : (s : List ℕ) (n most at : ℕ) (h : Vertex) (o : Weight) (from : ℕ) (old new : List ℕ) (r : Tail) → stemAt s n at ≡ stem.Read h o from
+pub line-listed : (s : List ℕ) (n most at : ℕ) (h : Vertex) (o : Weight) (b : Mark) (from : ℕ) (old new : List ℕ) (r : Tail) → stemAt s n at ≡ stem.Read h o b from
     → ReadsTail (listedFrom most s n from []) old r new
-    → ReadsLine (rowAt s n most at) old (lineWith h o r) new
+    → ReadsLine (rowAt s n most at) old (lineWith h o b r) new
 unfolding rowAt
-line-listed s n most at h o from old new r e g =
-    let q : rowAt s n most at ≡ onListing h o (listedFrom most s n from []) = ap (onStem s n most) e in
+line-listed s n most at h o b from old new r e g =
+    let q : rowAt s n most at ≡ onListing h o b (listedFrom most s n from []) = ap (onStem s n most) e in
     let L = listedFrom most s n from [] in
     record {
-      answer = ap (lineWith h o) (g .answer) ∙ lined L ∙ ap lineOf (sym q);
+      answer = ap (lineWith h o b) (g .answer) ∙ lined L ∙ ap lineOf (sym q);
       room = g .room ∙ ap (λ (z : List ℕ). filled z old) (listed L) ∙ ap (λ (R : Row). filled (stored R) old) (sym q);
     }
   where
-    lined : (L : Listing) → lineWith h o (tailOf L) ≡ lineOf (onListing h o L)
+    lined : (L : Listing) → lineWith h o b (tailOf L) ≡ lineOf (onListing h o b L)
     lined (Ends xs next) = refl
     lined (Breaks xs) = refl
 
-    listed : (L : Listing) → vertices L ≡ stored (onListing h o L)
+    listed : (L : Listing) → vertices L ≡ stored (onListing h o b L)
     listed (Ends xs next) = refl
     listed (Breaks xs) = refl
 
@@ -224,9 +225,9 @@ module _ (s : List ℕ) (n : ℕ) (m : Measure) (at edges listed : ℕ) (g : Sca
     pub line-wrong : r ≡ line.Wrong → scan s ≡ Wrong (edges + 2)
     line-wrong q = let f = fails (rowAt s n (min (mostListed - listed) size) at) (sym q ∙ a) in scan-fails s n m at edges listed g h l _ sized (f .0) (f .1)
 
-    pub line-next : (v : Vertex) (w : Weight) (c next : ℕ) → r ≡ line.Edge v w c next → (at < next) × (c ≤ mostListed - listed) × Scanning s n m next (edges + 1) (listed + c)
-    line-next v w c next q =
-        let f = tells (rowAt s n (min (mostListed - listed) size) at) v w c next (sym q ∙ a) in
+    pub line-next : (v : Vertex) (w : Weight) (k : Mark) (c next : ℕ) → r ≡ line.Edge v w k c next → (at < next) × (c ≤ mostListed - listed) × Scanning s n m next (edges + 1) (listed + c)
+    line-next v w k c next q =
+        let f = tells (rowAt s n (min (mostListed - listed) size) at) v w k c next (sym q ∙ a) in
         let b = row-counts s n (min (mostListed - listed) size) at (f .edge-is) next (f .row) in
         let d = b .0 in
         let e = f .count in

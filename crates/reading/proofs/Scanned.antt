@@ -8,8 +8,8 @@ use native.Mathlib.Omega.{arith}
 use lib.ListN.{length, getD, drop, drop-of-length-le, length-append, length-drop, List·getD-eq-default}
 use lib.Seq.{drop-cons, drop-drop}
 use lib.Dec.{ltb, eqb}
-use borrow.Author.Tests.{lt-ltb, le-ltb, ltb-true, ltb-false, eqb-true, ne-eqb}
-use Rattle.weights.specs.Figures.{struck}
+use borrow.Author.Tests.{lt-ltb, le-ltb, ltb-true, ltb-false, eqb-true}
+use Rattle.weights.specs.Figures.{greatest, standing, struckMark}
 use Rattle.weights.specs.Choice.{pick}
 use Rattle.columns.specs.Acceptance.{mostVertices, mostEdges}
 use Rattle.text.specs.Tables.{edge, Table}
@@ -46,7 +46,7 @@ use Rattle.text.specs.Machine.{
   begin,
   parse,
 }
-use Rattle.text.proofs.Digits.{pick-by, digit-byte}
+use Rattle.text.proofs.Digits.{pick-by}
 use Rattle.text.proofs.Places.{run-failed}
 use Rattle.cursor.specs.declared.Found.{Found}
 use Rattle.cursor.specs.declared.Found.the-variants.{Number, NotANumber}
@@ -201,121 +201,119 @@ module _ (s : List ℕ) (p : Place) where
 -- Lines ------------------------------------------------------------------------------------------------------------------------------------
 
 -- σ stands at a place behind the own figure or the last of the parts xs
-record Follows (t : Table) (h o : ℕ) (xs : List ℕ) (σ : State) (s : List ℕ) (at : ℕ) : Type 0 where
+record Follows (t : Table) (h o k : ℕ) (xs : List ℕ) (σ : State) (s : List ℕ) (at : ℕ) : Type 0 where
   stops : finish σ ≡ Wrong (nextLine t)
-  steps : at < length s → step σ (getD s at 0) ≡ after t h o xs (getD s at 0)
+  steps : at < length s → step σ (getD s at 0) ≡ after t h o k xs (getD s at 0)
 
 module _ (s : List ℕ) (t : Table) where
   -- Own figures
 
-  -- no digit goes on the struck mark
-  digit-after : (h b : ℕ) → digitOf b < 10 → after t h struck [] b ≡ Failed (nextLine t)
-  unfolding after
-  digit-after h b d = let e = digit-byte b d in rw (ne-eqb b 32 (λ q. omega arith), ne-eqb b 10 (λ q. omega arith))
+  -- from σ, behind the head h, an own figure with its mark is passed; or the line is wrong
+  abbrev OwnRuns : State → (h at : ℕ) → FoundWeight → Type 0
+  OwnRuns σ h at (weight.Own w k next) = (run σ (drop at s) ≡ run (Within (Own t h (k .0)) (w .0)) (drop next s)) × Follows t h (w .0) (k .0) [] (Within (Own t h (k .0)) (w .0)) s next
+  OwnRuns σ h at weight.NotAWeight = finish (run σ (drop at s)) ≡ Wrong (nextLine t)
 
-  mark-step : (h b : ℕ) → step (Within (Own t h) struck) b ≡ after t h struck [] b
-  mark-step h b = go (ltb (digitOf b) 10) refl
-    where
-      too-great : ltb (10 * struck + digitOf b) struck ≡ false
-      too-great = le-ltb (10 * struck + digitOf b) struck (omega arith)
+  -- the same from one byte before
+  own-before : (σ τ : State) (h at next : ℕ) (F : FoundWeight) → run σ (drop at s) ≡ run τ (drop next s) → OwnRuns τ h next F → OwnRuns σ h at F
+  own-before σ τ h at next (weight.Own w k j) e r = (e ∙ r .0, r .1)
+  own-before σ τ h at next weight.NotAWeight e r = ap finish e ∙ r
 
-      over : ltb (digitOf b) 10 ≡ true → step (Within (Own t h) struck) b ≡ Failed (nextLine t)
-      over d = unfold step grown limit lineAt in rw (d, too-great)
-
-      go : (c : Bool) → ltb (digitOf b) 10 ≡ c → step (Within (Own t h) struck) b ≡ after t h struck [] b
-      go true d = over d ∙ sym (digit-after h b (ltb-true _ _ d))
-      go false d = unfold step ended in rw d
-
-  abbrev OwnRuns : (h at : ℕ) → FoundWeight → Type 0
-  OwnRuns h at (weight.Own w next) = (run (First (Own t h)) (drop at s) ≡ run (Within (Own t h) (w .0)) (drop next s)) × Follows t h (w .0) [] (Within (Own t h) (w .0)) s next
-  OwnRuns h at weight.NotAWeight = finish (run (First (Own t h)) (drop at s)) ≡ Wrong (nextLine t)
-
-  own-number : (h at : ℕ) (F : Found) → NumberRuns s (Own t h) (First (Own t h)) (drop at s) F → OwnRuns h at (asWeight F)
+  own-number : (h k at : ℕ) (F : Found) → NumberRuns s (Own t h k) (First (Own t h k)) (drop at s) F → OwnRuns (First (Own t h k)) h at (asWeight (record { 0 = k }) F)
   unfolding finish lineAt ended
-  own-number h at (Number v next) r = (r .0, record { stops = refl; steps = λ l. number-ended s (Own t h) v next (r .1) })
-  own-number h at NotANumber r = r
+  own-number h k at (Number v next) r = (r .0, record { stops = refl; steps = λ l. number-ended s (Own t h k) v next (r .1) })
+  own-number h k at NotANumber r = r
 
-  own-run : (h at : ℕ) → OwnRuns h at (weightAt s at)
+  own-run : (h at : ℕ) → OwnRuns (First (Own t h standing)) h at (weightAt s at)
   unfolding weightAt
   own-run h at =
-      pick-by (OwnRuns h at) (eqb (getD s at 0) 45)
-      (λ e. (dashed (eqb-true _ _ e), record { stops = unfold finish lineAt in refl; steps = λ l. mark-step h (getD s (at + 1) 0) }))
-      (λ e. number e)
+      let found = asWeight (record { 0 = struckMark }) (numberAt s (at + 1) (greatest + 1)) in
+      pick-by (OwnRuns (First (Own t h standing)) h at) (eqb (getD s at 0) 45)
+      (λ e. own-before (First (Own t h standing)) (First (Own t h struckMark)) h at (at + 1) found (dashed (eqb-true _ _ e)) struck)
+      (λ e. unstruck e)
     where
-      dash : step (First (Own t h)) 45 ≡ Within (Own t h) struck
+      dash : step (First (Own t h standing)) 45 ≡ First (Own t h struckMark)
       dash = unfold step instead digitOf in refl
 
-      dashed : getD s at 0 ≡ 45 → run (First (Own t h)) (drop at s) ≡ run (Within (Own t h) struck) (drop (at + 1) s)
-      dashed e = run-step (First (Own t h)) s at (byte-within s at 45 e (omega arith)) ∙ ap (λ (σ : State). run σ (drop (at + 1) s)) (ap (step (First (Own t h))) e ∙ dash)
+      dashed : getD s at 0 ≡ 45 → run (First (Own t h standing)) (drop at s) ≡ run (First (Own t h struckMark)) (drop (at + 1) s)
+      dashed e =
+          run-step (First (Own t h standing)) s at (byte-within s at 45 e (omega arith))
+          ∙ ap (λ (σ : State). run σ (drop (at + 1) s)) (ap (step (First (Own t h standing))) e ∙ dash)
 
-      number : eqb (getD s at 0) 45 ≡ false → OwnRuns h at (asWeight (numberAt s at struck))
-      number e = own-number h at (numberAt s at struck) (unfold limit finish instead lineAt in number-run s (Own t h) at (λ l. refl) (rw e))
+      struck : OwnRuns (First (Own t h struckMark)) h (at + 1) (asWeight (record { 0 = struckMark }) (numberAt s (at + 1) (greatest + 1)))
+      struck =
+          own-number h struckMark (at + 1) (numberAt s (at + 1) (greatest + 1))
+          (unfold limit finish instead lineAt in number-run s (Own t h struckMark) (at + 1) (λ l. refl) refl)
+
+      unstruck : eqb (getD s at 0) 45 ≡ false → OwnRuns (First (Own t h standing)) h at (asWeight (record { 0 = standing }) (numberAt s at (greatest + 1)))
+      unstruck e =
+          own-number h standing at (numberAt s at (greatest + 1))
+          (unfold limit finish instead lineAt in number-run s (Own t h standing) at (λ l. refl) (rw e))
 
   -- Listed parts
 
-  abbrev ListRuns : (h o : ℕ) → State → ℕ → Listing → Type 0
-  ListRuns h o σ at (Ends ys next) = run σ (drop at s) ≡ run (First (Head (withEdge t (edge h o ys)))) (drop next s)
-  ListRuns h o σ at (Breaks ys) = finish (run σ (drop at s)) ≡ Wrong (nextLine t)
+  abbrev ListRuns : (h o k : ℕ) → State → ℕ → Listing → Type 0
+  ListRuns h o k σ at (Ends ys next) = run σ (drop at s) ≡ run (First (Head (withEdge t (edge h o k ys)))) (drop next s)
+  ListRuns h o k σ at (Breaks ys) = finish (run σ (drop at s)) ≡ Wrong (nextLine t)
 
   -- the same from one part before
-  runs-on : (h o : ℕ) (σ τ : State) (at next : ℕ) (L : Listing) → run σ (drop at s) ≡ run τ (drop next s) → ListRuns h o τ next L → ListRuns h o σ at L
-  runs-on h o σ τ at next (Ends ys j) e r = e ∙ r
-  runs-on h o σ τ at next (Breaks ys) e r = ap finish e ∙ r
+  runs-on : (h o k : ℕ) (σ τ : State) (at next : ℕ) (L : Listing) → run σ (drop at s) ≡ run τ (drop next s) → ListRuns h o k τ next L → ListRuns h o k σ at L
+  runs-on h o k σ τ at next (Ends ys j) e r = e ∙ r
+  runs-on h o k σ τ at next (Breaks ys) e r = ap finish e ∙ r
 
-  module _ (h o : ℕ) where
-    module _ (at : ℕ) (xs : List ℕ) (σ : State) (f : Follows t h o xs σ s at) where
-      spaced : getD s at 0 ≡ 32 → run σ (drop at s) ≡ run (after t h o xs 32) (drop (at + 1) s)
-      spaced e = let l = byte-within s at 32 e (omega arith) in run-step σ s at l ∙ ap (λ (τ : State). run τ (drop (at + 1) s)) (f .steps l ∙ ap (after t h o xs) e)
+  module _ (h o k : ℕ) where
+    module _ (at : ℕ) (xs : List ℕ) (σ : State) (f : Follows t h o k xs σ s at) where
+      spaced : getD s at 0 ≡ 32 → run σ (drop at s) ≡ run (after t h o k xs 32) (drop (at + 1) s)
+      spaced e = let l = byte-within s at 32 e (omega arith) in run-step σ s at l ∙ ap (λ (τ : State). run τ (drop (at + 1) s)) (f .steps l ∙ ap (after t h o k xs) e)
 
       no-more : getD s at 0 ≡ 32 → mayList t ≤ length xs → finish (run σ (drop at s)) ≡ Wrong (nextLine t)
       unfolding after finish
       no-more e l =
-          let q : after t h o xs 32 ≡ Failed (nextLine t) = rw (le-ltb (length xs) (mayList t) l) in
+          let q : after t h o k xs 32 ≡ Failed (nextLine t) = rw (le-ltb (length xs) (mayList t) l) in
           ap finish (spaced e ∙ ap (λ (τ : State). run τ (drop (at + 1) s)) q ∙ run-failed (nextLine t) (drop (at + 1) s))
 
-      one-more : getD s at 0 ≡ 32 → length xs < mayList t → run σ (drop at s) ≡ run (First (Listed t h o xs)) (drop (at + 1) s)
+      one-more : getD s at 0 ≡ 32 → length xs < mayList t → run σ (drop at s) ≡ run (First (Listed t h o k xs)) (drop (at + 1) s)
       unfolding after
       one-more e l = spaced e ∙ rw (lt-ltb (length xs) (mayList t) l)
 
-      list-end : eqb (getD s at 0) 32 ≡ false → ListRuns h o σ at (listEnd s at xs)
-      list-end n = pick-by (ListRuns h o σ at) (eqb (getD s at 0) 10) (λ e. ended-here (eqb-true _ _ e)) (λ e. wrong-both σ s at (nextLine t) (f .stops) (λ l. f .steps l ∙ broken e))
+      list-end : eqb (getD s at 0) 32 ≡ false → ListRuns h o k σ at (listEnd s at xs)
+      list-end n = pick-by (ListRuns h o k σ at) (eqb (getD s at 0) 10) (λ e. ended-here (eqb-true _ _ e)) (λ e. wrong-both σ s at (nextLine t) (f .stops) (λ l. f .steps l ∙ broken e))
         where
-          last : after t h o xs 10 ≡ First (Head (withEdge t (edge h o xs)))
+          last : after t h o k xs 10 ≡ First (Head (withEdge t (edge h o k xs)))
           last = unfold after in refl
 
-          ended-here : getD s at 0 ≡ 10 → run σ (drop at s) ≡ run (First (Head (withEdge t (edge h o xs)))) (drop (at + 1) s)
-          ended-here e = let l = byte-within s at 10 e (omega arith) in run-step σ s at l ∙ ap (λ (τ : State). run τ (drop (at + 1) s)) (f .steps l ∙ ap (after t h o xs) e ∙ last)
+          ended-here : getD s at 0 ≡ 10 → run σ (drop at s) ≡ run (First (Head (withEdge t (edge h o k xs)))) (drop (at + 1) s)
+          ended-here e = let l = byte-within s at 10 e (omega arith) in run-step σ s at l ∙ ap (λ (τ : State). run τ (drop (at + 1) s)) (f .steps l ∙ ap (after t h o k xs) e ∙ last)
 
-          broken : eqb (getD s at 0) 10 ≡ false → after t h o xs (getD s at 0) ≡ Failed (nextLine t)
+          broken : eqb (getD s at 0) 10 ≡ false → after t h o k xs (getD s at 0) ≡ Failed (nextLine t)
           broken e = unfold after in rw (n, e)
 
     -- behind the number v of the list
-    follows-listed : (xs : List ℕ) (v next : ℕ) → 10 ≤ digitOf (getD s next 0) → Follows t h o (xs ++ v ∷ []) (Within (Listed t h o xs) v) s next
+    follows-listed : (xs : List ℕ) (v next : ℕ) → 10 ≤ digitOf (getD s next 0) → Follows t h o k (xs ++ v ∷ []) (Within (Listed t h o k xs) v) s next
     unfolding finish lineAt ended
-    follows-listed xs v next d = record { stops = refl; steps = λ l. number-ended s (Listed t h o xs) v next d }
+    follows-listed xs v next d = record { stops = refl; steps = λ l. number-ended s (Listed t h o k xs) v next d }
 
-    listed-number : (at : ℕ) (xs : List ℕ) → NumberRuns s (Listed t h o xs) (First (Listed t h o xs)) (drop at s) (numberAt s at (t .vertices))
+    listed-number : (at : ℕ) (xs : List ℕ) → NumberRuns s (Listed t h o k xs) (First (Listed t h o k xs)) (drop at s) (numberAt s at (t .vertices))
     unfolding limit finish instead lineAt
-    listed-number at xs = number-run s (Listed t h o xs) at (λ l. refl) refl
+    listed-number at xs = number-run s (Listed t h o k xs) at (λ l. refl) refl
 
-    vertex-run : (at : ℕ) (xs : List ℕ) (F : Found) (more : List ℕ → ℕ → Listing) → NumberRuns s (Listed t h o xs) (First (Listed t h o xs)) (drop at s) F
-        → ((v next : ℕ) → Follows t h o (xs ++ v ∷ []) (Within (Listed t h o xs) v) s next → ListRuns h o (Within (Listed t h o xs) v) next (more (xs ++ v ∷ []) next))
-        → ListRuns h o (First (Listed t h o xs)) at (onVertex xs F more)
+    vertex-run : (at : ℕ) (xs : List ℕ) (F : Found) (more : List ℕ → ℕ → Listing) → NumberRuns s (Listed t h o k xs) (First (Listed t h o k xs)) (drop at s) F
+        → ((v next : ℕ) → Follows t h o k (xs ++ v ∷ []) (Within (Listed t h o k xs) v) s next → ListRuns h o k (Within (Listed t h o k xs) v) next (more (xs ++ v ∷ []) next))
+        → ListRuns h o k (First (Listed t h o k xs)) at (onVertex xs F more)
     unfolding lineAt
-    vertex-run at xs (Number v next) more r k =
-        runs-on h o (First (Listed t h o xs)) (Within (Listed t h o xs) v) at next (more (xs ++ v ∷ []) next) (r .0) (k v next (follows-listed xs v next (r .1)))
-    vertex-run at xs NotANumber more r k = r
+    vertex-run at xs (Number v next) more r go =
+        runs-on h o k (First (Listed t h o k xs)) (Within (Listed t h o k xs) v) at next (more (xs ++ v ∷ []) next) (r .0) (go v next (follows-listed xs v next (r .1)))
+    vertex-run at xs NotANumber more r go = r
 
-    listing-run : (left at : ℕ) (xs : List ℕ) (σ : State) → Follows t h o xs σ s at → left + length xs ≡ mayList t → ListRuns h o σ at (listedFrom left s (t .vertices) at xs)
+    listing-run : (left at : ℕ) (xs : List ℕ) (σ : State) → Follows t h o k xs σ s at → left + length xs ≡ mayList t → ListRuns h o k σ at (listedFrom left s (t .vertices) at xs)
     unfolding listedFrom
     listing-run zero at xs σ f l =
-        pick-by (ListRuns h o σ at) (eqb (getD s at 0) 32) (λ e. no-more at xs σ f (eqb-true _ _ e) (omega arith)) (list-end at xs σ f)
+        pick-by (ListRuns h o k σ at) (eqb (getD s at 0) 32) (λ e. no-more at xs σ f (eqb-true _ _ e) (omega arith)) (list-end at xs σ f)
     listing-run (suc left) at xs σ f l =
         let more : List ℕ → ℕ → Listing = λ ys next. listedFrom left s (t .vertices) next ys in
-        pick-by (ListRuns h o σ at) (eqb (getD s at 0) 32)
-        (λ e. runs-on h o σ (First (Listed t h o xs)) at (at + 1) (onVertex xs (numberAt s (at + 1) (t .vertices)) more) (one-more at xs σ f (eqb-true _ _ e) (omega arith))
+        pick-by (ListRuns h o k σ at) (eqb (getD s at 0) 32)
+        (λ e. runs-on h o k σ (First (Listed t h o k xs)) at (at + 1) (onVertex xs (numberAt s (at + 1) (t .vertices)) more) (one-more at xs σ f (eqb-true _ _ e) (omega arith))
         (vertex-run (at + 1) xs (numberAt s (at + 1) (t .vertices)) more (listed-number (at + 1) xs)
-        (λ v next g. listing-run left next (xs ++ v ∷ []) (Within (Listed t h o xs) v) g (let n = length-append xs (v ∷ []) in omega arith))))
+        (λ v next g. listing-run left next (xs ++ v ∷ []) (Within (Listed t h o k xs) v) g (let n = length-append xs (v ∷ []) in omega arith))))
         (list-end at xs σ f)
 
   -- Whole lines
@@ -328,24 +326,25 @@ module _ (s : List ℕ) (t : Table) where
   row-on σ τ at next (Holds e j) q r = q ∙ r
   row-on σ τ at next (Fails xs) q r = ap finish q ∙ r
 
-  row-listed : (h o at : ℕ) (σ : State) (L : Listing) → ListRuns h o σ at L → RowRuns σ at (onListing (record { 0 = h }) (record { 0 = o }) L)
-  row-listed h o at σ (Ends ys next) r = r
-  row-listed h o at σ (Breaks ys) r = r
+  row-listed : (h o k at : ℕ) (σ : State) (L : Listing) → ListRuns h o k σ at L → RowRuns σ at (onListing (record { 0 = h }) (record { 0 = o }) (record { 0 = k }) L)
+  row-listed h o k at σ (Ends ys next) r = r
+  row-listed h o k at σ (Breaks ys) r = r
 
-  row-own : (h at : ℕ) (F : FoundWeight) → OwnRuns h at F → RowRuns (First (Own t h)) at (onStem s (t .vertices) (mayList t) (onOwn h F))
-  row-own h at (weight.Own w next) r =
+  row-own : (σ : State) (h at : ℕ) (F : FoundWeight) → OwnRuns σ h at F → RowRuns σ at (onStem s (t .vertices) (mayList t) (onOwn h F))
+  row-own σ h at (weight.Own w k next) r =
       let L = listedFrom (mayList t) s (t .vertices) next [] in
-      row-on (First (Own t h)) (Within (Own t h) (w .0)) at next (onListing (record { 0 = h }) w L) (r .0)
-      (row-listed h (w .0) next (Within (Own t h) (w .0)) L (listing-run h (w .0) (mayList t) next [] (Within (Own t h) (w .0)) (r .1) (omega arith)))
-  row-own h at weight.NotAWeight r = r
+      let τ = Within (Own t h (k .0)) (w .0) in
+      row-on σ τ at next (onListing (record { 0 = h }) w k L) (r .0)
+      (row-listed h (w .0) (k .0) next τ L (listing-run h (w .0) (k .0) (mayList t) next [] τ (r .1) (omega arith)))
+  row-own σ h at weight.NotAWeight r = r
 
   row-head : (at : ℕ) (F : Found) → NumberRuns s (Head t) (First (Head t)) (drop at s) F → RowRuns (First (Head t)) at (onStem s (t .vertices) (mayList t) (onHead s F))
   row-head at (Number h a) r = row-on (First (Head t)) (Within (Head t) h) at a (onStem s (t .vertices) (mayList t) (onHead s (Number h a))) (r .0) behind
     where
-      space : ended (Head t) h 32 ≡ First (Own t h)
+      space : ended (Head t) h 32 ≡ First (Own t h standing)
       space = unfold ended in refl
 
-      spaced-own : getD s a 0 ≡ 32 → run (Within (Head t) h) (drop a s) ≡ run (First (Own t h)) (drop (a + 1) s)
+      spaced-own : getD s a 0 ≡ 32 → run (Within (Head t) h) (drop a s) ≡ run (First (Own t h standing)) (drop (a + 1) s)
       spaced-own e =
           run-step (Within (Head t) h) s a (byte-within s a 32 e (omega arith))
           ∙ ap (λ (σ : State). run σ (drop (a + 1) s)) (number-ended s (Head t) h a (r .1) ∙ ap (ended (Head t) h) e ∙ space)
@@ -355,8 +354,8 @@ module _ (s : List ℕ) (t : Table) where
 
       behind : RowRuns (Within (Head t) h) a (onStem s (t .vertices) (mayList t) (onHead s (Number h a)))
       behind = pick-by (λ (S : Stem). RowRuns (Within (Head t) h) a (onStem s (t .vertices) (mayList t) S)) (eqb (getD s a 0) 32)
-          (λ e. row-on (Within (Head t) h) (First (Own t h)) a (a + 1) (onStem s (t .vertices) (mayList t) (onOwn h (weightAt s (a + 1))))
-          (spaced-own (eqb-true _ _ e)) (row-own h (a + 1) (weightAt s (a + 1)) (own-run h (a + 1))))
+          (λ e. row-on (Within (Head t) h) (First (Own t h standing)) a (a + 1) (onStem s (t .vertices) (mayList t) (onOwn h (weightAt s (a + 1))))
+          (spaced-own (eqb-true _ _ e)) (row-own (First (Own t h standing)) h (a + 1) (weightAt s (a + 1)) (own-run h (a + 1))))
           unspaced
   row-head at NotANumber r = unfold lineAt in r
 

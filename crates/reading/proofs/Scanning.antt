@@ -11,6 +11,7 @@ use borrow.Author.Tests.{lt-ltb, le-ltb, eqb-true}
 use Rattle.weights.specs.declared.Measure.{Measure}
 use Rattle.weights.specs.declared.Vertex.{Vertex}
 use Rattle.weights.specs.declared.Weight.{Weight}
+use Rattle.weights.specs.declared.Mark.{Mark}
 use Rattle.weights.specs.Choice.{pick}
 use Rattle.columns.specs.Acceptance.{mostVertices, mostEdges, mostListed, longestTail}
 use Rattle.text.specs.Tables.{Edge, Table, listedInAll}
@@ -59,11 +60,11 @@ use Rattle.reading.specs.Lines.{
 
 module _ (s : List ℕ) where
   abbrev StemCounts : ℕ → Stem → Type 0
-  StemCounts at (stem.Read h o next) = (at < next) × (next ≤ length s)
+  StemCounts at (stem.Read h o k next) = (at < next) × (next ≤ length s)
   StemCounts at stem.Wrong = Unit {0}
 
   own-counts : (at h from : ℕ) (F : FoundWeight) → at < from → weightAt s from ≡ F → StemCounts at (onOwn h F)
-  own-counts at h from (weight.Own w next) l e = let r = weight-counts s from w next e in let a = r .1 in (omega arith, r .2)
+  own-counts at h from (weight.Own w k next) l e = let r = weight-counts s from w k next e in let a = r .2 in (omega arith, r .3)
   own-counts at h from weight.NotAWeight l e = tt
 
   head-counts : (n at : ℕ) (F : Found) → numberAt s at n ≡ F → StemCounts at (onHead s F)
@@ -102,12 +103,12 @@ module _ (s : List ℕ) where
   RowCounts at most (Holds e next) = (length (e .tail) ≤ most) × (at < next) × (next ≤ length s)
   RowCounts at most (Fails xs) = Unit {0}
 
-  listing-counts : (at from most : ℕ) (h : Vertex) (o : Weight) (L : Listing) → at < from → ListCounts from most L → RowCounts at most (onListing h o L)
-  listing-counts at from most h o (Ends xs next) l c = let a = c .1 in (c .0, omega arith, c .2)
-  listing-counts at from most h o (Breaks xs) l c = tt
+  listing-counts : (at from most : ℕ) (h : Vertex) (o : Weight) (k : Mark) (L : Listing) → at < from → ListCounts from most L → RowCounts at most (onListing h o k L)
+  listing-counts at from most h o k (Ends xs next) l c = let a = c .1 in (c .0, omega arith, c .2)
+  listing-counts at from most h o k (Breaks xs) l c = tt
 
   stem-row : (n at most : ℕ) (S : Stem) → StemCounts at S → RowCounts at most (onStem s n most S)
-  stem-row n at most (stem.Read h o from) c = listing-counts at from most h o (listedFrom most s n from []) (c .0) (list-counts most n from most [] (omega arith))
+  stem-row n at most (stem.Read h o k from) c = listing-counts at from most h o k (listedFrom most s n from []) (c .0) (list-counts most n from most [] (omega arith))
   stem-row n at most stem.Wrong c = tt
 
   row-count : (n most at : ℕ) → RowCounts at most (rowAt s n most at)
@@ -152,27 +153,14 @@ module _ (s : List ℕ) where
 
 -- What a line tells ----------------------------------------------------------------------------------------------------------------------------
 
-pub record Tells (R : Row) (h : Vertex) (o : Weight) (k next : ℕ) : Type 0 where
+pub record Tells (R : Row) (k next : ℕ) : Type 0 where
   pub edge-is : Edge
   pub row : R ≡ Holds edge-is next
-  pub head : h .0 ≡ edge-is .head
-  pub own : o .0 ≡ edge-is .own
   pub count : k ≡ length (edge-is .tail)
 
-pub tells : (R : Row) (h : Vertex) (o : Weight) (k next : ℕ) → line.Edge h o k next ≡ lineOf R → Tells R h o k next
-tells (Holds e j) h o k next q =
-    let a : next ≡ j = cc in
-    record {
-      edge-is =
-          e;
-      row =
-          ap (Holds e) (sym a);
-      head =
-          (let b : h ≡ record { 0 = e .head } = cc in ap (λ (v : Vertex). v .0) b);
-      own = (let b : o ≡ record { 0 = e .own } = cc in ap (λ (w : Weight). w .0) b);
-      count = cc;
-    }
-tells (Fails xs) h o k next q = absurd (let z : _≡_ {A = ℕ} 0 1 = cc in omega arith)
+pub tells : (R : Row) (h : Vertex) (o : Weight) (b : Mark) (k next : ℕ) → line.Edge h o b k next ≡ lineOf R → Tells R k next
+tells (Holds e j) h o b k next q = let a : next ≡ j = cc in record { edge-is = e; row = ap (Holds e) (sym a); count = cc }
+tells (Fails xs) h o b k next q = absurd (let z : _≡_ {A = ℕ} 0 1 = cc in omega arith)
 
 pub fails : (R : Row) → line.Wrong ≡ lineOf R → (xs : List ℕ) × (R ≡ Fails xs)
 fails (Holds e j) q = absurd (let z : _≡_ {A = ℕ} 0 1 = cc in omega arith)

@@ -8,6 +8,7 @@ use lib.ListN.{length, getD, drop}
 use lib.Dec.{ltb, eqb}
 use Rattle.weights.specs.declared.Vertex.{Vertex}
 use Rattle.weights.specs.declared.Weight.{Weight}
+use Rattle.weights.specs.declared.Mark.{Mark}
 use Rattle.weights.specs.Choice.{pick}
 use Rattle.refusal.specs.declared.Refusal.the-variants.{Text}
 use Rattle.refusal.specs.declared.Header.{Header}
@@ -52,14 +53,14 @@ firstLine s = pick (startsWith firstWord s) (onCount s (numberAt s (length first
 -- A line for a hyperedge ---------------------------------------------------------------------------------------------------------------------
 
 abbrev pub onOwn : ℕ → FoundWeight → Stem
-onOwn h (Own w next) = stem.Read (record { 0 = h }) w next
+onOwn h (Own w k next) = stem.Read (record { 0 = h }) w k next
 onOwn h NotAWeight = stem.Wrong
 
 abbrev pub onHead : List ℕ → Found → Stem
 onHead s (Number h at) = pick (eqb (getD s at 0) 32) (onOwn h (weightAt s (at + 1))) stem.Wrong
 onHead s NotANumber = stem.Wrong
 
--- head, single space, own figure
+-- head, single space, own figure with its mark
 unfoldable pub stemAt : List ℕ → (n at : ℕ) → Stem
 stemAt s n at = onHead s (numberAt s at n)
 
@@ -95,12 +96,12 @@ pub data Row : Type 0 where
   Holds : Edge → (next : ℕ) → Row
   Fails : List ℕ → Row
 
-abbrev pub onListing : Vertex → Weight → Listing → Row
-onListing h o (Ends xs next) = Holds (edge (h .0) (o .0) xs) next
-onListing h o (Breaks xs) = Fails xs
+abbrev pub onListing : Vertex → Weight → Mark → Listing → Row
+onListing h o k (Ends xs next) = Holds (edge (h .0) (o .0) (k .0) xs) next
+onListing h o k (Breaks xs) = Fails xs
 
 abbrev pub onStem : List ℕ → (n most : ℕ) → Stem → Row
-onStem s n most (stem.Read h o at) = onListing h o (listedFrom most s n at [])
+onStem s n most (stem.Read h o k at) = onListing h o k (listedFrom most s n at [])
 onStem s n most stem.Wrong = Fails []
 
 -- the line at a place, of at most so many listed parts
@@ -112,7 +113,7 @@ stored (Holds e next) = e .tail
 stored (Fails xs) = xs
 
 abbrev pub lineOf : Row → Line
-lineOf (Holds e next) = line.Edge (record { 0 = e .head }) (record { 0 = e .own }) (length (e .tail)) next
+lineOf (Holds e next) = line.Edge (record { 0 = e .head }) (record { 0 = e .own }) (record { 0 = e .mark }) (length (e .tail)) next
 lineOf (Fails xs) = line.Wrong
 
 -- the outcome of reading a list, and a line: the answer, and the room with the listed parts from its start

@@ -14,6 +14,7 @@ use refusal::TextLine;
 use text::WORD;
 use text::default_measure;
 use text::named_measure;
+use weights::Mark;
 use weights::Measure;
 use weights::Vertex;
 use weights::Weight;
@@ -30,9 +31,9 @@ pub enum FirstLine {
     Wrong,
 }
 
-// A hyperedge's head and own weight, and the place behind them.
+// A hyperedge's head, own weight and strike mark, and the place behind them.
 pub enum Stem {
-    Read(Vertex, Weight, usize),
+    Read(Vertex, Weight, Mark, usize),
     Wrong,
 }
 
@@ -42,9 +43,10 @@ pub enum Tail {
     Wrong,
 }
 
-// A whole line: head, own weight, how many vertices it lists, and the place of the next line.
+// A whole line: head, own weight, strike mark, how many vertices it lists, and the place of the next
+// line.
 pub enum Line {
-    Edge(Vertex, Weight, usize, usize),
+    Edge(Vertex, Weight, Mark, usize, usize),
     Wrong,
 }
 
@@ -99,10 +101,10 @@ pub fn stem_at(text: &[u8], at: usize, n: u64) -> Stem
     }
     let from = a + 1;
     let weight = weight_at(text, from);
-    let FoundWeight::Own(own, next) = weight else {
+    let FoundWeight::Own(own, mark, next) = weight else {
         return Stem::Wrong;
     };
-    Stem::Read(Vertex(head), own, next)
+    Stem::Read(Vertex(head), own, mark, next)
 }
 
 // The vertices listed from a place on, each behind a space, are stored from the room's start. There
@@ -140,14 +142,14 @@ pub fn line_at(text: &[u8], at: usize, n: u64, most: usize, room: &mut [u64]) ->
     ensures { λ r. ⌜ ReadsLine (rowAt (now (text .entry)) n (min most (length (now (room .entry)))) at) (now (room .entry)) r (now (room .exit)) ⌝ }
 {
     let stem = stem_at(text, at, n);
-    let Stem::Read(head, own, a) = stem else {
+    let Stem::Read(head, own, mark, a) = stem else {
         return Line::Wrong;
     };
     let tail = tail_at(text, a, n, most, room);
     let Tail::Ends(listed, next) = tail else {
         return Line::Wrong;
     };
-    Line::Edge(head, own, listed, next)
+    Line::Edge(head, own, mark, listed, next)
 }
 
 fn wrong(line: TextLine) -> Reading
@@ -177,7 +179,7 @@ pub fn check_text(text: &[u8]) -> Reading
         }
         let most = MOST_LISTED - listed;
         let line = line_at(text, at, n, most, &mut room);
-        let Line::Edge(_, _, count, next) = line else {
+        let Line::Edge(_, _, _, count, next) = line else {
             return wrong(here);
         };
         edges += 1;

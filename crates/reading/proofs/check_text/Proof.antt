@@ -54,14 +54,14 @@ next-line : (c : tie.After-known-told2 Inv-loop μ-loop) →
     let e = c .before .before .before .before .before .before in
     let l = e .before .before in
     let f = l .before .before .first .given in
-    (l .loop .at < c .before .line .given .0 .1 .1 .1 .0) × (c .before .line .given .0 .1 .1 .0 ≤ 16384 - l .loop .listed)
-    × Scanning (l .before .before .before .before .before .before .args .text .now) (f .0 .0) (f .0 .1 .0) (c .before .line .given .0 .1 .1 .1 .0)
-    (l .loop .edges + 1) (l .loop .listed + c .before .line .given .0 .1 .1 .0)
+    let r = c .before .line .given .0 .1 .1 .1 in
+    (l .loop .at < r .1 .0) × (r .0 ≤ 16384 - l .loop .listed)
+    × Scanning (l .before .before .before .before .before .before .args .text .now) (f .0 .0) (f .0 .1 .0) (r .1 .0) (l .loop .edges + 1) (l .loop .listed + r .0)
 next-line c =
     let a = c .before .before .before .before in
     let e = a .before .before in
     let l = e .before .before in
-    line-next _ _ _ _ _ _ (l .loop .inv .1) (e .before .loop-test .taken) (e .if1 .left) _ (l .loop .inv .0) _ (a .line-at .ensures .answer) _ _ _ _ (c .before .line .given .1)
+    line-next _ _ _ _ _ _ (l .loop .inv .1) (e .before .loop-test .taken) (e .if1 .left) _ (l .loop .inv .0) _ (a .line-at .ensures .answer) _ _ _ _ _ (c .before .line .given .1)
 
 add-edges : tie.Need-add-edges Inv-loop μ-loop
 add-edges c = let f = next-line c .2 .few in omega arith

@@ -14,17 +14,18 @@ enum-told c = search needs
 returns : tie.Need-returns
 returns c = line-unstemmed _ _ _ _ _ (sym (c .before .before .stem-at .ensures) ∙ c .enum-told .given .1)
 
--- the head and the own weight that were read
+-- the head, the own weight and the mark that were read
 stemmed : (c : tie.After-known-told) → let a = c .before .before .before .before .before .before .args in
-    stemAt (a .text .now) (a .n) (a .at) ≡ stem.Read (c .before .stem .given .0 .0) (c .before .stem .given .0 .1 .0) (c .before .stem .given .0 .1 .1 .0)
+    let r = c .before .stem .given .0 in
+    stemAt (a .text .now) (a .n) (a .at) ≡ stem.Read (r .0) (r .1 .0) (r .1 .1 .0) (r .1 .1 .1 .0)
 stemmed c = sym (c .before .before .before .stem-at .ensures) ∙ c .before .stem .given .1
 
 returns-2 : tie.Need-returns-2
-returns-2 c = let t = c .before .before .before .before in line-listed _ _ _ _ _ _ _ _ _ tail.Wrong (stemmed (t .before .before)) (rw (c .enum-told2 .given .1) at (t .tail-at .ensures))
+returns-2 c = let t = c .before .before .before .before in line-listed _ _ _ _ _ _ _ _ _ _ tail.Wrong (stemmed (t .before .before)) (rw (c .enum-told2 .given .1) at (t .tail-at .ensures))
 
 returns-3 : tie.Need-returns-3
 returns-3 c = let t = c .before .before .before .before .before in
-    line-listed _ _ _ _ _ _ _ _ _ (tail.Ends (c .before .tail .given .0 .0) (c .before .tail .given .0 .1 .0)) (stemmed (t .before .before))
+    line-listed _ _ _ _ _ _ _ _ _ _ (tail.Ends (c .before .tail .given .0 .0) (c .before .tail .given .0 .1 .0)) (stemmed (t .before .before))
     (rw (c .before .tail .given .1) at (t .tail-at .ensures))
 
 pub line-at-spec : {M : Type 1} → statement M
