@@ -12,6 +12,7 @@ use borrow.Author.Tests.{lt-ltb, le-ltb, le-leb, lt-leb, eq-eqb, ne-eqb, ltb-tru
 use Rattle.weights.specs.declared.Measure.{Measure}
 use Rattle.weights.specs.declared.Vertex.{Vertex}
 use Rattle.weights.specs.declared.Weight.{Weight}
+use Rattle.weights.specs.declared.Mark.{Mark}
 use Rattle.weights.specs.Choice.{pick}
 use Rattle.refusal.specs.declared.Refusal.{Refusal}
 use Rattle.refusal.specs.declared.Refusal.the-variants.{TextRoom}
@@ -19,9 +20,9 @@ use Rattle.refusal.specs.declared.Header.{Header}
 use Rattle.refusal.specs.declared.Reading.{Reading}
 use Rattle.refusal.specs.declared.Reading.the-variants as reading
 use Rattle.columns.specs.Acceptance.{mostEdges, mostListed, longestTail}
-use Rattle.text.specs.Tables.{Edge, edge, Table, listedInAll, headsOf, ownsOf, spansFrom, tailsOf}
+use Rattle.text.specs.Tables.{Edge, edge, Table, listedInAll, eachOf, headsOf, ownsOf, marksOf, spansFrom, tailsOf}
 use Rattle.text.specs.Machine.{withEdge, mayList, Parse, Whole, Wrong, parse}
-use Rattle.text.proofs.Rows.{total-snoc, heads-append, owns-append, spans-append, tails-append, length-heads, length-owns, length-spans, length-tails}
+use Rattle.text.proofs.Rows.{total-snoc, each-append, spans-append, tails-append, length-each, length-spans, length-tails}
 use Rattle.text.proofs.Sound.{never}
 use Rattle.columns.specs.Filled.{filled}
 use Rattle.columns.proofs.Filled.{filled-none, filled-set, filled-part, length-filled, part-whole, part-back}
@@ -56,7 +57,7 @@ use Rattle.reading.specs.Lines.{
   readingOf,
 }
 use Rattle.reading.proofs.Scanned.{scan-is-parse}
-use Rattle.reading.proofs.Scanning.{row-counts, tells, Scanning, scan-full, scan-end, scan-fails, scan-next, scan-next-edges}
+use Rattle.reading.proofs.Scanning.{row-counts, Scanning, scan-full, scan-end, scan-fails, scan-next, scan-next-edges}
 use Rattle.readtable.specs.Read.{readOutcome, roomFor, readInto, readTable, edgesIn, Roomy, Fills}
 
 -- a test of a definition, from the fact that a branch gives: `search tests` at a return
@@ -146,15 +147,16 @@ module _ (s : List ℕ) (n : ℕ) where
   unfolding rowAt
   row-enough most most′ at x next e l = stemmed (stemAt s n at) e
     where
-      listed : (h : Vertex) (o : Weight) (from : ℕ) (L : Listing) → listedFrom most s n from [] ≡ L → onListing h o L ≡ Holds x next → onListing h o (listedFrom most′ s n from []) ≡ Holds x next
-      listed h o from (Ends xs j) p q =
-          let r : edge (h .0) (o .0) xs ≡ x = cc in
+      listed : (h : Vertex) (o : Weight) (b : Mark) (from : ℕ) (L : Listing) → listedFrom most s n from [] ≡ L → onListing h o b L ≡ Holds x next
+          → onListing h o b (listedFrom most′ s n from []) ≡ Holds x next
+      listed h o b from (Ends xs j) p q =
+          let r : edge (h .0) (o .0) (b .0) xs ≡ x = cc in
           let z : length xs ≡ length (x .tail) = ap (λ (y : Edge). length (y .tail)) r in
-          ap (onListing h o) (enough most most′ from [] xs j p (omega arith)) ∙ q
-      listed h o from (Breaks xs) p q = absurd (no-row q)
+          ap (onListing h o b) (enough most most′ from [] xs j p (omega arith)) ∙ q
+      listed h o b from (Breaks xs) p q = absurd (no-row q)
 
       stemmed : (S : Stem) → onStem s n most S ≡ Holds x next → onStem s n most′ S ≡ Holds x next
-      stemmed (stem.Read h o from) q = listed h o from (listedFrom most s n from []) refl q
+      stemmed (stem.Read h o b from) q = listed h o b from (listedFrom most s n from []) refl q
       stemmed stem.Wrong q = absurd (no-row q)
 
 -- The lines still to come ------------------------------------------------------------------------------------------------------------------
@@ -249,13 +251,9 @@ module _ (s : List ℕ) (n : ℕ) (m : Measure) (at i k : ℕ) (u : Table) (g : 
 -- Columns of one hyperedge more ------------------------------------------------------------------------------------------------------------
 
 module _ (es : List Edge) (e : Edge) (old : List ℕ) (i : ℕ) (c : length es ≡ i) where
-  heads-more : i < length old → set (filled (headsOf es) old) i (e .head) ≡ filled (headsOf (es ++ e ∷ [])) old
-  unfolding headsOf
-  heads-more l = filled-set (headsOf es) old i (e .head) (length-heads es ∙ c) l ∙ ap (λ (z : List ℕ). filled z old) (sym (heads-append es (e ∷ [])))
-
-  owns-more : i < length old → set (filled (ownsOf es) old) i (e .own) ≡ filled (ownsOf (es ++ e ∷ [])) old
-  unfolding ownsOf
-  owns-more l = filled-set (ownsOf es) old i (e .own) (length-owns es ∙ c) l ∙ ap (λ (z : List ℕ). filled z old) (sym (owns-append es (e ∷ [])))
+  each-more : (f : Edge → ℕ) → i < length old → set (filled (eachOf f es) old) i (f e) ≡ filled (eachOf f (es ++ e ∷ [])) old
+  unfolding eachOf
+  each-more f l = filled-set (eachOf f es) old i (f e) (length-each f es ∙ c) l ∙ ap (λ (z : List ℕ). filled z old) (sym (each-append f es (e ∷ [])))
 
   spans-more : (k : ℕ) → listedInAll es ≡ k → 2 * i + 1 < length old → set (set (filled (spansFrom 0 es) old) (2 * i) k) (2 * i + 1) (length (e .tail)) ≡ filled (spansFrom 0 (es ++ e ∷ [])) old
   unfolding spansFrom
@@ -276,23 +274,31 @@ tails-more es e old k t =
     ∙ ap (λ (z : List ℕ). filled z old) (ap (λ (z : List ℕ). tailsOf es ++ z) (sym (append-nil (e .tail))) ∙ sym (tails-append es (e ∷ [])))
 
 -- i hyperedges and k vertices are in the columns
-pub record Filling (s : List ℕ) (n : ℕ) (h₀ o₀ s₀ t₀ h o sp t : List ℕ) (at i k : ℕ) : Type 0 where
+pub record Filling (s : List ℕ) (n : ℕ) (h₀ o₀ ms₀ s₀ t₀ h o ms sp t : List ℕ) (at i k : ℕ) : Type 0 where
   pub measure : Measure
   pub scanning : Scanning s n measure at i k
-  pub fills : Fills (scanning .so-far .edges) h₀ o₀ s₀ t₀ h o sp t
+  pub fills : Fills (scanning .so-far .edges) h₀ o₀ ms₀ s₀ t₀ h o ms sp t
   pub heads-long : length h ≡ length h₀
   pub own-long : length o ≡ length o₀
+  pub strikes-long : length ms ≡ length ms₀
   pub spans-long : length sp ≡ length s₀
   pub tails-long : length t ≡ length t₀
 
-pub filling-none : (s : List ℕ) (n : ℕ) (m : Measure) (at : ℕ) (g : Scanning s n m at 0 0) (h o sp t : List ℕ) → g .so-far .edges ≡ [] → Filling s n h o sp t h o sp t at 0 0
-unfolding headsOf ownsOf spansFrom tailsOf
-filling-none s n m at g h o sp t e = record {
+pub filling-none : (s : List ℕ) (n : ℕ) (m : Measure) (at : ℕ) (g : Scanning s n m at 0 0) (h o ms sp t : List ℕ) → g .so-far .edges ≡ [] → Filling s n h o ms sp t h o ms sp t at 0 0
+unfolding eachOf spansFrom tailsOf
+filling-none s n m at g h o ms sp t e = record {
   measure = m;
   scanning = g;
-  fills = record { heads = none headsOf h refl; own = none ownsOf o refl; spans = none (spansFrom 0) sp refl; tails = none tailsOf t refl };
+  fills = record {
+    heads = none headsOf h refl;
+    own = none ownsOf o refl;
+    strikes = none marksOf ms refl;
+    spans = none (spansFrom 0) sp refl;
+    tails = none tailsOf t refl;
+  };
   heads-long = refl;
   own-long = refl;
+  strikes-long = refl;
   spans-long = refl;
   tails-long = refl;
 }
@@ -302,24 +308,26 @@ filling-none s n m at g h o sp t e = record {
 
 -- Another line ------------------------------------------------------------------------------------------------------------------------------
 
-module _ (s : List ℕ) (n : ℕ) (h₀ o₀ s₀ t₀ h o sp t : List ℕ) (at i k : ℕ) (f : Filling s n h₀ o₀ s₀ t₀ h o sp t at i k)
-    (y : Roomy s (length h₀) (length o₀) (length s₀) (length t₀)) (lt : at < length s) where
+module _ (s : List ℕ) (n : ℕ) (h₀ o₀ ms₀ s₀ t₀ h o ms sp t : List ℕ) (at i k : ℕ) (f : Filling s n h₀ o₀ ms₀ s₀ t₀ h o ms sp t at i k)
+    (y : Roomy s (length h₀) (length o₀) (length ms₀) (length s₀) (length t₀)) (lt : at < length s) where
   pub here : LineHere s n (f .measure) at i k (y .table) (f .scanning)
   here = line-here s n (f .measure) at i k (y .table) (f .scanning) (scan-is-parse s ∙ y .whole) lt
 
   pub tails-room : k + length (here .this .tail) ≤ length t
   tails-room = let a = here .listed-left in let b = y .tails in let c = f .tails-long in omega arith
 
-  pub edge-room : (i < length h) × (i < length o) × (2 * i + 1 < length sp)
+  pub edge-room : (i < length h) × (i < length o) × (i < length ms) × (2 * i + 1 < length sp)
   edge-room =
       let a = here .edges-left in
       let b = f .heads-long in
       let c = f .own-long in
+      let m = f .strikes-long in
       let d = f .spans-long in
       let p = y .heads in
       let q = y .own in
+      let z = y .strikes in
       let r = y .spans in
-      (omega arith, omega arith, omega arith)
+      (omega arith, omega arith, omega arith, omega arith)
 
   -- what the column lends for the line's vertices
   abbrev lent : List ℕ
@@ -336,7 +344,7 @@ module _ (s : List ℕ) (n : ℕ) (h₀ o₀ s₀ t₀ h o sp t : List ℕ) (at 
       row-enough s n (min (mostListed - k) longestTail) (min longestTail (length lent)) at (here .this) (here .next) (here .row) (omega arith)
 
   -- the hyperedge in the columns
-  one-filled : Filling s n h₀ o₀ s₀ t₀ (set h i (here .this .head)) (set o i (here .this .own))
+  one-filled : Filling s n h₀ o₀ ms₀ s₀ t₀ (set h i (here .this .head)) (set o i (here .this .own)) (set ms i (here .this .mark))
       (set (set sp (2 * i) k) (2 * i + 1) (length (here .this .tail))) (take k t ++ filled (here .this .tail) (drop k t)) (here .next) (i + 1)
       (k + length (here .this .tail))
   one-filled =
@@ -346,17 +354,20 @@ module _ (s : List ℕ) (n : ℕ) (h₀ o₀ s₀ t₀ h o sp t : List ℕ) (at 
       let b = edge-room in
       let hl = f .heads-long in
       let ol = f .own-long in
+      let ml = f .strikes-long in
       let sl = f .spans-long in
       let q = sym (here .so-far) in
       let b0 = b .0 in
       let b1 = b .1 in
       let b2 = b .2 in
+      let b3 = b .3 in
       record {
         measure = f .measure;
         scanning = here .then;
         fills = record {
-          heads = ap (λ (z : List ℕ). set z i (e .head)) (f .fills .heads) ∙ heads-more es e h₀ i c (omega arith) ∙ ap (λ (fs : List Edge). filled (headsOf fs) h₀) q;
-          own = ap (λ (z : List ℕ). set z i (e .own)) (f .fills .own) ∙ owns-more es e o₀ i c (omega arith) ∙ ap (λ (fs : List Edge). filled (ownsOf fs) o₀) q;
+          heads = ap (λ (z : List ℕ). set z i (e .head)) (f .fills .heads) ∙ each-more es e h₀ i c (λ x. x .head) (omega arith) ∙ ap (λ (fs : List Edge). filled (headsOf fs) h₀) q;
+          own = ap (λ (z : List ℕ). set z i (e .own)) (f .fills .own) ∙ each-more es e o₀ i c (λ x. x .own) (omega arith) ∙ ap (λ (fs : List Edge). filled (ownsOf fs) o₀) q;
+          strikes = ap (λ (z : List ℕ). set z i (e .mark)) (f .fills .strikes) ∙ each-more es e ms₀ i c (λ x. x .mark) (omega arith) ∙ ap (λ (fs : List Edge). filled (marksOf fs) ms₀) q;
           spans =
               ap (λ (z : List ℕ). set (set z (2 * i) k) (2 * i + 1) (length (e .tail))) (f .fills .spans)
               ∙ spans-more es e s₀ i c k (f .scanning .summed) (omega arith) ∙ ap (λ (fs : List Edge). filled (spansFrom 0 fs) s₀) q;
@@ -364,6 +375,7 @@ module _ (s : List ℕ) (n : ℕ) (h₀ o₀ s₀ t₀ h o sp t : List ℕ) (at 
         };
         heads-long = length-set h i (e .head) ∙ f .heads-long;
         own-long = length-set o i (e .own) ∙ f .own-long;
+        strikes-long = length-set ms i (e .mark) ∙ f .strikes-long;
         spans-long = length-set (set sp (2 * i) k) (2 * i + 1) (length (e .tail)) ∙ length-set sp (2 * i) k ∙ f .spans-long;
         tails-long = lent-back ∙ f .tails-long;
       }
@@ -393,40 +405,27 @@ module _ (s : List ℕ) (n : ℕ) (h₀ o₀ s₀ t₀ h o sp t : List ℕ) (at 
         part-back t new k
         ∙ ap (λ (z : List ℕ). take k t ++ z) (g .room ∙ ap₂ (λ (R : Row) (z : List ℕ). filled (stored R) z) this-row (part-whole t k))
 
-    pub filling-next : (v : Vertex) (w : Weight) (c next : ℕ) → r ≡ line.Edge v w c next
-        → (at < next) × Filling s n h₀ o₀ s₀ t₀ (set h i (v .0)) (set o i (w .0)) (set (set sp (2 * i) k) (2 * i + 1) c) (take k t ++ (new ++ drop (length t - k) (drop k t))) next (i + 1) (k + c)
-    filling-next v w c next q =
-        let l = tells (Holds (here .this) (here .next)) v w c next (sym q ∙ this-line) in
-        let e : here .next ≡ next = let z = l .row in cc in
-        let x : l .edge-is ≡ here .this = let z = l .row in cc in
-        let d : length (here .this .tail) ≡ c = sym (l .count ∙ ap (λ (u : Edge). length (u .tail)) x) in
-        let a : here .this .head ≡ v .0 = sym (l .head ∙ ap (λ (u : Edge). u .head) x) in
-        let b : here .this .own ≡ w .0 = sym (l .own ∙ ap (λ (u : Edge). u .own) x) in
-        let later = here .later in
-        let T = take k t ++ (new ++ drop (length t - k) (drop k t)) in
-        let z1 =
-        subst
-        (λ (u : List ℕ). Filling s n h₀ o₀ s₀ t₀ (set h i (here .this .head)) (set o i (here .this .own))
-        (set (set sp (2 * i) k) (2 * i + 1) (length (here .this .tail))) u (here .next) (i + 1) (k + length (here .this .tail)))
+    -- what holds behind the line that was read
+    abbrev pub Behind : Line → Type 0
+    Behind (line.Edge v w m c next) = (at < next) × Filling s n h₀ o₀ ms₀ s₀ t₀ (set h i (v .0)) (set o i (w .0)) (set ms i (m .0)) (set (set sp (2 * i) k) (2 * i + 1) c)
+        (take k t ++ (new ++ drop (length t - k) (drop k t))) next (i + 1) (k + c)
+    Behind line.Wrong = Unit {0}
+
+    pub filling-next : (v : Vertex) (w : Weight) (m : Mark) (c next : ℕ) → r ≡ line.Edge v w m c next → Behind (line.Edge v w m c next)
+    filling-next v w m c next q =
+        let e = here .this in
+        let x = set (set sp (2 * i) k) (2 * i + 1) (length (e .tail)) in
+        let columned =
+        subst (λ (u : List ℕ). Filling s n h₀ o₀ ms₀ s₀ t₀ (set h i (e .head)) (set o i (e .own)) (set ms i (e .mark)) x u (here .next) (i + 1) (k + length (e .tail)))
         (sym tails-are) one-filled in
-        let z2 =
-        subst
-        (λ (j : ℕ). Filling s n h₀ o₀ s₀ t₀ (set h i j) (set o i (here .this .own))
-        (set (set sp (2 * i) k) (2 * i + 1) (length (here .this .tail))) T (here .next) (i + 1) (k + length (here .this .tail)))
-        a z1 in
-        let z3 =
-        subst
-        (λ (j : ℕ). Filling s n h₀ o₀ s₀ t₀ (set h i (v .0)) (set o i j) (set (set sp (2 * i) k) (2 * i + 1) (length (here .this .tail))) T
-        (here .next) (i + 1) (k + length (here .this .tail)))
-        b z2 in
-        let z4 = subst (λ (j : ℕ). Filling s n h₀ o₀ s₀ t₀ (set h i (v .0)) (set o i (w .0)) (set (set sp (2 * i) k) (2 * i + 1) j) T (here .next) (i + 1) (k + j)) d z3 in
-        (omega arith, subst (λ (j : ℕ). Filling s n h₀ o₀ s₀ t₀ (set h i (v .0)) (set o i (w .0)) (set (set sp (2 * i) k) (2 * i + 1) c) T j (i + 1) (k + c)) e z4)
+        subst Behind (sym this-line ∙ q) (here .later, columned)
 
 -- all lines are in the columns
-pub filling-end : (s : List ℕ) (n : ℕ) (h₀ o₀ s₀ t₀ h o sp t : List ℕ) (at i k : ℕ) → Filling s n h₀ o₀ s₀ t₀ h o sp t at i k → length s ≤ at → Fills (edgesIn (parse s)) h₀ o₀ s₀ t₀ h o sp t
-filling-end s n h₀ o₀ s₀ t₀ h o sp t at i k f l =
+pub filling-end : (s : List ℕ) (n : ℕ) (h₀ o₀ ms₀ s₀ t₀ h o ms sp t : List ℕ) (at i k : ℕ) → Filling s n h₀ o₀ ms₀ s₀ t₀ h o ms sp t at i k → length s ≤ at
+    → Fills (edgesIn (parse s)) h₀ o₀ ms₀ s₀ t₀ h o ms sp t
+filling-end s n h₀ o₀ ms₀ s₀ t₀ h o ms sp t at i k f l =
     let q : edgesIn (Whole (f .scanning .so-far)) ≡ edgesIn (parse s) = ap edgesIn (sym (scan-end s n (f .measure) at i k (f .scanning) l) ∙ scan-is-parse s) in
-    subst (λ (es : List Edge). Fills es h₀ o₀ s₀ t₀ h o sp t) q (f .fills)
+    subst (λ (es : List Edge). Fills es h₀ o₀ ms₀ s₀ t₀ h o ms sp t) q (f .fills)
 
 -- The call ------------------------------------------------------------------------------------------------------------------------------------
 
@@ -434,13 +433,13 @@ no-table : {x : Refusal} {header : Header} → reading.Refused x ≡ reading.Tab
 no-table {x} {header} e = let z : _≡_ {A = ℕ} 0 1 = cc in omega arith
 
 -- the text is refused by 14
-pub read-wrong : (s : List ℕ) (r : Reading) (x : Refusal) (h o sp t : List ℕ) → r ≡ readingOf (parse s) → r ≡ reading.Refused x → readOutcome r h o sp t ≡ readTable s h o sp t
+pub read-wrong : (s : List ℕ) (r : Reading) (x : Refusal) (h o ms sp t : List ℕ) → r ≡ readingOf (parse s) → r ≡ reading.Refused x → readOutcome r h o ms sp t ≡ readTable s h o ms sp t
 unfolding readInto
-read-wrong s r x h o sp t e q = go (parse s) e
+read-wrong s r x h o ms sp t e q = go (parse s) e
   where
-    go : (P : Parse) → r ≡ readingOf P → readOutcome r h o sp t ≡ readInto P h o sp t
+    go : (P : Parse) → r ≡ readingOf P → readOutcome r h o ms sp t ≡ readInto P h o ms sp t
     go (Whole u) p = absurd (no-table (sym q ∙ p))
-    go (Wrong l) p = ap (λ (z : Reading). readOutcome z h o sp t) p
+    go (Wrong l) p = ap (λ (z : Reading). readOutcome z h o ms sp t) p
 
 -- the text is that of a table
 pub record Holding (s : List ℕ) (header : Header) : Type 0 where
@@ -459,35 +458,34 @@ both : (a b : Bool) → pick a b false ≡ true → (a ≡ true) × (b ≡ true)
 both true b e = (refl, e)
 both false b e = let z : false ≡ true = e in (z, (cc))
 
-module _ (s : List ℕ) (header : Header) (g : Holding s header) (h o sp t : List ℕ) where
-  roomed : (b : Bool) → b ≡ roomFor header (length h) (length o) (length sp) (length t) → roomFor (headerOf (g .table)) (length h) (length o) (length sp) (length t) ≡ b
-  roomed b e = ap (λ (z : Header). roomFor z (length h) (length o) (length sp) (length t)) (sym (g .header-is)) ∙ sym e
+module _ (s : List ℕ) (header : Header) (g : Holding s header) (h o ms sp t : List ℕ) where
+  roomed : (b : Bool) → b ≡ roomFor header (length h) (length o) (length ms) (length sp) (length t) → roomFor (headerOf (g .table)) (length h) (length o) (length ms) (length sp) (length t) ≡ b
+  roomed b e = ap (λ (z : Header). roomFor z (length h) (length o) (length ms) (length sp) (length t)) (sym (g .header-is)) ∙ sym e
 
   -- a column is too short: 15
-  pub read-short : false ≡ roomFor header (length h) (length o) (length sp) (length t) → readOutcome (reading.Refused TextRoom) h o sp t ≡ readTable s h o sp t
+  pub read-short : false ≡ roomFor header (length h) (length o) (length ms) (length sp) (length t) → readOutcome (reading.Refused TextRoom) h o ms sp t ≡ readTable s h o ms sp t
   unfolding readInto
   read-short e = rw (g .whole, roomed false e)
 
-  pub read-ready : true ≡ roomFor header (length h) (length o) (length sp) (length t) → Roomy s (length h) (length o) (length sp) (length t)
+  pub read-ready : true ≡ roomFor header (length h) (length o) (length ms) (length sp) (length t) → Roomy s (length h) (length o) (length ms) (length sp) (length t)
   unfolding roomFor
   read-ready e =
       let a = both _ _ (roomed true e) in
       let b = both _ _ (a .1) in
       let c = both _ _ (b .1) in
-      record { table = g .table; whole = g .whole; heads = leb-true _ _ (a .0); own = leb-true _ _ (b .0); spans = leb-true _ _ (c .0); tails = leb-true _ _ (c .1) }
+      let d = both _ _ (c .1) in
+      record {
+        table = g .table;
+        whole = g .whole;
+        heads = leb-true _ _ (a .0);
+        own = leb-true _ _ (b .0);
+        strikes = leb-true _ _ (c .0);
+        spans = leb-true _ _ (d .0);
+        tails = leb-true _ _ (d .1);
+      }
 
   -- the table is in the columns
-  pub read-whole : (h′ o′ sp′ t′ : List ℕ) → true ≡ roomFor header (length h) (length o) (length sp) (length t) → Fills (edgesIn (parse s)) h o sp t h′ o′ sp′ t′
-      → (r : Reading) → r ≡ readingOf (parse s) → readOutcome r h′ o′ sp′ t′ ≡ readTable s h o sp t
+  pub read-whole : (h′ o′ ms′ sp′ t′ : List ℕ) → true ≡ roomFor header (length h) (length o) (length ms) (length sp) (length t)
+      → Fills (edgesIn (parse s)) h o ms sp t h′ o′ ms′ sp′ t′ → (r : Reading) → r ≡ readingOf (parse s) → readOutcome r h′ o′ ms′ sp′ t′ ≡ readTable s h o ms sp t
   unfolding readInto
-  read-whole h′ o′ sp′ t′ e f r q =
-      let w = g .whole in
-      let es = ap edgesIn w in
-      ap₂ (λ (a : Reading) (b : List ℕ). readOutcome a b o′ sp′ t′) (q ∙ ap readingOf w) (f .heads ∙ ap (λ (z : List Edge). filled (headsOf z) h) es)
-      ∙ ap₂ (λ (a b : List ℕ). readOutcome (readingOf (Whole (g .table))) (filled (headsOf (g .table .edges)) h) a b t′)
-      (f .own ∙ ap (λ (z : List Edge). filled (ownsOf z) o) es) (f .spans ∙ ap (λ (z : List Edge). filled (spansFrom 0 z) sp) es)
-      ∙ ap
-      (λ (a : List ℕ). readOutcome (readingOf (Whole (g .table))) (filled (headsOf (g .table .edges)) h) (filled (ownsOf (g .table .edges)) o)
-      (filled (spansFrom 0 (g .table .edges)) sp) a)
-      (f .tails ∙ ap (λ (z : List Edge). filled (tailsOf z) t) es)
-      ∙ rw (w, roomed true e)
+  read-whole h′ o′ ms′ sp′ t′ e f r q = rw (f .heads, f .own, f .strikes, f .spans, f .tails, q, g .whole, roomed true e)

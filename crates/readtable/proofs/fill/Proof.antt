@@ -12,10 +12,10 @@ use Rattle.readtable.proofs.fill.Statement.{statement}
 use Rattle.readtable.proofs.fill.Tie as tie
 
 abbrev Inv-loop : tie.InvT-loop
-Inv-loop text heads₀ own₀ spans₀ tails₀ n start at₀ i₀ k₀ heads own spans tails at i k = Filling text n heads₀ own₀ spans₀ tails₀ heads own spans tails at i k
+Inv-loop text heads₀ own₀ strikes₀ spans₀ tails₀ n start at₀ i₀ k₀ heads own strikes spans tails at i k = Filling text n heads₀ own₀ strikes₀ spans₀ tails₀ heads own strikes spans tails at i k
 
 abbrev μ-loop : tie.MeasureT-loop
-μ-loop text heads₀ own₀ spans₀ tails₀ n start at₀ i₀ k₀ heads own spans tails at i k = length text - at
+μ-loop text heads₀ own₀ strikes₀ spans₀ tails₀ n start at₀ i₀ k₀ heads own strikes spans tails at i k = length text - at
 
 enum-told : tie.Need-enum-told Inv-loop μ-loop
 enum-told c = search needs
@@ -23,34 +23,40 @@ enum-told c = search needs
 -- the first line is right
 returns : tie.Need-returns Inv-loop μ-loop
 returns c =
-    let b = c .before .before .before .before .before .before .before .before in
+    let b = c .before .before .before .before .before .before .before .before .before in
     absurd (never (sym (scan-unopened (b .args .text .now) (sym (c .before .before .first-line .ensures) ∙ c .enum-told .given .1)) ∙ scan-is-parse (b .args .text .now) ∙ b .pre .whole))
 
 loop-holds : tie.Need-loop-holds Inv-loop μ-loop
 loop-holds c =
     let e = sym (c .before .before .before .first-line .ensures) ∙ c .before .first .given .1 in
-    filling-none _ _ _ _ (scan-begun _ _ _ _ e) _ _ _ _ (scan-begun-edges _ _ _ _ e)
+    filling-none _ _ _ _ (scan-begun _ _ _ _ e) _ _ _ _ _ (scan-begun-edges _ _ _ _ e)
 
 -- In a turn: there is room for the line, and no place in a column is so great that it would not fit
 abbrev start : tie.In-loop Inv-loop μ-loop → tie.Start Inv-loop μ-loop
-start l = l .before .before .before .before .before .before .before .before .before .before .before
+start l = l .before .before .before .before .before .before .before .before .before .before .before .before
 
 roomy : (l : tie.In-loop Inv-loop μ-loop) → l .before .loop .k ≤ length (l .before .loop .tails)
-roomy l = let r = tails-room _ _ _ _ _ _ _ _ _ _ _ _ _ (l .before .loop .inv) (start l .pre) (l .loop-test .taken) in omega arith
+roomy l = let r = tails-room _ _ _ _ _ _ _ _ _ _ _ _ _ _ _ (l .before .loop .inv) (start l .pre) (l .loop-test .taken) in omega arith
 
 sizes : (l : tie.In-loop Inv-loop μ-loop)
-    → (length (l .before .loop .heads) * 8 < 2 ^ 63) × (length (l .before .loop .own) * 8 < 2 ^ 63) × (length (l .before .loop .spans) * 8 < 2 ^ 63) × (length (l .before .loop .tails) * 8 < 2 ^ 63)
+    → let t = l .before .loop in
+    (length (t .heads) * 8 < 2 ^ 63) × (length (t .own) * 8 < 2 ^ 63) × (length (t .strikes) * 8 < 2 ^ 63) × (length (t .spans) * 8 < 2 ^ 63) × (length (t .tails) * 8 < 2 ^ 63)
 sizes l =
     let f = l .before .loop .inv in
-    let g = start l .good in
-    (rw (f .heads-long) (g .1 .0 .1), rw (f .own-long) (g .1 .1 .0 .1), rw (f .spans-long) (g .1 .1 .1 .0 .1), rw (f .tails-long) (g .1 .1 .1 .1 .0 .1))
+    let g = start l .good in (
+      rw (f .heads-long) (g .1 .0 .1),
+      rw (f .own-long) (g .1 .1 .0 .1),
+      rw (f .strikes-long) (g .1 .1 .1 .0 .1),
+      rw (f .spans-long) (g .1 .1 .1 .1 .0 .1),
+      rw (f .tails-long) (g .1 .1 .1 .1 .1 .0 .1),
+    )
 
 writable : (l : tie.In-loop Inv-loop μ-loop)
-    → (l .before .loop .i < length (l .before .loop .heads)) × (l .before .loop .i < length (l .before .loop .own)) × (2 * l .before .loop .i + 1 < length (l .before .loop .spans))
-writable l = edge-room _ _ _ _ _ _ _ _ _ _ _ _ _ (l .before .loop .inv) (start l .pre) (l .loop-test .taken)
+    → let t = l .before .loop in (t .i < length (t .heads)) × (t .i < length (t .own)) × (t .i < length (t .strikes)) × (2 * t .i + 1 < length (t .spans))
+writable l = edge-room _ _ _ _ _ _ _ _ _ _ _ _ _ _ _ (l .before .loop .inv) (start l .pre) (l .loop-test .taken)
 
 mul-line-at : tie.Need-mul-line-at Inv-loop μ-loop
-mul-line-at c = let r = roomy c in let z = sizes c .3 in omega arith
+mul-line-at c = let r = roomy c in let z = sizes c .4 in omega arith
 
 sub-line-at : tie.Need-sub-line-at Inv-loop μ-loop
 sub-line-at c = roomy c
@@ -65,17 +71,20 @@ same-length-2 : tie.Need-same-length-2 Inv-loop μ-loop
 same-length-2 c = c .before .before .before .before .before .before .before .loop .inv .own-long
 
 same-length-3 : tie.Need-same-length-3 Inv-loop μ-loop
-same-length-3 c = c .before .before .before .before .before .before .before .loop .inv .spans-long
+same-length-3 c = c .before .before .before .before .before .before .before .loop .inv .strikes-long
+
+same-length-4 : tie.Need-same-length-4 Inv-loop μ-loop
+same-length-4 c = c .before .before .before .before .before .before .before .loop .inv .spans-long
 
 -- every line is one
 not-here : (c : tie.After-enum-told2 Inv-loop μ-loop) → ⊥
 not-here c =
     let a = c .before .before .before .before in
     let l = a .before .before in
-    never-wrong _ _ _ _ _ _ _ _ _ _ _ _ _ (l .before .loop .inv) (start l .pre) (l .loop-test .taken) _ _ (a .line-at .ensures) (c .enum-told2 .given .1)
+    never-wrong _ _ _ _ _ _ _ _ _ _ _ _ _ _ _ (l .before .loop .inv) (start l .pre) (l .loop-test .taken) _ _ (a .line-at .ensures) (c .enum-told2 .given .1)
 
-same-length-4 : tie.Need-same-length-4 Inv-loop μ-loop
-same-length-4 c = absurd (not-here c)
+same-length-5 : tie.Need-same-length-5 Inv-loop μ-loop
+same-length-5 c = absurd (not-here c)
 
 returns-2 : tie.Need-returns-2 Inv-loop μ-loop
 returns-2 c = absurd (not-here c)
@@ -95,26 +104,32 @@ mul-own c = let w = writable (turn c) .1 in let z = sizes (turn c) .1 in omega a
 slice-write-own : tie.Need-slice-write-own Inv-loop μ-loop
 slice-write-own c = writable (turn c) .1
 
+mul-strikes : tie.Need-mul-strikes Inv-loop μ-loop
+mul-strikes c = let w = writable (turn c) .2 in let z = sizes (turn c) .2 in omega arith
+
+slice-write-strikes : tie.Need-slice-write-strikes Inv-loop μ-loop
+slice-write-strikes c = writable (turn c) .2
+
 mul-spans : tie.Need-mul-spans Inv-loop μ-loop
-mul-spans c = let w = writable (turn c) .2 in let z = sizes (turn c) .2 in omega arith
+mul-spans c = let w = writable (turn c) .3 in let z = sizes (turn c) .3 in omega arith
 
 mul-spans-2 : tie.Need-mul-spans-2 Inv-loop μ-loop
-mul-spans-2 c = let w = writable (turn c) .2 in let z = sizes (turn c) .2 in omega arith
+mul-spans-2 c = let w = writable (turn c) .3 in let z = sizes (turn c) .3 in omega arith
 
 slice-write-spans : tie.Need-slice-write-spans Inv-loop μ-loop
-slice-write-spans c = let w = writable (turn c) .2 in omega arith
+slice-write-spans c = let w = writable (turn c) .3 in omega arith
 
 mul-spans-3 : tie.Need-mul-spans-3 Inv-loop μ-loop
-mul-spans-3 c = let w = writable (turn c) .2 in let z = sizes (turn c) .2 in omega arith
+mul-spans-3 c = let w = writable (turn c) .3 in let z = sizes (turn c) .3 in omega arith
 
 add-spans : tie.Need-add-spans Inv-loop μ-loop
-add-spans c = let w = writable (turn c) .2 in let z = sizes (turn c) .2 in omega arith
+add-spans c = let w = writable (turn c) .3 in let z = sizes (turn c) .3 in omega arith
 
 mul-spans-4 : tie.Need-mul-spans-4 Inv-loop μ-loop
-mul-spans-4 c = let w = writable (turn c) .2 in let z = sizes (turn c) .2 in omega arith
+mul-spans-4 c = let w = writable (turn c) .3 in let z = sizes (turn c) .3 in omega arith
 
 slice-write-spans-2 : tie.Need-slice-write-spans-2 Inv-loop μ-loop
-slice-write-spans-2 c = let w = writable (turn c) .2 in simp length-set w
+slice-write-spans-2 c = let w = writable (turn c) .3 in simp length-set w
 
 add-i : tie.Need-add-i Inv-loop μ-loop
 add-i c = let w = writable (turn c) .0 in let z = sizes (turn c) .0 in omega arith
@@ -124,13 +139,13 @@ loop-again : tie.Need-loop-again Inv-loop μ-loop
 loop-again c =
     let a = c .before .before .before .before .before in
     let l = turn c in
-    filling-next _ _ _ _ _ _ _ _ _ _ _ _ _ (l .before .loop .inv) (start l .pre) (l .loop-test .taken) _ _ (a .line-at .ensures) _ _ _ _ (c .before .line .given .1) .1
+    filling-next _ _ _ _ _ _ _ _ _ _ _ _ _ _ _ (l .before .loop .inv) (start l .pre) (l .loop-test .taken) _ _ (a .line-at .ensures) _ _ _ _ _ (c .before .line .given .1) .1
 
-later : (c : tie.After-known-told2 Inv-loop μ-loop) → turn c .before .loop .at < c .before .line .given .0 .1 .1 .1 .0
+later : (c : tie.After-known-told2 Inv-loop μ-loop) → turn c .before .loop .at < c .before .line .given .0 .1 .1 .1 .1 .0
 later c =
     let a = c .before .before .before .before .before in
     let l = turn c in
-    filling-next _ _ _ _ _ _ _ _ _ _ _ _ _ (l .before .loop .inv) (start l .pre) (l .loop-test .taken) _ _ (a .line-at .ensures) _ _ _ _ (c .before .line .given .1) .0
+    filling-next _ _ _ _ _ _ _ _ _ _ _ _ _ _ _ (l .before .loop .inv) (start l .pre) (l .loop-test .taken) _ _ (a .line-at .ensures) _ _ _ _ _ (c .before .line .given .1) .0
 
 add-k : tie.Need-add-k Inv-loop μ-loop
 add-k c = let f = loop-again c .scanning .few-listed in omega arith
@@ -138,20 +153,23 @@ add-k c = let f = loop-again c .scanning .few-listed in omega arith
 loop-less : tie.Need-loop-less Inv-loop μ-loop
 loop-less c = let h = later c in let w = loop-again c .scanning .within in omega arith
 
-same-length-5 : tie.Need-same-length-5 Inv-loop μ-loop
-same-length-5 c = c .before .loop .inv .heads-long
-
 same-length-6 : tie.Need-same-length-6 Inv-loop μ-loop
-same-length-6 c = c .before .loop .inv .own-long
+same-length-6 c = c .before .loop .inv .heads-long
 
 same-length-7 : tie.Need-same-length-7 Inv-loop μ-loop
-same-length-7 c = c .before .loop .inv .spans-long
+same-length-7 c = c .before .loop .inv .own-long
 
 same-length-8 : tie.Need-same-length-8 Inv-loop μ-loop
-same-length-8 c = c .before .loop .inv .tails-long
+same-length-8 c = c .before .loop .inv .strikes-long
+
+same-length-9 : tie.Need-same-length-9 Inv-loop μ-loop
+same-length-9 c = c .before .loop .inv .spans-long
+
+same-length-10 : tie.Need-same-length-10 Inv-loop μ-loop
+same-length-10 c = c .before .loop .inv .tails-long
 
 returns-3 : tie.Need-returns-3 Inv-loop μ-loop
-returns-3 c = filling-end _ _ _ _ _ _ _ _ _ _ _ _ _ (c .before .loop .inv) (c .loop-test .left)
+returns-3 c = filling-end _ _ _ _ _ _ _ _ _ _ _ _ _ _ _ (c .before .loop .inv) (c .loop-test .left)
 
 pub fill-spec : {M : Type 1} → statement M
 fill-spec =
@@ -175,11 +193,14 @@ fill-spec =
     same-length-2
     same-length-3
     same-length-4
+    same-length-5
     returns-2
     mul-heads
     slice-write-heads
     mul-own
     slice-write-own
+    mul-strikes
+    slice-write-strikes
     mul-spans
     mul-spans-2
     slice-write-spans
@@ -191,8 +212,9 @@ fill-spec =
     add-k
     loop-less
     loop-again
-    same-length-5
     same-length-6
     same-length-7
     same-length-8
+    same-length-9
+    same-length-10
     returns-3)

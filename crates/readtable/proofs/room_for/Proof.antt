@@ -16,19 +16,23 @@ returns-2 c = search tests
 
 returns-3 : tie.Need-returns-3
 unfolding roomFor
-returns-3 c =
-    let a = c .before .before .before .before .before .before .args in
-    let h = c .if3 .taken in
-    let g : a .spans < 2 * a .header .edges = omega arith in
-    search (tests, g)
+returns-3 c = search tests
 
 returns-4 : tie.Need-returns-4
 unfolding roomFor
 returns-4 c =
-    let a = c .before .before .before .before .before .before .before .args in
-    let h = c .before .if3 .left in
+    let a = c .before .before .before .before .before .before .before .before .args in
+    let h = c .if4 .taken in
+    let g : a .spans < 2 * a .header .edges = omega arith in
+    search (tests, g)
+
+returns-5 : tie.Need-returns-5
+unfolding roomFor
+returns-5 c =
+    let a = c .before .before .before .before .before .before .before .before .before .args in
+    let h = c .before .if4 .left in
     let g : 2 * a .header .edges ≤ a .spans = omega arith in
     search (tests, g)
 
 pub room-for-spec : {M : Type 1} → statement M
-room-for-spec = tie.close (tie.spec returns returns-2 returns-3 returns-4)
+room-for-spec = tie.close (tie.spec returns returns-2 returns-3 returns-4 returns-5)
