@@ -9,11 +9,11 @@ use lib.ListN.{length, getD, take, length-append}
 use lib.Seq.{take-suc, take-all}
 use Rattle.weights.specs.declared.Measure.{Measure}
 use Rattle.weights.specs.declared.Measure.the-variants.{Cost, Days}
-use Rattle.weights.specs.Figures.{struck, isStruck}
+use Rattle.weights.specs.Figures.{greatest, isStruckMark}
 use Rattle.columns.specs.Acceptance.{mostVertices}
 use Rattle.columns.proofs.Accepted.{below-at}
 use Rattle.text.specs.Tables.{Edge}
-use Rattle.text.specs.Render.{digits, default, sameMeasure, firstWord, word, measureText, header, ownText, tailText, edgeText}
+use Rattle.text.specs.Render.{digits, default, sameMeasure, firstWord, word, measureText, header, markText, ownText, tailText, edgeText}
 use Rattle.text.proofs.Digits.{pick-by, digits-one, digits-more, by-digits}
 use Rattle.text.specs.Rows.{EdgeFits}
 use Rattle.text.proofs.Sound.{tail-text-snoc}
@@ -42,18 +42,20 @@ width-most =
 
 -- Own figures --------------------------------------------------------------------------------------------------------------------------------
 
-pub own-struck : (o : ℕ) → isStruck o ≡ true → ownText o ≡ 45 ∷ []
-unfolding ownText
-own-struck o e = rw e
+pub own-struck : (o k : ℕ) → isStruckMark k ≡ true → ownText o k ≡ 45 ∷ digits o
+unfolding markText ownText
+own-struck o k e = rw e
 
-pub own-plain : (o : ℕ) → isStruck o ≡ false → ownText o ≡ digits o
-unfolding ownText
-own-plain o e = rw e
+pub own-plain : (o k : ℕ) → isStruckMark k ≡ false → ownText o k ≡ digits o
+unfolding markText ownText
+own-plain o k e = rw e
 
 -- it has at most so many bytes as keep a sum of them from wrapping
-pub own-most : (o : ℕ) → o ≤ struck → length (ownText o) ≤ struck + 1
-unfolding ownText
-own-most o h = pick-by (λ (z : List ℕ). length z ≤ struck + 1) (isStruck o) (λ e. omega arith) (λ e. let w = width-most o in omega arith)
+pub own-most : (o k : ℕ) → o ≤ greatest → length (ownText o k) ≤ greatest + 2
+unfolding markText ownText
+own-most o k h =
+    let w = width-most o in
+    pick-by (λ (z : List ℕ). length (z ++ digits o) ≤ greatest + 2) (isStruckMark k) (λ e. omega arith) (λ e. omega arith)
 
 -- Lists ----------------------------------------------------------------------------------------------------------------------------------------
 
@@ -103,15 +105,15 @@ measure-most Days = omega arith
 -- Lines --------------------------------------------------------------------------------------------------------------------------------------
 
 -- a line in three pieces
-pub line-split : (e : Edge) → edgeText e ++ 10 ∷ [] ≡ (digits (e .head) ++ (32 ∷ ownText (e .own))) ++ (tailText (e .tail) ++ 10 ∷ [])
+pub line-split : (e : Edge) → edgeText e ++ 10 ∷ [] ≡ (digits (e .head) ++ (32 ∷ ownText (e .own) (e .mark))) ++ (tailText (e .tail) ++ 10 ∷ [])
 unfolding edgeText
-line-split e = append-assoc (digits (e .head) ++ (32 ∷ ownText (e .own))) (tailText (e .tail)) (10 ∷ [])
+line-split e = append-assoc (digits (e .head) ++ (32 ∷ ownText (e .own) (e .mark))) (tailText (e .tail)) (10 ∷ [])
 
-pub line-width : (e : Edge) → length (edgeText e ++ 10 ∷ []) ≡ length (digits (e .head)) + length (32 ∷ ownText (e .own)) + length (tailText (e .tail) ++ 10 ∷ [])
+pub line-width : (e : Edge) → length (edgeText e ++ 10 ∷ []) ≡ length (digits (e .head)) + length (32 ∷ ownText (e .own) (e .mark)) + length (tailText (e .tail) ++ 10 ∷ [])
 line-width e =
     ap length (line-split e)
-    ∙ length-append (digits (e .head) ++ (32 ∷ ownText (e .own))) (tailText (e .tail) ++ 10 ∷ [])
-    ∙ ap (λ (z : ℕ). z + length (tailText (e .tail) ++ 10 ∷ [])) (length-append (digits (e .head)) (32 ∷ ownText (e .own)))
+    ∙ length-append (digits (e .head) ++ (32 ∷ ownText (e .own) (e .mark))) (tailText (e .tail) ++ 10 ∷ [])
+    ∙ ap (λ (z : ℕ). z + length (tailText (e .tail) ++ 10 ∷ [])) (length-append (digits (e .head)) (32 ∷ ownText (e .own) (e .mark)))
 
 pub edge-tail : {e : Edge} → EdgeFits mostVertices e → TailFits (e .tail)
 edge-tail f = record { short = f .short; below = f .tail }
@@ -122,7 +124,7 @@ line-most e f =
     let a = line-width e in
     let b = width-most (e .head) in
     let h = f .head in
-    let c = own-most (e .own) (f .own) in
+    let c = own-most (e .own) (e .mark) (f .own) in
     let d = tail-most (e .tail) (edge-tail f) in
     omega arith
 

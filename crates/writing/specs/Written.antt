@@ -5,7 +5,7 @@ use mathlib.Core.Path.{_≡_}
 use mathlib.Core.List.{List}
 use mathlib.Core.Bool.{true}
 use lib.ListN.{length}
-use Rattle.weights.specs.Figures.{struck}
+use Rattle.weights.specs.Figures.{greatest}
 use Rattle.columns.specs.Acceptance.{mostVertices, longestTail, allBelow}
 use Rattle.columns.specs.Filled.{filled}
 
@@ -17,7 +17,7 @@ pub record Written (bytes old : List ℕ) (n : ℕ) (room : List ℕ) : Type 0 w
 
 -- what keeps the widths from wrapping: an own figure, and a list, of an accepted table
 abbrev pub OwnFits : ℕ → Type 0
-OwnFits o = o ≤ struck
+OwnFits o = o ≤ greatest
 
 pub record TailFits (vs : List ℕ) : Type 0 where
   pub short : length vs ≤ longestTail

@@ -2,6 +2,7 @@
 // piece is written from the start of the room that it is lent, and its width is returned.
 use text::WORD;
 use text::is_default;
+use weights::Mark;
 use weights::Measure;
 use weights::Vertex;
 use weights::Weight;
@@ -11,7 +12,7 @@ ghost use Prim.Native.Nat.{_≤_};
 ghost use lib.ListN.{length};
 ghost use Rattle.columns.specs.Acceptance.{mostVertices};
 ghost use Rattle.text.specs.Tables.{edge};
-ghost use Rattle.text.specs.Render.{digits, firstWord, measureText, header, ownText, tailText, edgeText};
+ghost use Rattle.text.specs.Render.{digits, measureText, header, ownText, tailText, edgeText};
 ghost use Rattle.text.specs.Rows.{EdgeFits};
 ghost use Rattle.writing.specs.Written.{Written, TailFits, OwnFits};
 
@@ -55,27 +56,49 @@ pub fn put_spaced(room: &mut [u8], v: u64) -> usize
     at + width
 }
 
-// An own weight behind a space.
-pub fn own_width(weight: Weight) -> usize
-    requires { ⌜ OwnFits (weight .0) ⌝ }
-    ensures { λ r. ⌜ r ≡ length (32 ∷ ownText (weight .0)) ⌝ }
+// Bytes as they are.
+pub fn put_bytes(room: &mut [u8], bytes: &[u8]) -> usize
+    requires { ⌜ length (now bytes) ≤ length (now room) ⌝ }
+    ensures { λ r. ⌜ Written (now (bytes .entry)) (now (room .entry)) r (now (room .exit)) ⌝ }
 {
-    if weight.0 == Weight::STRUCK.0 {
-        return 2;
+    let mut i = 0;
+    while i < bytes.len() {
+        room[i] = bytes[i];
+        i += 1;
     }
-    1 + number_width(weight.0)
+    i
 }
 
-pub fn put_own(room: &mut [u8], own: Weight) -> usize
-    requires { ⌜ length (32 ∷ ownText (own .0)) ≤ length (now room) ⌝ }
-    ensures { λ r. ⌜ Written (32 ∷ ownText (own .0)) (now (room .entry)) r (now (room .exit)) ⌝ }
+// A number behind bytes.
+fn put_led(room: &mut [u8], lead: &[u8], v: u64) -> usize
+    requires { ⌜ length (now lead ++ digits v) ≤ length (now room) ⌝ }
+    ensures { λ r. ⌜ Written (now (lead .entry) ++ digits v) (now (room .entry)) r (now (room .exit)) ⌝ }
 {
-    if own.0 == Weight::STRUCK.0 {
-        room[0] = b' ';
-        room[1] = b'-';
-        return 2;
+    let at = put_bytes(room, lead);
+    let width = put_number(&mut room[at..], v);
+    at + width
+}
+
+// An own weight behind a space, in a struck line with `-` directly before it.
+pub fn own_width(own: Weight, mark: Mark) -> usize
+    requires { ⌜ OwnFits (own .0) ⌝ }
+    ensures { λ r. ⌜ r ≡ length (32 ∷ ownText (own .0) (mark .0)) ⌝ }
+{
+    let width = number_width(own.0);
+    if mark.is_struck() {
+        return 2 + width;
     }
-    put_spaced(room, own.0)
+    1 + width
+}
+
+pub fn put_own(room: &mut [u8], own: Weight, mark: Mark) -> usize
+    requires { ⌜ length (32 ∷ ownText (own .0) (mark .0)) ≤ length (now room) ⌝ }
+    ensures { λ r. ⌜ Written (32 ∷ ownText (own .0) (mark .0)) (now (room .entry)) r (now (room .exit)) ⌝ }
+{
+    if mark.is_struck() {
+        return put_led(room, b" -", own.0);
+    }
+    put_led(room, b" ", own.0)
 }
 
 // The listed vertices, each behind a space, and the end of the line.
@@ -107,43 +130,32 @@ pub fn put_tail(room: &mut [u8], tail: &[u64]) -> usize
 }
 
 // A whole line.
-pub fn edge_width(head: Vertex, own: Weight, tail: &[u64]) -> usize
-    requires { ⌜ EdgeFits mostVertices (edge (head .0) (own .0) (now tail)) ⌝ }
-    ensures { λ r. ⌜ r ≡ length (edgeText (edge (head .0) (own .0) (now (tail .entry))) ++ 10 ∷ []) ⌝ }
+pub fn edge_width(head: Vertex, own: Weight, mark: Mark, tail: &[u64]) -> usize
+    requires { ⌜ EdgeFits mostVertices (edge (head .0) (own .0) (mark .0) (now tail)) ⌝ }
+    ensures { λ r. ⌜ r ≡ length (edgeText (edge (head .0) (own .0) (mark .0) (now (tail .entry))) ++ 10 ∷ []) ⌝ }
 {
-    number_width(head.0) + own_width(own) + tail_width(tail)
+    number_width(head.0) + own_width(own, mark) + tail_width(tail)
 }
 
 // The head and the own weight.
-fn put_stem(room: &mut [u8], head: Vertex, own: Weight) -> usize
-    requires { ⌜ length (digits (head .0) ++ (32 ∷ ownText (own .0))) ≤ length (now room) ⌝ }
-    ensures { λ r. ⌜ Written (digits (head .0) ++ (32 ∷ ownText (own .0))) (now (room .entry)) r (now (room .exit)) ⌝ }
+fn put_stem(room: &mut [u8], head: Vertex, own: Weight, mark: Mark) -> usize
+    requires { ⌜ length (digits (head .0) ++ (32 ∷ ownText (own .0) (mark .0))) ≤ length (now room) ⌝ }
+    ensures { λ r. ⌜ Written (digits (head .0) ++ (32 ∷ ownText (own .0) (mark .0))) (now (room .entry)) r (now (room .exit)) ⌝ }
 {
     let at = put_number(room, head.0);
-    let width = put_own(&mut room[at..], own);
+    let width = put_own(&mut room[at..], own, mark);
     at + width
 }
 
-pub fn put_edge(room: &mut [u8], head: Vertex, own: Weight, tail: &[u64]) -> usize
-    requires { ⌜ length (edgeText (edge (head .0) (own .0) (now tail)) ++ 10 ∷ []) ≤ length (now room) ⌝ }
-    ensures { λ r. ⌜ Written (edgeText (edge (head .0) (own .0) (now (tail .entry))) ++ 10 ∷ []) (now (room .entry)) r (now (room .exit)) ⌝ }
+pub fn put_edge(room: &mut [u8], head: Vertex, own: Weight, mark: Mark, tail: &[u64]) -> usize
+    requires { ⌜ length (edgeText (edge (head .0) (own .0) (mark .0) (now tail)) ++ 10 ∷ []) ≤ length (now room) ⌝ }
+    ensures { λ r.
+        let line = edgeText (edge (head .0) (own .0) (mark .0) (now (tail .entry))) ++ 10 ∷ [] in
+        ⌜ Written line (now (room .entry)) r (now (room .exit)) ⌝ }
 {
-    let at = put_stem(room, head, own);
+    let at = put_stem(room, head, own, mark);
     let width = put_tail(&mut room[at..], tail);
     at + width
-}
-
-// Bytes as they are.
-pub fn put_bytes(room: &mut [u8], bytes: &[u8]) -> usize
-    requires { ⌜ length (now bytes) ≤ length (now room) ⌝ }
-    ensures { λ r. ⌜ Written (now (bytes .entry)) (now (room .entry)) r (now (room .exit)) ⌝ }
-{
-    let mut i = 0;
-    while i < bytes.len() {
-        room[i] = bytes[i];
-        i += 1;
-    }
-    i
 }
 
 // The end of the first line: nothing for the default measure, and the word for the other.
@@ -173,20 +185,11 @@ pub fn header_width(n: u64, measure: Measure) -> usize
     6 + number_width(n) + measure_width(measure)
 }
 
-fn put_opening(room: &mut [u8], n: u64) -> usize
-    requires { ⌜ length (firstWord ++ digits n) ≤ length (now room) ⌝ }
-    ensures { λ r. ⌜ Written (firstWord ++ digits n) (now (room .entry)) r (now (room .exit)) ⌝ }
-{
-    let at = put_bytes(room, b"parts ");
-    let width = put_number(&mut room[at..], n);
-    at + width
-}
-
 pub fn put_header(room: &mut [u8], n: u64, measure: Measure) -> usize
     requires { ⌜ length (header n measure) ≤ length (now room) ⌝ }
     ensures { λ r. ⌜ Written (header n measure) (now (room .entry)) r (now (room .exit)) ⌝ }
 {
-    let at = put_opening(room, n);
+    let at = put_led(room, b"parts ", n);
     let width = put_measure(&mut room[at..], measure);
     at + width
 }

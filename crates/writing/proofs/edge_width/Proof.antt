@@ -12,7 +12,7 @@ own-width-requires c κs = c .before .before .pre .own
 add-result : tie.Need-add-result
 add-result c =
     let b = c .before .before .before in
-    let e = edge (b .args .head .0) (b .args .own .0) (b .args .tail .now) in
+    let e = edge (b .args .head .0) (b .args .own .0) (b .args .mark .0) (b .args .tail .now) in
     let w = c .before .number-width .ensures in
     let o = c .own-width .ensures in
     let l = line-width e in
@@ -25,7 +25,7 @@ tail-width-requires c κs = edge-tail (c .before .before .before .pre)
 add-result-2 : tie.Need-add-result-2
 add-result-2 c =
     let b = c .before .before .before .before in
-    let e = edge (b .args .head .0) (b .args .own .0) (b .args .tail .now) in
+    let e = edge (b .args .head .0) (b .args .own .0) (b .args .mark .0) (b .args .tail .now) in
     let w = c .before .before .number-width .ensures in
     let o = c .before .own-width .ensures in
     let t = c .tail-width .ensures in
@@ -36,7 +36,7 @@ add-result-2 c =
 returns : tie.Need-returns
 returns c =
     let b = c .before .before .before .before in
-    let e = edge (b .args .head .0) (b .args .own .0) (b .args .tail .now) in
+    let e = edge (b .args .head .0) (b .args .own .0) (b .args .mark .0) (b .args .tail .now) in
     let w = c .before .before .number-width .ensures in
     let o = c .before .own-width .ensures in
     let t = c .tail-width .ensures in
