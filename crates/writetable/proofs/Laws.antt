@@ -14,7 +14,7 @@ use Rattle.refusal.specs.declared.Acceptance.{Acceptance}
 use Rattle.refusal.specs.declared.Acceptance.the-variants.{Accepted, Refused}
 use Rattle.refusal.specs.declared.Extent.the-variants as extent
 use Rattle.columns.specs.Lent.{Placed}
-use Rattle.columns.specs.Columns.{Columns, headAt, ownAt, offsetAt, lengthAt, tailAt}
+use Rattle.columns.specs.Columns.{Columns, headAt, ownAt, strikeAt, offsetAt, lengthAt, tailAt}
 use Rattle.columns.specs.Acceptance.{mostVertices, mostEdges, mostListed, allBelow, acceptance}
 use Rattle.columns.proofs.Accepted.{table-accepted, below-at}
 use Rattle.text.specs.Tables.{edge, edgesFrom, edgesOf}
@@ -37,11 +37,12 @@ below-wider n m (v ∷ vs) h e =
 -- its span is within the column, and it is within the limits
 pub record EdgeHere (c : Columns) (i : ℕ) : Type 0 where
   pub owns : length (c .own) ≡ length (c .heads)
+  pub strikes : length (c .strikes) ≡ length (c .heads)
   pub spans : length (c .spans) ≡ 2 * length (c .heads)
   pub edges : length (c .heads) ≤ mostEdges
   pub listed : length (c .tails) ≤ mostListed
   pub placed : Placed (c .spans) (c .tails) i
-  pub fits : EdgeFits mostVertices (edge (headAt c i) (ownAt c i) (tailAt c i))
+  pub fits : EdgeFits mostVertices (edge (headAt c i) (ownAt c i) (strikeAt c i) (tailAt c i))
 
 pub edge-here : (c : Columns) (i : ℕ) → acceptance c ≡ Accepted → i < length (c .heads) → EdgeHere c i
 edge-here c i p h =
@@ -53,16 +54,17 @@ edge-here c i p h =
     let l = length-take (lengthAt c i) (drop (offsetAt c i) (c .tails)) in
     record {
       owns = t .own;
+      strikes = t .strikes;
       spans = t .spans;
       edges = t .edges;
       listed = t .tails;
       placed = record { span = omega arith; short = s; within = a .within };
-      fits = record { head = omega arith; own = a .own; short = omega arith; tail = below-wider (c .vertices) mostVertices (tailAt c i) f (a .listed) };
+      fits = record { head = omega arith; own = a .own; mark = a .mark; short = omega arith; tail = below-wider (c .vertices) mostVertices (tailAt c i) f (a .listed) };
     }
 
 -- the line of a hyperedge
 abbrev pub lineOf : Columns → ℕ → List ℕ
-lineOf c i = edgeText (edge (headAt c i) (ownAt c i) (tailAt c i)) ++ 10 ∷ []
+lineOf c i = edgeText (edge (headAt c i) (ownAt c i) (strikeAt c i) (tailAt c i)) ++ 10 ∷ []
 
 -- The lines passed ---------------------------------------------------------------------------------------------------------------------------
 
@@ -110,7 +112,7 @@ measured-none c start h = record { bytes = []; passed = passed-none c; is = omeg
 
 pub measured-next : (c : Columns) (start width i w : ℕ) → acceptance c ≡ Accepted → i < length (c .heads) → w ≡ length (lineOf c i) → Measured c start width i → Measured c start (width + w) (i + 1)
 measured-next c start width i w a h e m =
-    let b = line-most (edge (headAt c i) (ownAt c i) (tailAt c i)) (edge-here c i a h .fits) in
+    let b = line-most (edge (headAt c i) (ownAt c i) (strikeAt c i) (tailAt c i)) (edge-here c i a h .fits) in
     let l = length-append (m .bytes) (lineOf c i) in
     let n = m .is in
     let k = m .most in
@@ -168,11 +170,11 @@ putting-all m c start room₀ i at room old p h w f =
     record { count = refl; room-is = k .room-is; long = k .long }
 
 -- what the code takes for the tail is the hyperedge's
-pub tail-fits : (c : Columns) (i : ℕ) {vs : List ℕ} → vs ≡ tailAt c i → EdgeHere c i → EdgeFits mostVertices (edge (headAt c i) (ownAt c i) vs)
-tail-fits c i e h = subst (λ (vs : List ℕ). EdgeFits mostVertices (edge (headAt c i) (ownAt c i) vs)) (sym e) (h .fits)
+pub tail-fits : (c : Columns) (i : ℕ) {vs : List ℕ} → vs ≡ tailAt c i → EdgeHere c i → EdgeFits mostVertices (edge (headAt c i) (ownAt c i) (strikeAt c i) vs)
+tail-fits c i e h = subst (λ (vs : List ℕ). EdgeFits mostVertices (edge (headAt c i) (ownAt c i) (strikeAt c i) vs)) (sym e) (h .fits)
 
-pub tail-line : (c : Columns) (i : ℕ) {vs : List ℕ} → vs ≡ tailAt c i → edgeText (edge (headAt c i) (ownAt c i) vs) ++ 10 ∷ [] ≡ lineOf c i
-tail-line c i e = ap (λ (vs : List ℕ). edgeText (edge (headAt c i) (ownAt c i) vs) ++ 10 ∷ []) e
+pub tail-line : (c : Columns) (i : ℕ) {vs : List ℕ} → vs ≡ tailAt c i → edgeText (edge (headAt c i) (ownAt c i) (strikeAt c i) vs) ++ 10 ∷ [] ≡ lineOf c i
+tail-line c i e = ap (λ (vs : List ℕ). edgeText (edge (headAt c i) (ownAt c i) (strikeAt c i) vs) ++ 10 ∷ []) e
 
 -- Room for the next line, and for all
 module _ (m : Measure) (c : Columns) (start : ℕ) (room₀ : List ℕ) (i at : ℕ) (room old : List ℕ) (p : Putting c start room₀ i at room) (w : Written (header (c .vertices) m) old start room₀)
@@ -193,7 +195,7 @@ module _ (m : Measure) (c : Columns) (start : ℕ) (room₀ : List ℕ) (i at : 
       omega arith
 
   pub next-room : i < length (c .heads) → {vs : List ℕ} → vs ≡ tailAt c i
-      → (at ≤ length room) × (length (edgeText (edge (headAt c i) (ownAt c i) vs) ++ 10 ∷ []) ≤ length (take (length room - at) (drop at room)))
+      → (at ≤ length room) × (length (edgeText (edge (headAt c i) (ownAt c i) (strikeAt c i) vs) ++ 10 ∷ []) ≤ length (take (length room - at) (drop at room)))
   unfolding tableText
   next-room l e =
       let g = line-fits c start room₀ i at room p (header (c .vertices) m) old w f l in

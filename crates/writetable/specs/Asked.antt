@@ -1,4 +1,4 @@
--- By what writing a table is refused. The paper's "Writing: 1 to 6, then 15". Assumes nothing: these are definitions.
+-- By what writing a table is refused. The paper's "Writing: 1 to 6, then 15", with 21 between 4 and 5 of a line (document 02, 2026-02). Assumes nothing: these are definitions.
 use mathlib.Core.List.{List}
 use Prim.Native.Nat.{ℕ, _≤_}
 use lib.ListN.{length}

@@ -1,5 +1,5 @@
 -- What writing a table into lent room returns, and what it leaves there. The paper's "The text" ("Writing fills the text room from its start and returns the
--- text's length; the room behind it keeps its bytes") and, of "What is turned away", "Writing: 1 to 6, then 15". Assumes nothing: these are definitions.
+-- text's length; the room behind it keeps its bytes") and, of "What is turned away", "Writing: 1 to 6, then 15", with 21 between 4 and 5. Assumes nothing: these are definitions.
 use Prim.Native.Nat.{ℕ, _≤_}
 use mathlib.Core.Path.{_≡_}
 use mathlib.Core.List.{List}

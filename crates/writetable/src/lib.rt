@@ -4,6 +4,7 @@ use refusal::Acceptance;
 use refusal::Extent;
 use refusal::Refusal;
 use weights::Hyperedge;
+use weights::Mark;
 use weights::Measure;
 use weights::Vertex;
 use weights::Weight;
@@ -26,19 +27,21 @@ fn text_width(
     n: u64,
     heads: &[u64],
     own: &[u64],
+    strikes: &[u64],
     spans: &[u64],
     tails: &[u64],
 ) -> usize
-    requires { ⌜ acceptance (columns n (now heads) (now own) (now spans) (now tails)) ≡ Accepted ⌝ }
-    ensures { λ r. ⌜ r ≡ length (render measure (columns n (now (heads .entry)) (now (own .entry)) (now (spans .entry)) (now (tails .entry)))) ⌝ }
+    requires { ⌜ acceptance (columns n (now heads) (now own) (now strikes) (now spans) (now tails)) ≡ Accepted ⌝ }
+    ensures { λ r. ⌜ r ≡ length (render measure (columns n (now (heads .entry)) (now (own .entry)) (now (strikes .entry)) (now (spans .entry)) (now (tails .entry)))) ⌝ }
 {
     let mut width = header_width(n, measure);
     let mut i = 0;
     while i < heads.len() {
         let head = Vertex(heads[i]);
         let weight = Weight(own[i]);
+        let mark = Mark(strikes[i]);
         let tail = columns::tail_of(Hyperedge(i as u64), spans, tails);
-        width += edge_width(head, weight, tail);
+        width += edge_width(head, weight, mark, tail);
         i += 1;
     }
     width
@@ -50,13 +53,14 @@ fn put_text(
     n: u64,
     heads: &[u64],
     own: &[u64],
+    strikes: &[u64],
     spans: &[u64],
     tails: &[u64],
     room: &mut [u8],
 )
-    requires { ⌜ Writable measure (columns n (now heads) (now own) (now spans) (now tails)) (length (now room)) ⌝ }
+    requires { ⌜ Writable measure (columns n (now heads) (now own) (now strikes) (now spans) (now tails)) (length (now room)) ⌝ }
     ensures { λ r.
-        let c = columns n (now (heads .entry)) (now (own .entry)) (now (spans .entry)) (now (tails .entry)) in
+        let c = columns n (now (heads .entry)) (now (own .entry)) (now (strikes .entry)) (now (spans .entry)) (now (tails .entry)) in
         ⌜ Written (render measure c) (now (room .entry)) (length (render measure c)) (now (room .exit)) ⌝ }
 {
     let mut at = put_header(room, n, measure);
@@ -64,35 +68,37 @@ fn put_text(
     while i < heads.len() {
         let head = Vertex(heads[i]);
         let weight = Weight(own[i]);
+        let mark = Mark(strikes[i]);
         let tail = columns::tail_of(Hyperedge(i as u64), spans, tails);
-        at += put_edge(&mut room[at..], head, weight, tail);
+        at += put_edge(&mut room[at..], head, weight, mark, tail);
         i += 1;
     }
 }
 
-// A table is written, or refused: by 1 to 6 where its columns are not accepted, or where the room is
-// too short. The text is measured before a byte is written.
+// A table is written, or refused: by 1 to 6 and 21 where its columns are not accepted, or where the
+// room is too short. The text is measured before a byte is written.
 pub fn write_table(
     measure: Measure,
     n: u64,
     heads: &[u64],
     own: &[u64],
+    strikes: &[u64],
     spans: &[u64],
     tails: &[u64],
     room: &mut [u8],
 ) -> Extent
     ensures { λ r.
-        let c = columns n (now (heads .entry)) (now (own .entry)) (now (spans .entry)) (now (tails .entry)) in
+        let c = columns n (now (heads .entry)) (now (own .entry)) (now (strikes .entry)) (now (spans .entry)) (now (tails .entry)) in
         ⌜ writeOutcome r (now (room .exit)) ≡ writeTable measure c (now (room .entry)) ⌝ }
 {
-    let checked = check_table(n, heads, own, spans, tails);
+    let checked = check_table(n, heads, own, strikes, spans, tails);
     if let Acceptance::Refused(r) = checked {
         return Extent::Refused(r);
     }
-    let width = text_width(measure, n, heads, own, spans, tails);
+    let width = text_width(measure, n, heads, own, strikes, spans, tails);
     if width > room.len() {
         return Extent::Refused(Refusal::TextRoom);
     }
-    put_text(measure, n, heads, own, spans, tails, room);
+    put_text(measure, n, heads, own, strikes, spans, tails, room);
     Extent::Length(width as u64)
 }

@@ -10,17 +10,17 @@ use Rattle.writetable.proofs.put_text.Statement.{statement}
 use Rattle.writetable.proofs.put_text.Tie as tie
 
 abbrev Inv-loop : tie.InvT-loop
-Inv-loop n heads own spans tails room₀ at₀ i₀ room at i = Putting (columns n heads own spans tails) at₀ room₀ i at room
+Inv-loop n heads own strikes spans tails room₀ at₀ i₀ room at i = Putting (columns n heads own strikes spans tails) at₀ room₀ i at room
 
 abbrev μ-loop : tie.MeasureT-loop
-μ-loop n heads own spans tails room₀ at₀ i₀ room at i = length heads - i
+μ-loop n heads own strikes spans tails room₀ at₀ i₀ room at i = length heads - i
 
 abbrev table : tie.Start Inv-loop μ-loop → Columns
-table s = columns (s .args .n) (s .args .heads .now) (s .args .own .now) (s .args .spans .now) (s .args .tails .now)
+table s = columns (s .args .n) (s .args .heads .now) (s .args .own .now) (s .args .strikes .now) (s .args .spans .now) (s .args .tails .now)
 
 put-header-requires : tie.Need-put-header-requires Inv-loop μ-loop
 put-header-requires c κs =
-    let s = c .before .before .before .before .before .before in
+    let s = c .before .before .before .before .before .before .before in
     let r = render-length (s .args .measure) (table s) in
     let f = s .pre .fits in
     omega arith
@@ -29,23 +29,17 @@ loop-holds : tie.Need-loop-holds Inv-loop μ-loop
 loop-holds c = putting-none _ _ _
 
 abbrev start : tie.In-loop Inv-loop μ-loop → tie.Start Inv-loop μ-loop
-start l = l .before .before .before .before .before .before .before .before .before .before .before
+start l = l .before .before .before .before .before .before .before .before .before .before .before .before
 
 here : (l : tie.In-loop Inv-loop μ-loop) → EdgeHere (table (start l)) (l .before .loop .i)
 here l = edge-here _ _ (start l .pre .accepted) (l .loop-test .taken)
 
-mul-t15-2 : tie.Need-mul-t15-2 Inv-loop μ-loop
-mul-t15-2 c = let e = here (c .before) in omega arith
-
-shared-slice-read-t18-2 : tie.Need-shared-slice-read-t18-2 Inv-loop μ-loop
-shared-slice-read-t18-2 c = let e = here (c .before .before) in omega arith
-
 tail-of-requires : tie.Need-tail-of-requires Inv-loop μ-loop
-tail-of-requires c κs = here (c .before .before) .placed
+tail-of-requires c κs = here (c .before .before .before) .placed
 
 sub-put-edge : tie.Need-sub-put-edge Inv-loop μ-loop
 sub-put-edge c =
-    let l = c .before .before .before in
+    let l = c .before .before .before .before in
     next-room _ _ _ _ _ _ _ _ (l .before .loop .inv) (l .before .before .before .before .put-header .ensures) (start l .pre .fits) (l .loop-test .taken) (c .tail-of .ensures) .0
 
 part-put-edge-start : tie.Need-part-put-edge-start Inv-loop μ-loop
@@ -54,26 +48,26 @@ part-put-edge-start c = let r = sub-put-edge c in search (needs, r)
 put-edge-requires : tie.Need-put-edge-requires Inv-loop μ-loop
 put-edge-requires c κs =
     let t = c .before in
-    let l = t .before .before .before in
+    let l = t .before .before .before .before in
     next-room _ _ _ _ _ _ _ _ (l .before .loop .inv) (l .before .before .before .before .put-header .ensures) (start l .pre .fits) (l .loop-test .taken) (t .tail-of .ensures) .1
 
 loop-again : tie.Need-loop-again Inv-loop μ-loop
 loop-again c =
     let p = c .before .before in
     let t = p .before .before in
-    let l = t .before .before .before in
+    let l = t .before .before .before .before in
     let e = tail-line (table (start l)) (l .before .loop .i) (t .tail-of .ensures) in
     putting-next _ _ _ _ _ _ (l .before .loop .inv) _ _ (l .loop-test .taken) (written-as _ _ _ e (p .put-edge .ensures))
 
 add-at : tie.Need-add-at Inv-loop μ-loop
 add-at c =
-    let l = c .before .before .before .before .before .before .before in
+    let l = c .before .before .before .before .before .before .before .before in
     let a = place _ _ _ _ _ _ _ _ (loop-again c) (l .before .before .before .before .put-header .ensures) (start l .pre .fits) in
     omega (arith, start l .good)
 
 returns : tie.Need-returns Inv-loop μ-loop
 returns c =
-    let s = c .before .before .before .before .before .before .before .before .before .before .before in
+    let s = c .before .before .before .before .before .before .before .before .before .before .before .before in
     putting-all _ _ _ _ _ _ _ _ (c .before .loop .inv) (c .loop-test .left) (c .before .before .before .before .put-header .ensures) (s .pre .fits)
 
 same-length : tie.Need-same-length Inv-loop μ-loop
@@ -89,8 +83,10 @@ put-text-spec =
     loop-holds
     (λ c. search needs)
     (λ c. search needs)
-    mul-t15-2
-    shared-slice-read-t18-2
+    (λ c. let e = here (c .before) in omega arith)
+    (λ c. let e = here (c .before .before) in omega arith)
+    (λ c. let e = here (c .before .before) in omega arith)
+    (λ c. let e = here (c .before .before .before) in omega arith)
     tail-of-requires
     sub-put-edge
     part-put-edge-start

@@ -12,50 +12,44 @@ use Rattle.writetable.proofs.text_width.Statement.{statement}
 use Rattle.writetable.proofs.text_width.Tie as tie
 
 abbrev Inv-loop : tie.InvT-loop
-Inv-loop n heads own spans tails width₀ i₀ width i = Measured (columns n heads own spans tails) width₀ width i
+Inv-loop n heads own strikes spans tails width₀ i₀ width i = Measured (columns n heads own strikes spans tails) width₀ width i
 
 abbrev μ-loop : tie.MeasureT-loop
-μ-loop n heads own spans tails width₀ i₀ width i = length heads - i
+μ-loop n heads own strikes spans tails width₀ i₀ width i = length heads - i
 
 abbrev table : tie.Start Inv-loop μ-loop → Columns
-table s = columns (s .args .n) (s .args .heads .now) (s .args .own .now) (s .args .spans .now) (s .args .tails .now)
+table s = columns (s .args .n) (s .args .heads .now) (s .args .own .now) (s .args .strikes .now) (s .args .spans .now) (s .args .tails .now)
 
 header-width-requires : tie.Need-header-width-requires Inv-loop μ-loop
-header-width-requires c κs = let s = c .before .before .before .before in table-accepted (table s) (s .pre) .few
+header-width-requires c κs = let s = c .before .before .before .before .before in table-accepted (table s) (s .pre) .few
 
 loop-holds : tie.Need-loop-holds Inv-loop μ-loop
 loop-holds c =
-    let s = c .before .before .before .before .before in
+    let s = c .before .before .before .before .before .before in
     let m = header-most (s .args .n) (s .args .measure) (table-accepted (table s) (s .pre) .few) in
     let w = c .header-width .ensures in
     measured-none _ _ (omega arith)
 
 abbrev start : tie.In-loop Inv-loop μ-loop → tie.Start Inv-loop μ-loop
-start l = l .before .before .before .before .before .before .before
+start l = l .before .before .before .before .before .before .before .before
 
 here : (l : tie.In-loop Inv-loop μ-loop) → EdgeHere (table (start l)) (l .before .loop .i)
 here l = edge-here _ _ (start l .pre) (l .loop-test .taken)
 
-mul-t12-2 : tie.Need-mul-t12-2 Inv-loop μ-loop
-mul-t12-2 c = let e = here (c .before) in omega arith
-
-shared-slice-read-t15-2 : tie.Need-shared-slice-read-t15-2 Inv-loop μ-loop
-shared-slice-read-t15-2 c = let e = here (c .before .before) in omega arith
-
 tail-of-requires : tie.Need-tail-of-requires Inv-loop μ-loop
-tail-of-requires c κs = here (c .before .before) .placed
+tail-of-requires c κs = here (c .before .before .before) .placed
 
 edge-width-requires : tie.Need-edge-width-requires Inv-loop μ-loop
-edge-width-requires c κs = tail-fits _ _ (c .tail-of .ensures) (here (c .before .before .before))
+edge-width-requires c κs = tail-fits _ _ (c .tail-of .ensures) (here (c .before .before .before .before))
 
 loop-again : tie.Need-loop-again Inv-loop μ-loop
 loop-again c =
-    let l = c .before .before .before .before in
+    let l = c .before .before .before .before .before in
     let e = c .edge-width .ensures ∙ ap length (tail-line (table (start l)) (l .before .loop .i) (c .before .tail-of .ensures)) in
     measured-next _ _ _ _ _ (start l .pre) (l .loop-test .taken) e (l .before .loop .inv)
 
 add-width : tie.Need-add-width Inv-loop μ-loop
-add-width c = let m = loop-again c in let e = here (c .before .before .before .before) in omega arith
+add-width c = let m = loop-again c in let e = here (c .before .before .before .before .before) in omega arith
 
 returns : tie.Need-returns Inv-loop μ-loop
 returns c = measured-all _ _ _ _ _ (c .before .before .header-width .ensures) (c .loop-test .left) (c .before .loop .inv)
@@ -70,8 +64,10 @@ text-width-spec =
     loop-holds
     (λ c. search needs)
     (λ c. search needs)
-    mul-t12-2
-    shared-slice-read-t15-2
+    (λ c. let e = here (c .before) in omega arith)
+    (λ c. let e = here (c .before .before) in omega arith)
+    (λ c. let e = here (c .before .before) in omega arith)
+    (λ c. let e = here (c .before .before .before) in omega arith)
     tail-of-requires
     edge-width-requires
     add-width

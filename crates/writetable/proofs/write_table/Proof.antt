@@ -13,7 +13,7 @@ use Rattle.writetable.proofs.write_table.Statement.{statement}
 use Rattle.writetable.proofs.write_table.Tie as tie
 
 abbrev table : tie.Start → Columns
-table s = columns (s .args .n) (s .args .heads .now) (s .args .own .now) (s .args .spans .now) (s .args .tails .now)
+table s = columns (s .args .n) (s .args .heads .now) (s .args .own .now) (s .args .strikes .now) (s .args .spans .now) (s .args .tails .now)
 
 returns : tie.Need-returns
 returns c = write-refused _ _ _ _ (sym (c .before .before .before .check-table .ensures) ∙ c .before .checked .given .1)
@@ -22,7 +22,7 @@ enum-told : tie.Need-enum-told
 enum-told c = search needs
 
 -- the table is accepted
-accepted : (c : tie.After-enum-told) → acceptance (table (c .before .before .before .before .before .before .before .before)) ≡ Accepted
+accepted : (c : tie.After-enum-told) → acceptance (table (c .before .before .before .before .before .before .before .before .before)) ≡ Accepted
 accepted c = sym (c .before .before .check-table .ensures) ∙ c .enum-told .given .1
 
 text-width-requires : tie.Need-text-width-requires
@@ -35,7 +35,8 @@ returns-2 c =
     write-short _ _ (omega arith) ∙ write-accepted _ _ _ (accepted (c .before .before))
 
 -- the room is long enough
-roomy : (c : tie.Else1) → let s = c .before .before .before .before .before .before .before .before .before .before in length (render (s .args .measure) (table s)) ≤ length (s .args .room .now)
+roomy : (c : tie.Else1) → let s = c .before .before .before .before .before .before .before .before .before .before .before in
+    length (render (s .args .measure) (table s)) ≤ length (s .args .room .now)
 roomy c = let w = c .before .text-width .ensures in let h = c .if1 .left in omega arith
 
 put-text-requires : tie.Need-put-text-requires
