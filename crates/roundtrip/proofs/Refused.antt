@@ -13,9 +13,9 @@ use Rattle.roundtrip.proofs.RoundTrip.{read-table}
 use Rattle.roundtrip.specs.Refused.{refusedAt}
 
 -- a permitted text is read into columns that have room for its table
-pub permitted-is-read : (text h o s t : List ℕ) (p : Permitted text) → Room (closed (p .table)) h o s t → readTable text h o s t ≡ filledWith (closed (p .table)) (p .measure) h o s t
-permitted-is-read text h o s t p r = read-table text (tableOf (p .measure) (p .table)) h o s t (permitted-read text p) r
+pub permitted-is-read : (text h o ms s t : List ℕ) (p : Permitted text) → Room (closed (p .table)) h o ms s t → readTable text h o ms s t ≡ filledWith (closed (p .table)) (p .measure) h o ms s t
+permitted-is-read text h o ms s t p r = read-table text (tableOf (p .measure) (p .table)) h o ms s t (permitted-read text p) r
 
-pub unpermitted-is-refused : (text h o s t : List ℕ) → (Permitted text → ⊥) → (k : ℕ) × (readTable text h o s t ≡ refusedAt k h o s t) × FirstWrong text k
+pub unpermitted-is-refused : (text h o ms s t : List ℕ) → (Permitted text → ⊥) → (k : ℕ) × (readTable text h o ms s t ≡ refusedAt k h o ms s t) × FirstWrong text k
 unfolding readInto
-unpermitted-is-refused text h o s t n = let u = unpermitted-wrong text n in (u .0, rw (u .1), u .2)
+unpermitted-is-refused text h o ms s t n = let u = unpermitted-wrong text n in (u .0, rw (u .1), u .2)

@@ -17,12 +17,12 @@ use Rattle.refusal.specs.declared.Reading.the-variants as reading
 use Rattle.refusal.specs.declared.Acceptance.{Acceptance}
 use Rattle.refusal.specs.declared.Acceptance.the-variants.{Accepted, Refused}
 use Rattle.refusal.specs.declared.Extent.the-variants as extent
-use Rattle.columns.specs.Columns.{Columns, columns}
+use Rattle.columns.specs.Columns.{Columns}
 use Rattle.columns.specs.Acceptance.{acceptance}
-use Rattle.text.specs.Tables.{Edge, Table, tableOf, listedInAll, headsOf, ownsOf, spansFrom, tailsOf, columnsOf, closed}
+use Rattle.text.specs.Tables.{Edge, Table, tableOf, listedInAll, headsOf, ownsOf, marksOf, spansFrom, tailsOf, columnsOf, closed}
 use Rattle.text.specs.Render.{tableText, render}
 use Rattle.text.specs.Machine.{Parse, Whole, Wrong, parse}
-use Rattle.text.proofs.Rows.{edges-of-columns, accepted-fits, fits-accepted, length-heads, length-owns, length-spans, length-tails}
+use Rattle.text.proofs.Rows.{edges-of-columns, accepted-fits, fits-accepted, length-heads, length-owns, length-marks, length-spans, length-tails}
 use Rattle.text.proofs.Sound.{sound}
 use Rattle.text.proofs.Complete.{complete}
 use Rattle.columns.specs.Filled.{filled}
@@ -37,32 +37,40 @@ use Rattle.roundtrip.specs.RoundTrip.{Room, headerFor, filledWith}
 header-is : (m : Measure) (n : ℕ) (es : List Edge) → headerOf (record { vertices = n; measure = m; edges = es }) ≡ headerFor m (columnsOf n es)
 header-is m n es = ap₂ (λ (a b : ℕ). record { vertices = n; measure = m; edges = a; listed = b }) (sym (length-heads es)) (sym (length-tails es))
 
-pub roomy : (u : Table) (h o s t : List ℕ) → Room (columnsOf (u .vertices) (u .edges)) h o s t → roomFor (headerOf u) (length h) (length o) (length s) (length t) ≡ true
+pub roomy : (u : Table) (h o ms s t : List ℕ) → Room (columnsOf (u .vertices) (u .edges)) h o ms s t → roomFor (headerOf u) (length h) (length o) (length ms) (length s) (length t) ≡ true
 unfolding roomFor
-roomy u h o s t r =
+roomy u h o ms s t r =
     let a = length-heads (u .edges) in
     let b = length-owns (u .edges) in
+    let i = length-marks (u .edges) in
     let c = length-spans 0 (u .edges) in
     let d = length-tails (u .edges) in
     let p = r .heads in
     let q = r .own in
+    let k = r .strikes in
     let v = r .spans in
     let w = r .tails in
-    rw (le-leb (length (u .edges)) (length h) (omega arith), le-leb (length (u .edges)) (length o) (omega arith), le-leb (2 * length (u .edges)) (length s) (omega arith))
+    rw (
+      le-leb (length (u .edges)) (length h) (omega arith),
+      le-leb (length (u .edges)) (length o) (omega arith),
+      le-leb (length (u .edges)) (length ms) (omega arith),
+      le-leb (2 * length (u .edges)) (length s) (omega arith),
+    )
     (le-leb (listedInAll (u .edges)) (length t) (omega arith))
 
 -- a text that holds a table is read into columns that have room for it
-pub read-table : (text : List ℕ) (u : Table) (h o s t : List ℕ) → parse text ≡ Whole u → Room (columnsOf (u .vertices) (u .edges)) h o s t
-    → readTable text h o s t ≡ filledWith (columnsOf (u .vertices) (u .edges)) (u .measure) h o s t
+pub read-table : (text : List ℕ) (u : Table) (h o ms s t : List ℕ) → parse text ≡ Whole u → Room (columnsOf (u .vertices) (u .edges)) h o ms s t
+    → readTable text h o ms s t ≡ filledWith (columnsOf (u .vertices) (u .edges)) (u .measure) h o ms s t
 unfolding readInto
-read-table text u h o s t e r =
-    rw (e, roomy u h o s t r)
+read-table text u h o ms s t e r =
+    rw (e, roomy u h o ms s t r)
     (ap
-    (λ (z : Header). readOutcome (reading.Table z) (filled (headsOf (u .edges)) h) (filled (ownsOf (u .edges)) o) (filled (spansFrom 0 (u .edges)) s) (filled (tailsOf (u .edges)) t))
+    (λ (z : Header). readOutcome (reading.Table z) (filled (headsOf (u .edges)) h) (filled (ownsOf (u .edges)) o) (filled (marksOf (u .edges)) ms)
+    (filled (spansFrom 0 (u .edges)) s) (filled (tailsOf (u .edges)) t))
     (header-is (u .measure) (u .vertices) (u .edges)))
 
-pub read-rendered : (m : Measure) (c : Columns) (h o s t : List ℕ) → acceptance c ≡ Accepted → Room (closed c) h o s t → readTable (render m c) h o s t ≡ filledWith (closed c) m h o s t
-read-rendered m c h o s t a r = read-table (render m c) (tableOf m c) h o s t (complete (tableOf m c) (accepted-fits m c a)) r
+pub read-rendered : (m : Measure) (c : Columns) (h o ms s t : List ℕ) → acceptance c ≡ Accepted → Room (closed c) h o ms s t → readTable (render m c) h o ms s t ≡ filledWith (closed c) m h o ms s t
+read-rendered m c h o ms s t a r = read-table (render m c) (tableOf m c) h o ms s t (complete (tableOf m c) (accepted-fits m c a)) r
 
 -- Read after write ----------------------------------------------------------------------------------------------------------------------------
 
@@ -91,70 +99,71 @@ written m c room k e = go (acceptance c) refl e
     go (Refused r) p q = absurd (no-length q)
 
 -- what was written, read into columns with room for it, is the table with its gaps closed
-pub read-after-write : (m : Measure) (c : Columns) (room : List ℕ) (k : ℕ) (h o s t : List ℕ) → writeTable m c room .answer ≡ extent.Length k → Room (closed c) h o s t
-    → readTable (take k (writeTable m c room .room)) h o s t ≡ filledWith (closed c) m h o s t
-read-after-write m c room k h o s t e r =
+pub read-after-write : (m : Measure) (c : Columns) (room : List ℕ) (k : ℕ) (h o ms s t : List ℕ) → writeTable m c room .answer ≡ extent.Length k → Room (closed c) h o ms s t
+    → readTable (take k (writeTable m c room .room)) h o ms s t ≡ filledWith (closed c) m h o ms s t
+read-after-write m c room k h o ms s t e r =
     let w = written m c room k e in
-    ap (λ (z : List ℕ). readTable z h o s t) (w .1) ∙ read-rendered m c h o s t (w .0) r
+    ap (λ (z : List ℕ). readTable z h o ms s t) (w .1) ∙ read-rendered m c h o ms s t (w .0) r
 
 -- Write after read ----------------------------------------------------------------------------------------------------------------------------
 
 -- a text that was read holds a table, and those are its columns
-pub record Held (text h o s t : List ℕ) (g : Header) : Type 0 where
+pub record Held (text h o ms s t : List ℕ) (g : Header) : Type 0 where
   pub table : Table
   pub whole : parse text ≡ Whole table
   pub header-of : g ≡ headerOf table
-  pub outcome : readTable text h o s t ≡ readOutcome (reading.Table (headerOf table)) (filled (headsOf (table .edges)) h)
-      (filled (ownsOf (table .edges)) o) (filled (spansFrom 0 (table .edges)) s) (filled (tailsOf (table .edges)) t)
+  pub outcome : readTable text h o ms s t ≡ readOutcome (reading.Table (headerOf table)) (filled (headsOf (table .edges)) h)
+      (filled (ownsOf (table .edges)) o) (filled (marksOf (table .edges)) ms) (filled (spansFrom 0 (table .edges)) s) (filled (tailsOf (table .edges)) t)
 
-pub held : (text h o s t : List ℕ) (g : Header) → readTable text h o s t .answer ≡ reading.Table g → Held text h o s t g
+pub held : (text h o ms s t : List ℕ) (g : Header) → readTable text h o ms s t .answer ≡ reading.Table g → Held text h o ms s t g
 unfolding readInto
-held text h o s t g e = go (parse text) refl e
+held text h o ms s t g e = go (parse text) refl e
   where
-    whole : (u : Table) → parse text ≡ Whole u → (b : Bool) → roomFor (headerOf u) (length h) (length o) (length s) (length t) ≡ b
+    whole : (u : Table) → parse text ≡ Whole u → (b : Bool) → roomFor (headerOf u) (length h) (length o) (length ms) (length s) (length t) ≡ b
         → pick b
-        (readOutcome (reading.Table (headerOf u)) (filled (headsOf (u .edges)) h) (filled (ownsOf (u .edges)) o) (filled (spansFrom 0 (u .edges)) s) (filled (tailsOf (u .edges)) t))
-        (readOutcome (reading.Refused TextRoom) h o s t) .answer ≡ reading.Table g
-        → Held text h o s t g
+        (readOutcome (reading.Table (headerOf u)) (filled (headsOf (u .edges)) h) (filled (ownsOf (u .edges)) o) (filled (marksOf (u .edges)) ms)
+        (filled (spansFrom 0 (u .edges)) s) (filled (tailsOf (u .edges)) t))
+        (readOutcome (reading.Refused TextRoom) h o ms s t) .answer ≡ reading.Table g
+        → Held text h o ms s t g
     whole u p true b q = record { table = u; whole = p; header-of = let z : headerOf u ≡ g = cc in sym z; outcome = unfold readInto in rw (p, b) }
     whole u p false b q = absurd (no-table q)
 
-    go : (P : Parse) → parse text ≡ P → readInto P h o s t .answer ≡ reading.Table g → Held text h o s t g
-    go (Whole u) p q = whole u p (roomFor (headerOf u) (length h) (length o) (length s) (length t)) refl (unfold readInto in q)
+    go : (P : Parse) → parse text ≡ P → readInto P h o ms s t .answer ≡ reading.Table g → Held text h o ms s t g
+    go (Whole u) p q = whole u p (roomFor (headerOf u) (length h) (length o) (length ms) (length s) (length t)) refl (unfold readInto in q)
     go (Wrong l) p q = absurd (no-table (unfold readInto in q))
 
-module _ (text h o s t : List ℕ) (g : Header) (k : Held text h o s t g) where
+module _ (text h o ms s t : List ℕ) (g : Header) (k : Held text h o ms s t g) where
   abbrev es : List Edge
   es = k .table .edges
 
-  pub columns-are : columnsRead g (readTable text h o s t) ≡ columnsOf (k .table .vertices) es
+  pub columns-are : columnsRead g (readTable text h o ms s t) ≡ columnsOf (k .table .vertices) es
   columns-are =
-      ap₂ columnsRead (k .header-of) (k .outcome)
-      ∙ ap₂
-      (λ (a b : List ℕ). columns (k .table .vertices) a b (take (2 * length es) (filled (spansFrom 0 es) s)) (take (listedInAll es) (filled (tailsOf es) t)))
-      (take-filled (headsOf es) h (length es) (length-heads es)) (take-filled (ownsOf es) o (length es) (length-owns es))
-      ∙ ap₂ (λ (a b : List ℕ). columns (k .table .vertices) (headsOf es) (ownsOf es) a b)
-      (take-filled (spansFrom 0 es) s (2 * length es) (length-spans 0 es)) (take-filled (tailsOf es) t (listedInAll es) (length-tails es))
+      let heads = take-filled (headsOf es) h (length es) (length-heads es) in
+      let own = take-filled (ownsOf es) o (length es) (length-owns es) in
+      let strikes = take-filled (marksOf es) ms (length es) (length-marks es) in
+      let spans = take-filled (spansFrom 0 es) s (2 * length es) (length-spans 0 es) in
+      let tails = take-filled (tailsOf es) t (listedInAll es) (length-tails es) in
+      ap₂ columnsRead (k .header-of) (k .outcome) ∙ rw (heads, own, strikes, spans, tails)
 
-  accepted-again : acceptance (columnsRead g (readTable text h o s t)) ≡ Accepted
+  accepted-again : acceptance (columnsRead g (readTable text h o ms s t)) ≡ Accepted
   accepted-again = ap acceptance columns-are ∙ fits-accepted (k .table) (sound text (k .table) (k .whole) .0)
 
-  text-again : render (g .measure) (columnsRead g (readTable text h o s t)) ≡ text
+  text-again : render (g .measure) (columnsRead g (readTable text h o ms s t)) ≡ text
   text-again =
       ap₂ render (ap (λ (z : Header). z .measure) (k .header-of)) columns-are
       ∙ ap (λ (z : List Edge). tableText (record { vertices = k .table .vertices; measure = k .table .measure; edges = z })) (edges-of-columns (k .table .vertices) es)
       ∙ sym (sound text (k .table) (k .whole) .1)
 
 -- what was read, written into room that holds the text, is the text again, byte for byte; and the room behind it is as it was
-pub write-after-read : (text h o s t room : List ℕ) (g : Header) → readTable text h o s t .answer ≡ reading.Table g → length text ≤ length room
-    → writeTable (g .measure) (columnsRead g (readTable text h o s t)) room ≡ writeOutcome (extent.Length (length text)) (filled text room)
+pub write-after-read : (text h o ms s t room : List ℕ) (g : Header) → readTable text h o ms s t .answer ≡ reading.Table g → length text ≤ length room
+    → writeTable (g .measure) (columnsRead g (readTable text h o ms s t)) room ≡ writeOutcome (extent.Length (length text)) (filled text room)
 unfolding writeText
-write-after-read text h o s t room g e l =
-    let k = held text h o s t g e in
-    ap (λ (a : Acceptance). writeAs a (render (g .measure) (columnsRead g (readTable text h o s t))) room) (accepted-again text h o s t g k)
-    ∙ ap (λ (z : List ℕ). writeText z room) (text-again text h o s t g k)
+write-after-read text h o ms s t room g e l =
+    let k = held text h o ms s t g e in
+    ap (λ (a : Acceptance). writeAs a (render (g .measure) (columnsRead g (readTable text h o ms s t))) room) (accepted-again text h o ms s t g k)
+    ∙ ap (λ (z : List ℕ). writeText z room) (text-again text h o ms s t g k)
     ∙ rw (le-leb (length text) (length room) l)
 
 -- what was read is accepted
-pub read-accepted : (text h o s t : List ℕ) (g : Header) → readTable text h o s t .answer ≡ reading.Table g → acceptance (columnsRead g (readTable text h o s t)) ≡ Accepted
-read-accepted text h o s t g e = accepted-again text h o s t g (held text h o s t g e)
+pub read-accepted : (text h o ms s t : List ℕ) (g : Header) → readTable text h o ms s t .answer ≡ reading.Table g → acceptance (columnsRead g (readTable text h o ms s t)) ≡ Accepted
+read-accepted text h o ms s t g e = accepted-again text h o ms s t g (held text h o ms s t g e)

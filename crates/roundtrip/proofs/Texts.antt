@@ -1,4 +1,4 @@
--- What reading gives, for every text and every four columns: exactly one of three. A permitted text with room for its table is read; a permitted one without is
+-- What reading gives, for every text and every five columns: exactly one of three. A permitted text with room for its table is read; a permitted one without is
 -- refused by 15; what is not permitted is refused by 14 at the first wrong line; and a refusal leaves every column as it was. Assumes nothing.
 use mathlib.Core.Path.{_≡_, refl, sym, _∙_, ap, subst}
 use mathlib.Core.Bool.{Bool, true, false}
@@ -18,7 +18,7 @@ use Rattle.columns.specs.Owed.{Owed}
 use Rattle.text.specs.Tables.{Table, listedInAll, tableOf, columnsOf, closed}
 use Rattle.text.specs.Render.{Permitted}
 use Rattle.text.specs.Machine.{Parse, Whole, Wrong, parse}
-use Rattle.text.proofs.Rows.{length-heads, length-owns, length-spans, length-tails}
+use Rattle.text.proofs.Rows.{length-heads, length-owns, length-marks, length-spans, length-tails}
 use Rattle.text.proofs.Permitted.{permitted-read, read-permitted, wrong-unpermitted, wrong-place}
 use Rattle.text.specs.Permitted.{FirstWrong}
 use Rattle.reading.specs.Lines.{headerOf}
@@ -29,44 +29,47 @@ use Rattle.roundtrip.proofs.Refused.{permitted-is-read}
 use Rattle.roundtrip.specs.Refused.{refusedAt}
 use Rattle.roundtrip.specs.Reads.{Lent, lent, RightRead, WrongRead, ReadOwes}
 
-roomed : (u : Table) (h o s t : List ℕ) → roomFor (headerOf u) (length h) (length o) (length s) (length t) ≡ true → Room (columnsOf (u .vertices) (u .edges)) h o s t
+roomed : (u : Table) (h o ms s t : List ℕ) → roomFor (headerOf u) (length h) (length o) (length ms) (length s) (length t) ≡ true → Room (columnsOf (u .vertices) (u .edges)) h o ms s t
 unfolding roomFor
-roomed u h o s t e =
+roomed u h o ms s t e =
     let a = both-true {a = leb (length (u .edges)) (length h)} e in
     let b = both-true {a = leb (length (u .edges)) (length o)} (a .1) in
-    let c = both-true {a = leb (2 * length (u .edges)) (length s)} {b = leb (listedInAll (u .edges)) (length t)} (b .1) in
+    let d = both-true {a = leb (length (u .edges)) (length ms)} (b .1) in
+    let c = both-true {a = leb (2 * length (u .edges)) (length s)} {b = leb (listedInAll (u .edges)) (length t)} (d .1) in
     let p = leb-true (length (u .edges)) (length h) (a .0) in
     let q = leb-true (length (u .edges)) (length o) (b .0) in
+    let x = leb-true (length (u .edges)) (length ms) (d .0) in
     let v = leb-true (2 * length (u .edges)) (length s) (c .0) in
     let w = leb-true (listedInAll (u .edges)) (length t) (c .1) in
     let i = length-heads (u .edges) in
     let j = length-owns (u .edges) in
+    let y = length-marks (u .edges) in
     let k = length-spans 0 (u .edges) in
     let l = length-tails (u .edges) in
-    record { heads = omega arith; own = omega arith; spans = omega arith; tails = omega arith }
+    record { heads = omega arith; own = omega arith; strikes = omega arith; spans = omega arith; tails = omega arith }
 
-module _ (text h o s t : List ℕ) where
+module _ (text h o ms s t : List ℕ) where
   -- a permitted text, by the test of its table's room
-  of-table : (p : Permitted text) (b : Bool) → roomFor (headerOf (tableOf (p .measure) (p .table))) (length h) (length o) (length s) (length t) ≡ b
-      → ReadOwes text (lent h o s t) (readTable text h o s t)
+  of-table : (p : Permitted text) (b : Bool) → roomFor (headerOf (tableOf (p .measure) (p .table))) (length h) (length o) (length ms) (length s) (length t) ≡ b
+      → ReadOwes text (lent h o ms s t) (readTable text h o ms s t)
   of-table p true e =
-      let r = roomed (tableOf (p .measure) (p .table)) h o s t e in
-      subst (ReadOwes text (lent h o s t)) (sym (permitted-is-read text h o s t p r)) (Owed.accepted (record { permitted = p; room = r }))
+      let r = roomed (tableOf (p .measure) (p .table)) h o ms s t e in
+      subst (ReadOwes text (lent h o ms s t)) (sym (permitted-is-read text h o ms s t p r)) (Owed.accepted (record { permitted = p; room = r }))
   of-table p false e =
-      let n : ¬ Room (closed (p .table)) h o s t = λ r. apart (sym e ∙ roomy (tableOf (p .measure) (p .table)) h o s t r) in
-      let q : readTable text h o s t ≡ readOutcome (reading.Refused TextRoom) h o s t = unfold readInto in rw (permitted-read text p, e) in
-      subst (ReadOwes text (lent h o s t)) (sym q) (Owed.refused (WrongRead.room p n))
+      let n : ¬ Room (closed (p .table)) h o ms s t = λ r. apart (sym e ∙ roomy (tableOf (p .measure) (p .table)) h o ms s t r) in
+      let q : readTable text h o ms s t ≡ readOutcome (reading.Refused TextRoom) h o ms s t = unfold readInto in rw (permitted-read text p, e) in
+      subst (ReadOwes text (lent h o ms s t)) (sym q) (Owed.refused (WrongRead.room p n))
 
-  pub reads : ReadOwes text (lent h o s t) (readTable text h o s t)
+  pub reads : ReadOwes text (lent h o ms s t) (readTable text h o ms s t)
   reads = go (parse text) refl
     where
-      go : (P : Parse) → parse text ≡ P → ReadOwes text (lent h o s t) (readTable text h o s t)
+      go : (P : Parse) → parse text ≡ P → ReadOwes text (lent h o ms s t) (readTable text h o ms s t)
       go (Whole u) e =
           let p = read-permitted text u e in
-          of-table p (roomFor (headerOf (tableOf (p .measure) (p .table))) (length h) (length o) (length s) (length t)) refl
+          of-table p (roomFor (headerOf (tableOf (p .measure) (p .table))) (length h) (length o) (length ms) (length s) (length t)) refl
       go (Wrong k) e =
-          let q : readTable text h o s t ≡ refusedAt k h o s t = unfold readInto in rw e in
-          subst (ReadOwes text (lent h o s t)) (sym q) (Owed.refused (WrongRead.form k (wrong-unpermitted text k e) (wrong-place text k e)))
+          let q : readTable text h o ms s t ≡ refusedAt k h o ms s t = unfold readInto in rw e in
+          subst (ReadOwes text (lent h o ms s t)) (sym q) (Owed.refused (WrongRead.form k (wrong-unpermitted text k e) (wrong-place text k e)))
 
 -- No two of the three --------------------------------------------------------------------------------------------------------------------------
 
@@ -89,7 +92,7 @@ first-wrong-one text j k a b = go (decLe (suc j) k) (decLe (suc k) j)
 module _ (text : List ℕ) (l : Lent) where
   pub read-or-refused : {r : Refusal} → RightRead text l → ¬ WrongRead text l r
   read-or-refused g (WrongRead.form k n f) = n (g .permitted)
-  read-or-refused g (WrongRead.room p n) = n (subst (λ (c : Columns). Room c (l .heads) (l .own) (l .spans) (l .tails)) (permitted-same text (g .permitted) p) (g .room))
+  read-or-refused g (WrongRead.room p n) = n (subst (λ (c : Columns). Room c (l .heads) (l .own) (l .strikes) (l .spans) (l .tails)) (permitted-same text (g .permitted) p) (g .room))
 
   pub refused-once : {r s : Refusal} → WrongRead text l r → WrongRead text l s → r ≡ s
   refused-once (WrongRead.form j n f) (WrongRead.form k m g) = ap (λ (i : ℕ). Text (record { 0 = i })) (first-wrong-one text j k f g)

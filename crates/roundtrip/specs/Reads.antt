@@ -1,4 +1,4 @@
--- Which texts are read into four lent columns, and by what a text is refused. The paper's "Reading text: 14 at the first text line that breaks a rule …, then 15".
+-- Which texts are read into five lent columns, and by what a text is refused. The paper's "Reading text: 14 at the first text line that breaks a rule …, then 15".
 -- Assumes nothing: these are definitions.
 use mathlib.Core.List.{List}
 use Prim.Native.Nat.{ℕ}
@@ -13,29 +13,31 @@ use Rattle.text.specs.Permitted.{FirstWrong}
 use Rattle.readtable.specs.Read.{ReadOutcome}
 use Rattle.roundtrip.specs.RoundTrip.{Room, headerFor}
 
--- the four columns that are lent to be written
+-- the five columns that are lent to be written
 pub record Lent : Type 0 where
   pub heads : List ℕ
   pub own : List ℕ
+  pub strikes : List ℕ
   pub spans : List ℕ
   pub tails : List ℕ
 
-abbrev pub lent : (h o s t : List ℕ) → Lent
-lent h o s t = record { heads = h; own = o; spans = s; tails = t }
+abbrev pub lent : (h o ms s t : List ℕ) → Lent
+lent h o ms s t = record { heads = h; own = o; strikes = ms; spans = s; tails = t }
 
 -- a permitted text, and columns that have room for its table
 pub record RightRead (text : List ℕ) (l : Lent) : Type 0 where
   pub permitted : Permitted text
-  pub room : Room (closed (permitted .table)) (l .heads) (l .own) (l .spans) (l .tails)
+  pub room : Room (closed (permitted .table)) (l .heads) (l .own) (l .strikes) (l .spans) (l .tails)
 
 -- a text that is not permitted, at the first line that breaks a rule; then a permitted one for which a column is too short
 pub data WrongRead (text : List ℕ) (l : Lent) : Refusal → Type 0 where
   form : (k : ℕ) → ¬ Permitted text → FirstWrong text k → WrongRead text l (Text (record { 0 = k }))
-  room : (p : Permitted text) → ¬ Room (closed (p .table)) (l .heads) (l .own) (l .spans) (l .tails) → WrongRead text l TextRoom
+  room : (p : Permitted text) → ¬ Room (closed (p .table)) (l .heads) (l .own) (l .strikes) (l .spans) (l .tails) → WrongRead text l TextRoom
 
 -- demand 1 of reading: "Reading returns n, the measure and the counts, and writes that many places of each column; the rest keep theirs"
 abbrev pub ReadOwes : (text : List ℕ) → Lent → ReadOutcome → Type 0
 ReadOwes text l x =
     Owed Refused l (RightRead text l) (λ p. Table (headerFor (p .permitted .measure) (closed (p .permitted .table))))
-    (λ p. let c = closed (p .permitted .table) in lent (filled (c .heads) (l .heads)) (filled (c .own) (l .own)) (filled (c .spans) (l .spans)) (filled (c .tails) (l .tails)))
-    (WrongRead text l) (x .answer) (lent (x .heads) (x .own) (x .spans) (x .tails))
+    (λ p. let c = closed (p .permitted .table) in
+    lent (filled (c .heads) (l .heads)) (filled (c .own) (l .own)) (filled (c .strikes) (l .strikes)) (filled (c .spans) (l .spans)) (filled (c .tails) (l .tails)))
+    (WrongRead text l) (x .answer) (lent (x .heads) (x .own) (x .strikes) (x .spans) (x .tails))

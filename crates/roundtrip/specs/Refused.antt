@@ -7,5 +7,5 @@ use Rattle.refusal.specs.declared.Reading.the-variants as reading
 use Rattle.readtable.specs.Read.{ReadOutcome, readOutcome}
 
 -- refused by 14 with a line, and every column as it was
-abbrev pub refusedAt : (line : ℕ) → (h o s t : List ℕ) → ReadOutcome
-refusedAt k h o s t = readOutcome (reading.Refused (Text (record { 0 = k }))) h o s t
+abbrev pub refusedAt : (line : ℕ) → (h o ms s t : List ℕ) → ReadOutcome
+refusedAt k h o ms s t = readOutcome (reading.Refused (Text (record { 0 = k }))) h o ms s t

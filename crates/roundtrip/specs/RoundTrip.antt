@@ -11,10 +11,11 @@ use Rattle.text.specs.Tables.{Table}
 use Rattle.columns.specs.Filled.{filled}
 use Rattle.readtable.specs.Read.{ReadOutcome, readOutcome}
 
--- four columns have room for those of a table
-pub record Room (c : Columns) (h o s t : List ℕ) : Type 0 where
+-- five columns have room for those of a table
+pub record Room (c : Columns) (h o ms s t : List ℕ) : Type 0 where
   pub heads : length (c .heads) ≤ length h
   pub own : length (c .own) ≤ length o
+  pub strikes : length (c .strikes) ≤ length ms
   pub spans : length (c .spans) ≤ length s
   pub tails : length (c .tails) ≤ length t
 
@@ -23,5 +24,6 @@ abbrev pub headerFor : Measure → Columns → Header
 headerFor m c = record { vertices = c .vertices; measure = m; edges = length (c .heads); listed = length (c .tails) }
 
 -- the columns filled from their start with those of a table
-abbrev pub filledWith : Columns → Measure → (h o s t : List ℕ) → ReadOutcome
-filledWith c m h o s t = readOutcome (reading.Table (headerFor m c)) (filled (c .heads) h) (filled (c .own) o) (filled (c .spans) s) (filled (c .tails) t)
+abbrev pub filledWith : Columns → Measure → (h o ms s t : List ℕ) → ReadOutcome
+filledWith c m h o ms s t =
+    readOutcome (reading.Table (headerFor m c)) (filled (c .heads) h) (filled (c .own) o) (filled (c .strikes) ms) (filled (c .spans) s) (filled (c .tails) t)
