@@ -1,5 +1,5 @@
 -- The bytes of each field that a reader tells: where a field is found its bytes stand, and where its bytes stand it is found. Assumes nothing.
-use Prim.Native.Nat.{ℕ, _+_, _*_, _≤_, _<_}
+use Prim.Native.Nat.{ℕ, zero, suc, _+_, _*_, _≤_, _<_}
 use mathlib.Core.Path.{_≡_, refl, sym, _∙_, ap, ap₂, subst}
 use mathlib.Core.List.{List, [], _∷_, _++_, append-assoc}
 use mathlib.Core.Bool.{Bool, true, false}
@@ -8,13 +8,14 @@ use native.Mathlib.Omega.{arith}
 use lib.ListN.{length, getD, drop, length-append}
 use lib.Seq.{append-snoc, drop-cons, drop-drop, drop-append-seam, getD-drop}
 use lib.Dec.{ltb, eqb}
-use borrow.Author.Tests.{lt-ltb, le-ltb, ltb-true, eqb-true, eqb-false, eq-eqb, ne-eqb}
+use borrow.Author.Tests.{lt-ltb, le-ltb, ltb-true, eqb-true, eq-eqb, ne-eqb}
 use Rattle.weights.specs.declared.Measure.{Measure}
 use Rattle.weights.specs.declared.Measure.the-variants.{Cost, Days}
-use Rattle.weights.specs.Figures.{struck, isStruck}
+use Rattle.weights.specs.declared.Mark.{Mark}
+use Rattle.weights.specs.Figures.{greatest, standing, struckMark}
 use Rattle.weights.specs.Choice.{pick}
 use Rattle.columns.specs.Acceptance.{mostVertices}
-use Rattle.text.specs.Render.{digits, default, spoken, word, firstWord, measureText, header, ownText}
+use Rattle.text.specs.Render.{digits, default, spoken, word, firstWord, measureText, header, markText, ownText}
 use Rattle.text.specs.Machine.{digitOf}
 use Rattle.text.proofs.Digits.{pick-by, digits-one, digits-more, by-digits, digit-byte, byte-digit}
 use Rattle.cursor.specs.declared.Found.{Found}
@@ -157,23 +158,25 @@ number-found s rest at limit v e l h =
 -- Own figures --------------------------------------------------------------------------------------------------------------------------------
 
 abbrev WeightText : List ℕ → ℕ → FoundWeight → Type 0
-WeightText s at (Own w next) = drop at s ≡ ownText (w .0) ++ drop next s
+WeightText s at (Own w k next) = drop at s ≡ ownText (w .0) (k .0) ++ drop next s
 WeightText s at NotAWeight = Unit {0}
 
-plain-text : (s : List ℕ) (at : ℕ) (F : Found) → numberAt s at struck ≡ F → WeightText s at (asWeight F)
+-- a number behind the bytes of a mark
+marked-text : (s : List ℕ) (at from : ℕ) (k : Mark) (F : Found) → numberAt s from (greatest + 1) ≡ F → drop at s ≡ markText (k .0) ++ drop from s → WeightText s at (asWeight k F)
 unfolding ownText
-plain-text s at (Number v next) e =
-    let l = number-counts s at struck v next e .0 in
-    rw (ne-eqb v struck (λ q. omega arith)) (number-text s at struck v next e)
-plain-text s at NotANumber e = tt
+marked-text s at from k (Number v next) e q =
+    q ∙ ap (λ (l : List ℕ). markText (k .0) ++ l) (number-text s from (greatest + 1) v next e) ∙ sym (append-assoc (markText (k .0)) (digits v) (drop next s))
+marked-text s at from k NotANumber e q = tt
 
 weight-text-of : (s : List ℕ) (at : ℕ) → WeightText s at (weightAt s at)
-unfolding weightAt ownText
+unfolding weightAt markText
 weight-text-of s at =
-    pick-by (WeightText s at) (eqb (getD s at 0) 45) (λ e. here s at 45 (eqb-true _ _ e) (omega arith)) (λ e. plain-text s at (numberAt s at struck) refl)
+    pick-by (WeightText s at) (eqb (getD s at 0) 45)
+    (λ e. marked-text s at (at + 1) (record { 0 = struckMark }) (numberAt s (at + 1) (greatest + 1)) refl (here s at 45 (eqb-true _ _ e) (omega arith)))
+    (λ e. marked-text s at at (record { 0 = standing }) (numberAt s at (greatest + 1)) refl refl)
 
-pub weight-text : (s : List ℕ) (at o next : ℕ) → weightAt s at ≡ Own (record { 0 = o }) next → drop at s ≡ ownText o ++ drop next s
-weight-text s at o next e = subst (WeightText s at) e (weight-text-of s at)
+pub weight-text : (s : List ℕ) (at o k next : ℕ) → weightAt s at ≡ Own (record { 0 = o }) (record { 0 = k }) next → drop at s ≡ ownText o k ++ drop next s
+weight-text s at o k next e = subst (WeightText s at) e (weight-text-of s at)
 
 -- a number begins with a digit
 first-digit : (v : ℕ) (rest : List ℕ) → 48 ≤ getD (digits v ++ rest) 0 0
@@ -182,25 +185,26 @@ first-digit =
     (λ d h rest. rw (digits-one d h) (omega arith))
     (λ v d pos h rec rest. rw (digits-more v d pos h, append-snoc (digits v) (48 + d) rest) (rec ((48 + d) ∷ rest)))
 
-module _ (s rest : List ℕ) (at o : ℕ) (h : Stops rest) where
-  plain-found : drop at s ≡ digits o ++ rest → o < struck → weightAt s at ≡ Own (record { 0 = o }) (at + length (digits o))
+module _ (s rest : List ℕ) (at o : ℕ) (h : Stops rest) (l : o ≤ greatest) where
+  plain-found : drop at s ≡ digits o ++ rest → weightAt s at ≡ Own (record { 0 = o }) (record { 0 = standing }) (at + length (digits o))
   unfolding weightAt
-  plain-found e l =
+  plain-found e =
       let b = byte-of s (digits o ++ rest) at e in
       let f = first-digit o rest in
-      rw (ne-eqb (getD s at 0) 45 (λ q. omega arith), number-found s rest at struck o e l h)
+      rw (ne-eqb (getD s at 0) 45 (λ q. omega arith), number-found s rest at (greatest + 1) o e (omega arith) h)
 
-  mark-found : drop at s ≡ 45 ∷ rest → o ≡ struck → weightAt s at ≡ Own (record { 0 = o }) (at + 1)
+  struck-found : drop at s ≡ 45 ∷ (digits o ++ rest) → weightAt s at ≡ Own (record { 0 = o }) (record { 0 = struckMark }) (at + length (45 ∷ digits o))
   unfolding weightAt
-  mark-found e q = rw (byte-of s (45 ∷ rest) at e, q)
+  struck-found e =
+      let place : at + 1 + length (digits o) ≡ at + length (45 ∷ digits o) = omega arith in
+      rw (byte-of s (45 ∷ (digits o ++ rest)) at e, number-found s rest (at + 1) (greatest + 1) o (behind s (45 ∷ []) (digits o ++ rest) at e) (omega arith) h)
+      (ap (Own (record { 0 = o }) (record { 0 = struckMark })) place)
 
-  pub weight-found : drop at s ≡ ownText o ++ rest → o ≤ struck → weightAt s at ≡ Own (record { 0 = o }) (at + length (ownText o))
-  unfolding ownText
-  weight-found e l = go (isStruck o) refl e
-    where
-      go : (b : Bool) → isStruck o ≡ b → drop at s ≡ pick b (45 ∷ []) (digits o) ++ rest → weightAt s at ≡ Own (record { 0 = o }) (at + length (pick b (45 ∷ []) (digits o)))
-      go true q f = mark-found f (eqb-true o struck q)
-      go false q f = let n = eqb-false o struck q in plain-found f (omega arith)
+  pub weight-found : (k : ℕ) → k ≤ struckMark → drop at s ≡ ownText o k ++ rest → weightAt s at ≡ Own (record { 0 = o }) (record { 0 = k }) (at + length (ownText o k))
+  unfolding markText ownText
+  weight-found zero m e = plain-found e
+  weight-found (suc zero) m e = struck-found e
+  weight-found (suc (suc k)) m e = absurd (omega arith)
 
 -- The first line -----------------------------------------------------------------------------------------------------------------------------
 

@@ -44,10 +44,12 @@ module _ (s : List ℕ) (n : ℕ) where
   unfolding edgeText
   line-text {at} {next} {e} l =
       let rec = parts-text (l .parts) in
-      let own = weight-text s (l .from) (e .own) (l .behind-own) (l .own) ∙ ap (λ (z : List ℕ). ownText (e .own) ++ z) (rec .1) in
+      let text = ownText (e .own) (e .mark) in
+      let own = weight-text s (l .from) (e .own) (e .mark) (l .behind-own) (l .own) ∙ ap (λ (z : List ℕ). text ++ z) (rec .1) in
       let spaced = space-text s (l .behind-head) (l .from) (l .space) ∙ ap (λ (z : List ℕ). 32 ∷ z) own in
-      let formed : EdgeFormed n e = record { head = number-counts s at n _ _ (l .head) .0; own = weight-counts s (l .from) _ _ (l .own) .0; tail = rec .0 } in
-      (formed, number-text s at n _ _ (l .head) ∙ ap (λ (z : List ℕ). digits (e .head) ++ z) spaced ∙ join-line (digits (e .head)) (ownText (e .own)) (tailText (e .tail)) (drop next s))
+      let counts = weight-counts s (l .from) _ _ _ (l .own) in
+      let formed : EdgeFormed n e = record { head = number-counts s at n _ _ (l .head) .0; own = counts .0; mark = counts .1; tail = rec .0 } in
+      (formed, number-text s at n _ _ (l .head) ∙ ap (λ (z : List ℕ). digits (e .head) ++ z) spaced ∙ join-line (digits (e .head)) text (tailText (e .tail)) (drop next s))
 
   lines-text : {at : ℕ} {es : List Edge} → Lines s n at es → All (EdgeFormed n) es × (drop at s ≡ edgesText es)
   unfolding edgesText
@@ -93,18 +95,19 @@ module _ (s : List ℕ) (n : ℕ) where
     line-found =
         let more = (tailText (e .tail) ++ 10 ∷ []) ++ rest in
         let space = at + length (digits (e .head)) in
-        let behind-own = space + 1 + length (ownText (e .own)) in
-        let a : drop at s ≡ digits (e .head) ++ (32 ∷ (ownText (e .own) ++ more)) = q ∙ sym (join-line (digits (e .head)) (ownText (e .own)) (tailText (e .tail)) rest) in
-        let b : drop space s ≡ 32 ∷ (ownText (e .own) ++ more) = behind s (digits (e .head)) _ at a in
-        let c : drop (space + 1) s ≡ ownText (e .own) ++ more = behind s (32 ∷ []) _ space b in
-        let rec = parts-found (e .tail) rest behind-own (f .tail) (behind s (ownText (e .own)) more (space + 1) c) in
+        let text = ownText (e .own) (e .mark) in
+        let behind-own = space + 1 + length text in
+        let a : drop at s ≡ digits (e .head) ++ (32 ∷ (text ++ more)) = q ∙ sym (join-line (digits (e .head)) text (tailText (e .tail)) rest) in
+        let b : drop space s ≡ 32 ∷ (text ++ more) = behind s (digits (e .head)) _ at a in
+        let c : drop (space + 1) s ≡ text ++ more = behind s (32 ∷ []) _ space b in
+        let rec = parts-found (e .tail) rest behind-own (f .tail) (behind s text more (space + 1) c) in
         let found : Line s n at e (rec .0) = record {
           behind-head = space;
           from = space + 1;
           behind-own = behind-own;
-          head = number-found s _ at n (e .head) a (f .head) (space-stops (ownText (e .own) ++ more));
+          head = number-found s _ at n (e .head) a (f .head) (space-stops (text ++ more));
           space = space-found s space _ b;
-          own = weight-found s more (space + 1) (e .own) (tail-stops (e .tail) rest) c (f .own);
+          own = weight-found s more (space + 1) (e .own) (tail-stops (e .tail) rest) (f .own) (e .mark) (f .mark) c;
           parts = rec .1;
         } in
         (rec .0, found, rec .2)
@@ -142,11 +145,11 @@ Short e = length (e .tail) ≤ longestTail
 
 both : {n : ℕ} {es : List Edge} → All (EdgeFormed n) es → All Short es → All (EdgeFits n) es
 both none none = none
-both (one f a) (one h b) = one (record { head = f .head; own = f .own; short = h; tail = f .tail }) (both a b)
+both (one f a) (one h b) = one (record { head = f .head; own = f .own; mark = f .mark; short = h; tail = f .tail }) (both a b)
 
 formed : {n : ℕ} {es : List Edge} → All (EdgeFits n) es → All (EdgeFormed n) es
 formed none = none
-formed (one f a) = one (record { head = f .head; own = f .own; tail = f .tail }) (formed a)
+formed (one f a) = one (record { head = f .head; own = f .own; mark = f .mark; tail = f .tail }) (formed a)
 
 short : {n : ℕ} {es : List Edge} → All (EdgeFits n) es → All Short es
 short none = none

@@ -6,7 +6,7 @@ use mathlib.Core.List.{List, [], _∷_}
 use mathlib.Core.Bool.{true, false}
 use lib.ListN.{length}
 use lib.Dec.{leb}
-use Rattle.weights.specs.Figures.{struck}
+use Rattle.weights.specs.Figures.{greatest, struckMark}
 use Rattle.columns.specs.Acceptance.{mostVertices, mostEdges, mostListed, longestTail, allBelow}
 use Rattle.text.specs.Tables.{Edge, Table, listedInAll}
 use Rattle.text.specs.Rows.{All}
@@ -22,14 +22,14 @@ pub data Parts (s : List ℕ) (n : ℕ) : (at : ℕ) → List ℕ → (next : �
   no-part : {at next : ℕ} → separatorAt s at ≡ LineEnd next → Parts s n at [] next
   part : {at from after next v : ℕ} {vs : List ℕ} → separatorAt s at ≡ Space from → numberAt s from n ≡ Number v after → Parts s n after vs next → Parts s n at (v ∷ vs) next
 
--- a table line: head, single space, own figure, listed parts
+-- a table line: head, single space, own figure with its mark, listed parts
 pub record Line (s : List ℕ) (n at : ℕ) (e : Edge) (next : ℕ) : Type 0 where
   pub behind-head : ℕ
   pub from : ℕ
   pub behind-own : ℕ
   pub head : numberAt s at n ≡ Number (e .head) behind-head
   pub space : separatorAt s behind-head ≡ Space from
-  pub own : weightAt s from ≡ Own (record { 0 = e .own }) behind-own
+  pub own : weightAt s from ≡ Own (record { 0 = e .own }) (record { 0 = e .mark }) behind-own
   pub parts : Parts s n behind-own (e .tail) next
 
 -- table lines up to the text's end
@@ -46,7 +46,8 @@ pub record Walks (s : List ℕ) (t : Table) : Type 0 where
 -- every number of a table is within its limit: a text of such a table is permitted in form
 pub record EdgeFormed (n : ℕ) (e : Edge) : Type 0 where
   pub head : e .head < n
-  pub own : e .own ≤ struck
+  pub own : e .own ≤ greatest
+  pub mark : e .mark ≤ struckMark
   pub tail : allBelow n (e .tail) ≡ true
 
 pub record Formed (t : Table) : Type 0 where
