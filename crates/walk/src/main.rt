@@ -8,6 +8,7 @@ use reader::line_from;
 use reading::FirstLine;
 use reading::Line;
 use reading::first_line;
+use weights::Mark;
 use weights::Vertex;
 use weights::Weight;
 ghost use mathlib.Core.Path.{_≡_};
@@ -24,19 +25,18 @@ fn put_number(v: u64) {
     io::print_decimal(STDOUT_FILENO, v);
 }
 
-// `-` if struck.
-fn put_own(own: Weight) {
-    if own.is_struck() {
+// The own figure, of a struck line behind `-`.
+fn put_own(own: Weight, mark: Mark) {
+    if mark.is_struck() {
         io::write_all(STDOUT_FILENO, b"-");
-        return;
     }
     put_number(own.0);
 }
 
-fn put_line(head: Vertex, own: Weight, listed: usize) {
+fn put_line(head: Vertex, own: Weight, mark: Mark, listed: usize) {
     put_number(head.0);
     io::write_all(STDOUT_FILENO, b" ");
-    put_own(own);
+    put_own(own, mark);
     io::write_all(STDOUT_FILENO, b" ");
     put_number(listed as u64);
     io::write_all(STDOUT_FILENO, b"\n");
@@ -65,10 +65,10 @@ fn walk(text: &[u8]) -> Walked
             return Walked::Stopped(here);
         }
         let line = line_from(text, at, n, MOST_LISTED - listed);
-        let Line::Edge(head, own, count, next) = line else {
+        let Line::Edge(head, own, mark, count, next) = line else {
             return Walked::Stopped(here);
         };
-        put_line(head, own, count);
+        put_line(head, own, mark, count);
         edges += 1;
         listed += count;
         at = next;

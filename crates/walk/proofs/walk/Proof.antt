@@ -55,14 +55,14 @@ returns-3 c =
 next-line : (c : tie.After-known-told2 Inv-loop μ-loop) →
     let l = c .before .before .before .before .before .before in
     let f = l .before .before .first .given .0 in
-    let r = c .before .line .given .0 in
+    let r = c .before .line .given .0 .1 .1 .1 in
     let text = l .before .before .before .before .before .before .args .text .now in
-    (l .loop .at < r .1 .1 .1 .0) × (r .1 .1 .0 ≤ mostListed - l .loop .listed) × Scanning text (f .0) (l .loop .inv .0) (r .1 .1 .1 .0) (l .loop .edges + 1) (l .loop .listed + r .1 .1 .0)
+    (l .loop .at < r .1 .0) × (r .0 ≤ mostListed - l .loop .listed) × Scanning text (f .0) (l .loop .inv .0) (r .1 .0) (l .loop .edges + 1) (l .loop .listed + r .0)
 next-line c =
     let a = c .before .before .before in
     let e = a .before in
     let l = e .before .before in
-    line-next _ _ _ _ _ _ (l .loop .inv .1) (e .before .loop-test .taken) (e .if1 .left) longestTail refl _ (a .line-from .ensures) _ _ _ _ (c .before .line .given .1)
+    line-next _ _ _ _ _ _ (l .loop .inv .1) (e .before .loop-test .taken) (e .if1 .left) longestTail refl _ (a .line-from .ensures) _ _ _ _ _ (c .before .line .given .1)
 
 add-edges : tie.Need-add-edges Inv-loop μ-loop
 add-edges c = let f = next-line (c .before) .2 .few in omega arith
