@@ -1,5 +1,5 @@
--- The index of a table has the properties of `Told`, and nothing else has: so 19 turns away exactly what is no index of the table. Repricing and striking keep it.
--- Assumes nothing.
+-- The index of a table has the properties of `Told`, and nothing else has: so 19 turns away exactly what is no index of the table. Repricing, striking and restoring keep
+-- it. Assumes nothing.
 use mathlib.Core.Path.{_≡_, refl, sym, _∙_, ap, subst, subst₂}
 use mathlib.Core.Bool.{true}
 use mathlib.Core.List.{List, [], _++_, append-nil}
@@ -13,7 +13,7 @@ use lib.ListN.{length, getD, take, length-take}
 use lib.Seq.{drop-nil, take-length, take-take, ext-getD}
 use Rattle.weights.proofs.Choice.{both-true}
 use Rattle.refusal.specs.declared.Acceptance.the-variants.{Accepted}
-use Rattle.columns.specs.Columns.{Columns, tailAt, withOwn}
+use Rattle.columns.specs.Columns.{Columns, tailAt, withOwn, withStrike}
 use Rattle.columns.specs.Acceptance.{acceptance}
 use Rattle.columns.specs.Filled.{filled}
 use Rattle.columns.specs.Same.{equal}
@@ -215,6 +215,9 @@ module _ (c : Columns) (accepted : acceptance c ≡ Accepted) where
         rw (q .0, b, equal-refl (indexOf c .pairs)) (equal-refl (indexOf c .list)),
   )
 
--- the own figures are not looked at: repricing and striking keep the index
+-- own figures and strike marks are not looked at: repricing, striking and restoring keep the index
 pub index-kept : (c : Columns) (e w : ℕ) → indexOf (withOwn c e w) ≡ indexOf c
 index-kept c e w = refl
+
+pub index-kept-marked : (c : Columns) (e s : ℕ) → indexOf (withStrike c e s) ≡ indexOf c
+index-kept-marked c e s = refl

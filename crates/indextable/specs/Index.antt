@@ -45,7 +45,7 @@ indexRoom n k index list = test (leb (2 * n) (length index)) ColumnRoom (test (l
 unfoldable pub heldAcceptance : (n more : ℕ) → TableIndex → (index list : List ℕ) → Acceptance
 heldAcceptance n more x index list = andThen (indexRoom n (length (x .list) + more) index list) (test (beginWith n x index list) WrongIndex answer.Accepted)
 
--- 1 to 6, then 18
+-- 1 to 6 and 21, then 18
 unfoldable pub indexAcceptance : Columns → (index list : List ℕ) → Acceptance
 indexAcceptance c index list = andThen (acceptance c) (indexRoom (c .vertices) (length (indexOf c .list)) index list)
 

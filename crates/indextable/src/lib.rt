@@ -67,16 +67,17 @@ pub fn index_table(
     n: u64,
     heads: &[u64],
     own: &[u64],
+    strikes: &[u64],
     spans: &[u64],
     tails: &[u64],
     index: &mut [u64],
     list: &mut [u64],
 ) -> Extent
     ensures { λ r.
-        let c = columns n (now (heads .entry)) (now (own .entry)) (now (spans .entry)) (now (tails .entry)) in
+        let c = columns n (now (heads .entry)) (now (own .entry)) (now (strikes .entry)) (now (spans .entry)) (now (tails .entry)) in
         ⌜ record { result = r; index = now (index .exit); list = now (list .exit) } ≡ tableIndexed c (now (index .entry)) (now (list .entry)) ⌝ }
 {
-    let a = columns::check_table(n, heads, own, spans, tails);
+    let a = columns::check_table(n, heads, own, strikes, spans, tails);
     match a {
         Acceptance::Refused(r) => return Extent::Refused(r),
         Acceptance::Accepted => {}

@@ -10,10 +10,10 @@ use Rattle.indextable.proofs.index_table.Tie as tie
 
 -- the table as it came, which is accepted
 abbrev tableOf : tie.Start → Columns
-tableOf c = let a = c .args in columns (a .n) (a .heads .now) (a .own .now) (a .spans .now) (a .tails .now)
+tableOf c = let a = c .args in columns (a .n) (a .heads .now) (a .own .now) (a .strikes .now) (a .spans .now) (a .tails .now)
 
 abbrev entry : tie.After-enum-told → tie.Start
-entry c = c .before .before .before .before .before .before .before .before .before
+entry c = c .before .before .before .before .before .before .before .before .before .before
 
 accepted : (c : tie.After-enum-told) → acceptance (tableOf (entry c)) ≡ Accepted
 accepted c = sym (c .before .before .check-table .ensures) ∙ c .enum-told .given .1
