@@ -30,7 +30,7 @@ use Rattle.indextable.proofs.Told.{index-told}
 use Rattle.append.specs.Appending.{newCounts, Grown, grown, appendAcceptance, appended}
 use Rattle.append.specs.Leaves.{Extended, Behind}
 use Rattle.append.proofs.Checks.{append-passed}
-use Rattle.append.proofs.Storing.{next-accepted, heads-next, own-next, spans-next, tails-next, cut-is}
+use Rattle.append.proofs.Storing.{next-accepted, heads-next, own-next, strikes-next, spans-next, tails-next, cut-is}
 
 -- what was not filled
 kept-behind : (new old : List ℕ) (n : ℕ) → length new ≡ n → drop n (filled new old) ≡ drop n old
@@ -86,6 +86,7 @@ module _ (m : Measure) (c : Columns) (k : Counts) (a : Answers) (index list : Li
         record {
           heads = kept-behind (t .heads) (c .heads) (k .edges + 1) (heads-next c k a l h);
           own = kept-behind (t .own) (c .own) (k .edges + 1) (own-next c k a l h);
+          strikes = kept-behind (t .strikes) (c .strikes) (k .edges + 1) (strikes-next c k a l h);
           spans = kept-behind (t .spans) (c .spans) (2 * (k .edges + 1)) (spans-next c k a l h);
           tails = kept-behind (t .tails) (c .tails) _ (tails-next c k a l h);
           pairs = kept-behind (indexOf t .pairs) index (2 * t .vertices) n;

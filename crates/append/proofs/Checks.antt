@@ -60,13 +60,15 @@ counts-passed c k size p =
     let t6 = test-passed _ _ _ (t5 .1) in
     let t7 = test-passed _ _ _ (t6 .1) in
     let t8 = test-passed _ _ _ (t7 .1) in
+    let t9 = test-passed _ _ _ (t8 .1) in
     record {
       few = leb-true _ _ (t1 .0);
       heads = leb-true _ _ (t2 .0);
       own = leb-true _ _ (t3 .0);
-      tails = leb-true _ _ (t6 .0);
-      listed = leb-true _ _ (t7 .0);
-      spanned = record { spans = leb-true _ _ (t5 .0); edges = ltb-true _ _ (t4 .0); listed = leb-true _ _ (t8 .0) };
+      strikes = leb-true _ _ (t4 .0);
+      tails = leb-true _ _ (t7 .0);
+      listed = leb-true _ _ (t8 .0);
+      spanned = record { spans = leb-true _ _ (t6 .0); edges = ltb-true _ _ (t5 .0); listed = leb-true _ _ (t9 .0) };
     }
 
 pub line-passed : (n : ℕ) (e : Hyperedge) (l : NewLine) → newLineAcceptance n e l ≡ Accepted → RightLine n l
@@ -76,7 +78,14 @@ line-passed n e l p =
     let t2 = test-passed _ _ _ (t1 .1) in
     let t3 = test-passed _ _ _ (t2 .1) in
     let t4 = test-passed _ _ _ (t3 .1) in
-    record { head = ltb-true _ _ (t1 .0); own = leb-true _ _ (t2 .0); short = leb-true _ _ (t3 .0); listed = below-at n (l .tail) (t4 .0) }
+    let t5 = test-passed _ _ _ (t4 .1) in
+    record {
+      head = ltb-true _ _ (t1 .0);
+      own = leb-true _ _ (t2 .0);
+      mark = leb-true _ _ (t3 .0);
+      short = leb-true _ _ (t4 .0);
+      listed = below-at n (l .tail) (t5 .0);
+    }
 
 pub sizes-passed : (n : ℕ) (a : Answers) → sizedAcceptance n a ≡ Accepted → Sized n a
 unfolding sizedAcceptance
@@ -86,14 +95,16 @@ sizes-passed n a p =
     let t3 = test-passed _ _ _ (t2 .1) in
     record { weights = eqb-true _ _ (t1 .0); depths = eqb-true _ _ (t2 .0); edges = eqb-true _ _ (t3 .0) }
 
-pub room-passed : (heads own spans tails : List ℕ) (m size : ℕ) → roomAcceptance heads own spans tails m size ≡ Accepted → Storable heads own spans tails m (endIn spans m) size
+pub room-passed : (heads own strikes spans tails : List ℕ) (m size : ℕ) → roomAcceptance heads own strikes spans tails m size ≡ Accepted
+    → Storable heads own strikes spans tails m (endIn spans m) size
 unfolding roomAcceptance
-room-passed heads own spans tails m size p =
+room-passed heads own strikes spans tails m size p =
     let t1 = test-passed _ _ _ p in
     let t2 = test-passed _ _ _ (t1 .1) in
     let t3 = test-passed _ _ _ (t2 .1) in
     let t4 = test-passed _ _ _ (t3 .1) in
-    record { heads = ltb-true _ _ (t1 .0); own = ltb-true _ _ (t2 .0); spans = leb-true _ _ (t3 .0); tails = leb-true _ _ (t4 .0) }
+    let t5 = test-passed _ _ _ (t4 .1) in
+    record { heads = ltb-true _ _ (t1 .0); own = ltb-true _ _ (t2 .0); strikes = ltb-true _ _ (t3 .0); spans = leb-true _ _ (t4 .0); tails = leb-true _ _ (t5 .0) }
 
 module _ (c : Columns) (k : Counts) (l : NewLine) where
   -- refused by the counts, by a line that stands, or else as the new line is
@@ -119,7 +130,7 @@ module _ (c : Columns) (k : Counts) (l : NewLine) where
 
   module _ (a : Answers) where
     abbrev room : Acceptance
-    room = roomAcceptance (c .heads) (c .own) (c .spans) (c .tails) (k .edges) (length (l .tail))
+    room = roomAcceptance (c .heads) (c .own) (c .strikes) (c .spans) (c .tails) (k .edges) (length (l .tail))
 
     pub columns-lines : (r : Refusal) → linesAcceptance c k l ≡ Refused r → Refused r ≡ columnsAcceptance c k a l
     unfolding columnsAcceptance
@@ -144,7 +155,7 @@ module _ (c : Columns) (k : Counts) (l : NewLine) where
           table = g .1 .0;
           line = g .1 .1;
           sized = sizes-passed (c .vertices) a (u .0);
-          placed = room-passed (c .heads) (c .own) (c .spans) (c .tails) (k .edges) (length (l .tail)) (u .1);
+          placed = room-passed (c .heads) (c .own) (c .strikes) (c .spans) (c .tails) (k .edges) (length (l .tail)) (u .1);
         }
 
 -- the table in use and the answers, for the checks that follow
@@ -177,7 +188,7 @@ module _ (m : Measure) (c : Columns) (k : Counts) (a : Answers) (index list : Li
   unfolding appendAcceptance columnsAcceptance linesAcceptance
   chain =
       flat (countsAcceptance c k (length (l .tail))) (acceptance (inUse c k)) (newLineAcceptance (c .vertices) (record { 0 = k .edges }) l) (sizedAcceptance (c .vertices) a)
-      (roomAcceptance (c .heads) (c .own) (c .spans) (c .tails) (k .edges) (length (l .tail))) rest
+      (roomAcceptance (c .heads) (c .own) (c .strikes) (c .spans) (c .tails) (k .edges) (length (l .tail))) rest
 
   pub append-columns : (r : Refusal) → columnsAcceptance c k a l ≡ Refused r → Refused r ≡ appendAcceptance m c k a index list l
   append-columns r p = ap (λ (x : Acceptance). andThen x rest) (sym p) ∙ chain

@@ -25,6 +25,7 @@ lent =
     columns 5
     (0 ∷ 1 ∷ 2 ∷ 2 ∷ 3 ∷ 4 ∷ 90 ∷ 91 ∷ [])
     (1200 ∷ 300 ∷ 500 ∷ 2100 ∷ 0 ∷ 10 ∷ 92 ∷ [])
+    (0 ∷ 0 ∷ 0 ∷ 0 ∷ 0 ∷ 0 ∷ 86 ∷ 87 ∷ [])
     (0 ∷ 0 ∷ 0 ∷ 0 ∷ 0 ∷ 2 ∷ 2 ∷ 0 ∷ 2 ∷ 3 ∷ 5 ∷ 1 ∷ 93 ∷ 94 ∷ 95 ∷ [])
     (0 ∷ 1 ∷ 2 ∷ 1 ∷ 1 ∷ 4 ∷ 96 ∷ 97 ∷ 98 ∷ [])
 
@@ -33,6 +34,7 @@ grows =
     columns 5
     (0 ∷ 1 ∷ 2 ∷ 2 ∷ 3 ∷ 4 ∷ 4 ∷ 91 ∷ [])
     (1200 ∷ 300 ∷ 500 ∷ 2100 ∷ 0 ∷ 10 ∷ 7 ∷ [])
+    (0 ∷ 0 ∷ 0 ∷ 0 ∷ 0 ∷ 0 ∷ 0 ∷ 87 ∷ [])
     (0 ∷ 0 ∷ 0 ∷ 0 ∷ 0 ∷ 2 ∷ 2 ∷ 0 ∷ 2 ∷ 3 ∷ 5 ∷ 1 ∷ 6 ∷ 2 ∷ 95 ∷ [])
     (0 ∷ 1 ∷ 2 ∷ 1 ∷ 1 ∷ 4 ∷ 1 ∷ 1 ∷ 98 ∷ [])
 
@@ -42,7 +44,7 @@ before = answers (1200 ∷ 300 ∷ 2000 ∷ 2600 ∷ 0 ∷ []) (1 ∷ 1 ∷ 2 �
 abbrev after : Answers
 after = answers (1200 ∷ 300 ∷ 2000 ∷ 2600 ∷ 607 ∷ []) (1 ∷ 1 ∷ 2 ∷ 3 ∷ 2 ∷ []) (0 ∷ 1 ∷ 2 ∷ 4 ∷ 6 ∷ [])
 
-pub appended-to-the-paper : appended Cost lent (record { edges = 6; listed = 6 }) before (0 ∷ 1 ∷ 1 ∷ 2 ∷ 3 ∷ 1 ∷ 4 ∷ 0 ∷ 4 ∷ 1 ∷ 99 ∷ []) (2 ∷ 2 ∷ 4 ∷ 4 ∷ 5 ∷ 89 ∷ 88 ∷ []) (newLine 4 7 (1 ∷ 1 ∷ []))
+pub appended-to-the-paper : appended Cost lent (record { edges = 6; listed = 6 }) before (0 ∷ 1 ∷ 1 ∷ 2 ∷ 3 ∷ 1 ∷ 4 ∷ 0 ∷ 4 ∷ 1 ∷ 99 ∷ []) (2 ∷ 2 ∷ 4 ∷ 4 ∷ 5 ∷ 89 ∷ 88 ∷ []) (newLine 4 7 0 (1 ∷ 1 ∷ []))
     ≡ leaves (Counts (record { edges = 7; listed = 8 })) grows after (0 ∷ 1 ∷ 1 ∷ 3 ∷ 4 ∷ 1 ∷ 5 ∷ 0 ∷ 5 ∷ 1 ∷ 99 ∷ []) (2 ∷ 2 ∷ 4 ∷ 6 ∷ 4 ∷ 5 ∷ 88 ∷ [])
 unfolding appended appendAcceptance countsAcceptance newLineAcceptance sizedAcceptance roomAcceptance beginWith indexRoom filled equal sameAnswers acceptance edgesAcceptance edgeAcceptance allBelow member usesBelow useList pairs answersOf best-first turns turn next opening offerOf noneZero aheadOf weigh fold each greatestDepth
 appended-to-the-paper = refl

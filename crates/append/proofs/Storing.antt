@@ -78,6 +78,9 @@ module _ (c : Columns) (k : Counts) (a : Answers) (l : NewLine) (g : Appendable 
   own-stored : set (c .own) (k .edges) (l .own) ≡ filled (next .own) (c .own)
   own-stored = set-start (k .edges) (c .own) (l .own) (g .placed .own)
 
+  strikes-stored : set (c .strikes) (k .edges) (l .mark) ≡ filled (next .strikes) (c .strikes)
+  strikes-stored = set-start (k .edges) (c .strikes) (l .mark) (g .placed .strikes)
+
   spans-stored : set (set (c .spans) (2 * k .edges) (newEnd c k)) (2 * k .edges + 1) (length (l .tail)) ≡ filled (next .spans) (c .spans)
   spans-stored =
       set-two (2 * k .edges) (c .spans) (newEnd c k) (length (l .tail)) (g .placed .spans)
@@ -91,31 +94,33 @@ module _ (c : Columns) (k : Counts) (a : Answers) (l : NewLine) (g : Appendable 
       put-start (newEnd c k) (c .tails) (l .tail) (omega (arith, g .placed .tails))
       ∙ ap (λ (z : List ℕ). filled (z ++ l .tail) (c .tails)) start-tails
 
-  pub stored : {hs os ss ts : List ℕ}
+  pub stored : {hs os ks ss ts : List ℕ}
       → hs ≡ set (c .heads) (k .edges) (l .head)
       → os ≡ set (c .own) (k .edges) (l .own)
+      → ks ≡ set (c .strikes) (k .edges) (l .mark)
       → ss ≡ set (set (c .spans) (2 * k .edges) (newEnd c k)) (2 * k .edges + 1) (length (l .tail))
       → ts ≡ take (newEnd c k) (c .tails) ++ filled (l .tail) (drop (newEnd c k) (c .tails))
-      → columns (c .vertices) hs os ss ts ≡ over next c
-  stored p q r t = rw (p ∙ heads-stored, q ∙ own-stored, r ∙ spans-stored, t ∙ tails-stored)
+      → columns (c .vertices) hs os ks ss ts ≡ over next c
+  stored p q s r t = rw (p ∙ heads-stored, q ∙ own-stored, s ∙ strikes-stored, r ∙ spans-stored, t ∙ tails-stored)
 
   -- by the end that was read
   module _ {end : ℕ} (e : end ≡ newEnd c k) where
-    pub storable : Storable (c .heads) (c .own) (c .spans) (c .tails) (k .edges) end (length (l .tail))
-    storable = subst (λ (z : ℕ). Storable (c .heads) (c .own) (c .spans) (c .tails) (k .edges) z (length (l .tail))) (sym e) (g .placed)
+    pub storable : Storable (c .heads) (c .own) (c .strikes) (c .spans) (c .tails) (k .edges) end (length (l .tail))
+    storable = subst (λ (z : ℕ). Storable (c .heads) (c .own) (c .strikes) (c .spans) (c .tails) (k .edges) z (length (l .tail))) (sym e) (g .placed)
 
     pub counts-are : record { edges = k .edges + 1; listed = end + length (l .tail) } ≡ newCounts c k l
     counts-are = λ i. record { edges = k .edges + 1; listed = e i + length (l .tail) }
 
-    pub stored-at : {hs os ss ts : List ℕ}
+    pub stored-at : {hs os ks ss ts : List ℕ}
         → (hs ≡ set (c .heads) (k .edges) (l .head))
         × ((os ≡ set (c .own) (k .edges) (l .own))
-        × ((ss ≡ set (set (c .spans) (2 * k .edges) end) (2 * k .edges + 1) (length (l .tail))) × (ts ≡ take end (c .tails) ++ filled (l .tail) (drop end (c .tails)))))
-        → columns (c .vertices) hs os ss ts ≡ over next c
+        × ((ks ≡ set (c .strikes) (k .edges) (l .mark))
+        × ((ss ≡ set (set (c .spans) (2 * k .edges) end) (2 * k .edges + 1) (length (l .tail))) × (ts ≡ take end (c .tails) ++ filled (l .tail) (drop end (c .tails))))))
+        → columns (c .vertices) hs os ks ss ts ≡ over next c
     stored-at p =
-        stored (p .0) (p .1 .0)
-        (p .1 .1 .0 ∙ ap (λ (z : ℕ). set (set (c .spans) (2 * k .edges) z) (2 * k .edges + 1) (length (l .tail))) e)
-        (p .1 .1 .1 ∙ ap (λ (z : ℕ). take z (c .tails) ++ filled (l .tail) (drop z (c .tails))) e)
+        stored (p .0) (p .1 .0) (p .1 .1 .0)
+        (p .1 .1 .1 .0 ∙ ap (λ (z : ℕ). set (set (c .spans) (2 * k .edges) z) (2 * k .edges + 1) (length (l .tail))) e)
+        (p .1 .1 .1 .1 ∙ ap (λ (z : ℕ). take z (c .tails) ++ filled (l .tail) (drop z (c .tails))) e)
 
   -- the lengths of the longer table are the new counts
   pub heads-next : length (next .heads) ≡ k .edges + 1
@@ -123,6 +128,9 @@ module _ (c : Columns) (k : Counts) (a : Answers) (l : NewLine) (g : Appendable 
 
   pub own-next : length (next .own) ≡ k .edges + 1
   own-next = length-append (held .own) (l .own ∷ []) ∙ ap (λ (z : ℕ). z + 1) (length-take-le (k .edges) (c .own) (g .counted .own))
+
+  pub strikes-next : length (next .strikes) ≡ k .edges + 1
+  strikes-next = length-append (held .strikes) (l .mark ∷ []) ∙ ap (λ (z : ℕ). z + 1) (length-take-le (k .edges) (c .strikes) (g .counted .strikes))
 
   pub spans-next : length (next .spans) ≡ 2 * (k .edges + 1)
   spans-next = omega (arith, length-append (held .spans) (endOf held ∷ length (l .tail) ∷ []), length-take-le (2 * k .edges) (c .spans) (g .counted .spanned .spans))
@@ -135,6 +143,7 @@ module _ (c : Columns) (k : Counts) (a : Answers) (l : NewLine) (g : Appendable 
       rw (
         take-filled (next .heads) (c .heads) (k .edges + 1) heads-next,
         take-filled (next .own) (c .own) (k .edges + 1) own-next,
+        take-filled (next .strikes) (c .strikes) (k .edges + 1) strikes-next,
         take-filled (next .spans) (c .spans) (2 * (k .edges + 1)) spans-next,
         take-filled (next .tails) (c .tails) (newEnd c k + length (l .tail)) tails-next,
       )
@@ -150,6 +159,7 @@ module _ (c : Columns) (k : Counts) (a : Answers) (l : NewLine) (g : Appendable 
         record {
           heads = omega (arith, length-filled (next .heads) (c .heads) (omega (arith, heads-next, s .heads)), s .heads);
           own = omega (arith, length-filled (next .own) (c .own) (omega (arith, own-next, s .own)), s .own);
+          strikes = omega (arith, length-filled (next .strikes) (c .strikes) (omega (arith, strikes-next, s .strikes)), s .strikes);
           spans = omega (arith, length-filled (next .spans) (c .spans) (omega (arith, spans-next, s .spans)), s .spans);
           tails = omega (arith, length-filled (next .tails) (c .tails) (omega (arith, tails-next, s .tails)), s .tails);
           table = ap acceptance cut-is ∙ next-accepted;

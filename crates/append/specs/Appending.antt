@@ -1,12 +1,12 @@
--- Appending a line: its refusals in their order, and what it returns and leaves. Document 02, 2026-01. Assumes nothing: these are definitions.
+-- Appending a line: its refusals in their order, and what it returns and leaves. Document 02, 2026-01 and 2026-02. Assumes nothing: these are definitions.
 use mathlib.Core.List.{List}
 use Prim.Native.Nat.{ℕ, _+_, _*_}
 use lib.ListN.{length}
 use lib.Dec.{ltb, leb, eqb}
 use Rattle.weights.specs.declared.Hyperedge.{Hyperedge}
 use Rattle.weights.specs.declared.Measure.{Measure}
-use Rattle.weights.specs.Figures.{struck}
-use Rattle.refusal.specs.declared.Refusal.the-variants.{TooManyVertices, Lengths, Head, Own, Span, Tail, AnswerLength, ColumnRoom, WrongIndex}
+use Rattle.weights.specs.Figures.{greatest, struckMark}
+use Rattle.refusal.specs.declared.Refusal.the-variants.{TooManyVertices, Lengths, Head, Own, Span, Tail, AnswerLength, ColumnRoom, WrongIndex, StrikeMark}
 use Rattle.refusal.specs.declared.Counts.{Counts}
 use Rattle.refusal.specs.declared.Acceptance.{Acceptance}
 use Rattle.refusal.specs.declared.Acceptance.the-variants as answer
@@ -30,21 +30,23 @@ countsAcceptance c k size =
     test (leb (c .vertices) mostVertices) TooManyVertices
     (test (leb (k .edges) (length (c .heads))) Lengths
     (test (leb (k .edges) (length (c .own))) Lengths
+    (test (leb (k .edges) (length (c .strikes))) Lengths
     (test (ltb (k .edges) mostEdges) Lengths
     (test (leb (2 * k .edges) (length (c .spans))) Lengths
     (test (leb (k .listed) (length (c .tails))) Lengths
     (test (leb (k .listed) mostListed) Lengths
     (test (leb (newEnd c k + size) mostListed) Lengths
-    answer.Accepted)))))))
+    answer.Accepted))))))))
 
--- 3 to 6 of the new line, by its new number; "5 for a new line means only a list above 16"
+-- 3, 4, 21, 5 and 6 of the new line, by its new number; "5 for a new line means only a list above 16"
 unfoldable pub newLineAcceptance : (n : ℕ) → Hyperedge → NewLine → Acceptance
 newLineAcceptance n e l =
     test (ltb (l .head) n) (Head e)
-    (test (leb (l .own) struck) (Own e)
+    (test (leb (l .own) greatest) (Own e)
+    (test (leb (l .mark) struckMark) (StrikeMark e)
     (test (leb (length (l .tail)) longestTail) (Span e)
     (test (allBelow n (l .tail)) (Tail e)
-    answer.Accepted)))
+    answer.Accepted))))
 
 -- 7
 unfoldable pub sizedAcceptance : ℕ → Answers → Acceptance
@@ -55,13 +57,14 @@ sizedAcceptance n a =
     answer.Accepted))
 
 -- 18, of the columns of the table: places for the new line and its needed parts
-unfoldable pub roomAcceptance : (heads own spans tails : List ℕ) → (m size : ℕ) → Acceptance
-roomAcceptance heads own spans tails m size =
+unfoldable pub roomAcceptance : (heads own strikes spans tails : List ℕ) → (m size : ℕ) → Acceptance
+roomAcceptance heads own strikes spans tails m size =
     test (ltb m (length heads)) ColumnRoom
     (test (ltb m (length own)) ColumnRoom
+    (test (ltb m (length strikes)) ColumnRoom
     (test (leb (2 * m + 2) (length spans)) ColumnRoom
     (test (leb (endIn spans m + size) (length tails)) ColumnRoom
-    answer.Accepted)))
+    answer.Accepted))))
 
 -- the order: 1, 2, the lines that stand, the new line, 7, 18, 19, 8. The list must have room for that of the longer table; index and answers are those of the table in use
 unfoldable pub appendAcceptance : Measure → Columns → Counts → Answers → (index list : List ℕ) → NewLine → Acceptance
@@ -70,7 +73,7 @@ appendAcceptance m c k a index list l =
     (andThen (acceptance (inUse c k))
     (andThen (newLineAcceptance (c .vertices) (record { 0 = k .edges }) l)
     (andThen (sizedAcceptance (c .vertices) a)
-    (andThen (roomAcceptance (c .heads) (c .own) (c .spans) (c .tails) (k .edges) (length (l .tail)))
+    (andThen (roomAcceptance (c .heads) (c .own) (c .strikes) (c .spans) (c .tails) (k .edges) (length (l .tail)))
     (andThen (indexRoom (c .vertices) (length (indexOf (longer (inUse c k) l) .list)) index list)
     (test (isIndex (inUse c k) index list) WrongIndex
     (answersAcceptance m (inUse c k) a)))))))
@@ -86,7 +89,7 @@ unfoldable pub columnsAcceptance : Columns → Counts → Answers → NewLine �
 columnsAcceptance c k a l =
     andThen (linesAcceptance c k l)
     (andThen (sizedAcceptance (c .vertices) a)
-    (roomAcceptance (c .heads) (c .own) (c .spans) (c .tails) (k .edges) (length (l .tail))))
+    (roomAcceptance (c .heads) (c .own) (c .strikes) (c .spans) (c .tails) (k .edges) (length (l .tail))))
 
 -- what appending returns, and every column as it leaves it
 pub record Grown : Type 0 where
@@ -105,7 +108,9 @@ newCounts c k l = record { edges = k .edges + 1; listed = newEnd c k + length (l
 
 -- the columns of c begin with those of t; what stands behind stays
 abbrev pub over : (t c : Columns) → Columns
-over t c = columns (c .vertices) (filled (t .heads) (c .heads)) (filled (t .own) (c .own)) (filled (t .spans) (c .spans)) (filled (t .tails) (c .tails))
+over t c =
+    columns (c .vertices) (filled (t .heads) (c .heads)) (filled (t .own) (c .own)) (filled (t .strikes) (c .strikes))
+    (filled (t .spans) (c .spans)) (filled (t .tails) (c .tails))
 
 -- on acceptance table, index and answers are those of the longer table, at the start of their columns; on a refusal nothing has changed
 abbrev pub grown : Measure → Columns → Counts → Answers → (index list : List ℕ) → NewLine → Acceptance → Grown

@@ -23,24 +23,26 @@ pub record Counted (c : Columns) (k : Counts) (size : ℕ) : Type 0 where
   pub few : c .vertices ≤ mostVertices
   pub heads : k .edges ≤ length (c .heads)
   pub own : k .edges ≤ length (c .own)
+  pub strikes : k .edges ≤ length (c .strikes)
   pub tails : k .listed ≤ length (c .tails)
   pub listed : k .listed ≤ mostListed
   pub spanned : Spanned (c .spans) (k .edges) size
 
 -- the places that the line goes into
-pub record Storable (hs os ss ts : List ℕ) (m end size : ℕ) : Type 0 where
+pub record Storable (hs os ks ss ts : List ℕ) (m end size : ℕ) : Type 0 where
   pub heads : m < length hs
   pub own : m < length os
+  pub strikes : m < length ks
   pub spans : 2 * m + 2 ≤ length ss
   pub tails : end + size ≤ length ts
 
--- 1 to 7 passed, and 18 of the table's columns
+-- 1 to 7 and 21 passed, and 18 of the table's columns
 pub record Appendable (c : Columns) (k : Counts) (a : Answers) (l : NewLine) : Type 0 where
   pub counted : Counted c k (length (l .tail))
   pub table : acceptance (inUse c k) ≡ Accepted
   pub line : RightLine (c .vertices) l
   pub sized : Sized (c .vertices) a
-  pub placed : Storable (c .heads) (c .own) (c .spans) (c .tails) (k .edges) (endIn (c .spans) (k .edges)) (length (l .tail))
+  pub placed : Storable (c .heads) (c .own) (c .strikes) (c .spans) (c .tails) (k .edges) (endIn (c .spans) (k .edges)) (length (l .tail))
 
 -- and the index has the places of the longer table's
 pub record Growable (c : Columns) (k : Counts) (a : Answers) (l : NewLine) (index list : List ℕ) : Type 0 where
@@ -58,6 +60,7 @@ pub record Holding (c : Columns) (a : Answers) (tail : List ℕ) : Type 0 where
 pub record Renewable (c : Columns) (k : Counts) (a : Answers) (index list : List ℕ) : Type 0 where
   pub heads : k .edges ≤ length (c .heads)
   pub own : k .edges ≤ length (c .own)
+  pub strikes : k .edges ≤ length (c .strikes)
   pub spans : 2 * k .edges ≤ length (c .spans)
   pub tails : k .listed ≤ length (c .tails)
   pub table : acceptance (inUse c k) ≡ Accepted

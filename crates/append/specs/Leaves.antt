@@ -40,6 +40,7 @@ pub record Extended (m : Measure) (c : Columns) (k : Counts) (l : NewLine) (k′
 pub record Behind (c : Columns) (index list : List ℕ) (k′ : Counts) (o : Grown) (t : Columns) : Type 0 where
   pub heads : drop (k′ .edges) (o .table .heads) ≡ drop (k′ .edges) (c .heads)
   pub own : drop (k′ .edges) (o .table .own) ≡ drop (k′ .edges) (c .own)
+  pub strikes : drop (k′ .edges) (o .table .strikes) ≡ drop (k′ .edges) (c .strikes)
   pub spans : drop (2 * k′ .edges) (o .table .spans) ≡ drop (2 * k′ .edges) (c .spans)
   pub tails : drop (k′ .listed) (o .table .tails) ≡ drop (k′ .listed) (c .tails)
   pub pairs : drop (2 * t .vertices) (o .index) ≡ drop (2 * t .vertices) index

@@ -6,6 +6,7 @@ use refusal::Appending;
 use refusal::Counts;
 use refusal::Refusal;
 use weights::Hyperedge;
+use weights::Mark;
 use weights::Measure;
 use weights::Vertex;
 use weights::Weight;
@@ -66,13 +67,14 @@ fn check_counts(
     n: u64,
     heads: &[u64],
     own: &[u64],
+    strikes: &[u64],
     spans: &[u64],
     tails: &[u64],
     in_use: Counts,
     size: usize,
 ) -> Acceptance
     ensures { λ r.
-        let c = columns n (now (heads .entry)) (now (own .entry)) (now (spans .entry)) (now (tails .entry)) in
+        let c = columns n (now (heads .entry)) (now (own .entry)) (now (strikes .entry)) (now (spans .entry)) (now (tails .entry)) in
         ⌜ r ≡ countsAcceptance c in_use size ⌝ }
 {
     if n > columns::MOST_VERTICES {
@@ -83,6 +85,9 @@ fn check_counts(
         return Acceptance::Refused(Refusal::Lengths);
     }
     if lines > own.len() as u64 {
+        return Acceptance::Refused(Refusal::Lengths);
+    }
+    if lines > strikes.len() as u64 {
         return Acceptance::Refused(Refusal::Lengths);
     }
     if lines >= columns::MOST_EDGES as u64 {
@@ -104,15 +109,25 @@ fn check_counts(
     Acceptance::Refused(Refusal::Lengths)
 }
 
-// 3 to 6 of the new line, which is to have this number.
-fn check_line(n: u64, line: Hyperedge, head: Vertex, figure: Weight, needed: &[u64]) -> Acceptance
-    ensures { λ r. ⌜ r ≡ newLineAcceptance n line (newLine (head .0) (figure .0) (now (needed .entry))) ⌝ }
+// 3, 4, 21, 5 and 6 of the new line, which is to have this number.
+fn check_line(
+    n: u64,
+    line: Hyperedge,
+    head: Vertex,
+    figure: Weight,
+    mark: Mark,
+    needed: &[u64],
+) -> Acceptance
+    ensures { λ r. ⌜ r ≡ newLineAcceptance n line (newLine (head .0) (figure .0) (mark .0) (now (needed .entry))) ⌝ }
 {
     if head.0 >= n {
         return Acceptance::Refused(Refusal::Head(line));
     }
-    if figure.0 > Weight::STRUCK.0 {
+    if figure.0 > Weight::GREATEST.0 {
         return Acceptance::Refused(Refusal::Own(line));
+    }
+    if mark.0 > Mark::STRUCK.0 {
+        return Acceptance::Refused(Refusal::StrikeMark(line));
     }
     if needed.len() as u64 > columns::LONGEST_TAIL {
         return Acceptance::Refused(Refusal::Span(line));
@@ -143,18 +158,22 @@ fn check_sizes(n: u64, weights: &[u64], depths: &[u64], edges: &[u64]) -> Accept
 fn check_room(
     heads: &[u64],
     own: &[u64],
+    strikes: &[u64],
     spans: &[u64],
     tails: &[u64],
     lines: u64,
     size: usize,
 ) -> Acceptance
     requires { ⌜ Spanned (now spans) lines size ⌝ }
-    ensures { λ r. ⌜ r ≡ roomAcceptance (now (heads .entry)) (now (own .entry)) (now (spans .entry)) (now (tails .entry)) lines size ⌝ }
+    ensures { λ r. ⌜ r ≡ roomAcceptance (now (heads .entry)) (now (own .entry)) (now (strikes .entry)) (now (spans .entry)) (now (tails .entry)) lines size ⌝ }
 {
     if lines >= heads.len() as u64 {
         return Acceptance::Refused(Refusal::ColumnRoom);
     }
     if lines >= own.len() as u64 {
+        return Acceptance::Refused(Refusal::ColumnRoom);
+    }
+    if lines >= strikes.len() as u64 {
         return Acceptance::Refused(Refusal::ColumnRoom);
     }
     if 2 * lines + 2 > spans.len() as u64 {
@@ -172,18 +191,20 @@ fn check_lines(
     n: u64,
     heads: &[u64],
     own: &[u64],
+    strikes: &[u64],
     spans: &[u64],
     tails: &[u64],
     in_use: Counts,
     head: Vertex,
     figure: Weight,
+    mark: Mark,
     needed: &[u64],
 ) -> Acceptance
     ensures { λ r.
-        let c = columns n (now (heads .entry)) (now (own .entry)) (now (spans .entry)) (now (tails .entry)) in
-        ⌜ r ≡ linesAcceptance c in_use (newLine (head .0) (figure .0) (now (needed .entry))) ⌝ }
+        let c = columns n (now (heads .entry)) (now (own .entry)) (now (strikes .entry)) (now (spans .entry)) (now (tails .entry)) in
+        ⌜ r ≡ linesAcceptance c in_use (newLine (head .0) (figure .0) (mark .0) (now (needed .entry))) ⌝ }
 {
-    let a = check_counts(n, heads, own, spans, tails, in_use, needed.len());
+    let a = check_counts(n, heads, own, strikes, spans, tails, in_use, needed.len());
     match a {
         Acceptance::Refused(r) => return Acceptance::Refused(r),
         Acceptance::Accepted => {}
@@ -196,6 +217,7 @@ fn check_lines(
         n,
         &heads[..lines],
         &own[..lines],
+        &strikes[..lines],
         &spans[..places],
         &tails[..listed],
     );
@@ -203,7 +225,7 @@ fn check_lines(
         Acceptance::Refused(r) => return Acceptance::Refused(r),
         Acceptance::Accepted => {}
     }
-    check_line(n, Hyperedge(edges), head, figure, needed)
+    check_line(n, Hyperedge(edges), head, figure, mark, needed)
 }
 
 // The same, then 7, and 18 of the table's columns.
@@ -211,6 +233,7 @@ fn check_columns(
     n: u64,
     heads: &[u64],
     own: &[u64],
+    strikes: &[u64],
     spans: &[u64],
     tails: &[u64],
     in_use: Counts,
@@ -219,14 +242,27 @@ fn check_columns(
     edges: &[u64],
     head: Vertex,
     figure: Weight,
+    mark: Mark,
     needed: &[u64],
 ) -> Acceptance
     ensures { λ r.
-        let c = columns n (now (heads .entry)) (now (own .entry)) (now (spans .entry)) (now (tails .entry)) in
+        let c = columns n (now (heads .entry)) (now (own .entry)) (now (strikes .entry)) (now (spans .entry)) (now (tails .entry)) in
         let a = answers (now (weights .entry)) (now (depths .entry)) (now (edges .entry)) in
-        ⌜ r ≡ columnsAcceptance c in_use a (newLine (head .0) (figure .0) (now (needed .entry))) ⌝ }
+        ⌜ r ≡ columnsAcceptance c in_use a (newLine (head .0) (figure .0) (mark .0) (now (needed .entry))) ⌝ }
 {
-    let a = check_lines(n, heads, own, spans, tails, in_use, head, figure, needed);
+    let a = check_lines(
+        n,
+        heads,
+        own,
+        strikes,
+        spans,
+        tails,
+        in_use,
+        head,
+        figure,
+        mark,
+        needed,
+    );
     match a {
         Acceptance::Refused(r) => return Acceptance::Refused(r),
         Acceptance::Accepted => {}
@@ -237,7 +273,7 @@ fn check_columns(
         Acceptance::Accepted => {}
     }
     let lines = in_use.edges;
-    check_room(heads, own, spans, tails, lines, needed.len())
+    check_room(heads, own, strikes, spans, tails, lines, needed.len())
 }
 
 // 18 of the index with a line more, 19 and 8, of an accepted table.
@@ -246,6 +282,7 @@ fn check_held(
     n: u64,
     heads: &[u64],
     own: &[u64],
+    strikes: &[u64],
     spans: &[u64],
     tails: &[u64],
     weights: &[u64],
@@ -255,11 +292,11 @@ fn check_held(
     list: &[u64],
     needed: &[u64],
 ) -> Acceptance
-    requires { let c = columns n (now heads) (now own) (now spans) (now tails) in
+    requires { let c = columns n (now heads) (now own) (now strikes) (now spans) (now tails) in
         let a = answers (now weights) (now depths) (now edges) in
         ⌜ Holding c a (now needed) ⌝ }
     ensures { λ r.
-        let c = columns n (now (heads .entry)) (now (own .entry)) (now (spans .entry)) (now (tails .entry)) in
+        let c = columns n (now (heads .entry)) (now (own .entry)) (now (strikes .entry)) (now (spans .entry)) (now (tails .entry)) in
         let a = answers (now (weights .entry)) (now (depths .entry)) (now (edges .entry)) in
         let more = distinctIn (now (needed .entry)) (length (now (needed .entry))) in
         ⌜ r ≡ andThen (heldAcceptance n more (indexOf c) (now (index .entry)) (now (list .entry))) (answersAcceptance measure c a) ⌝ }
@@ -270,7 +307,18 @@ fn check_held(
         Acceptance::Refused(r) => return Acceptance::Refused(r),
         Acceptance::Accepted => {}
     }
-    if settle::answers_right(measure, n, heads, own, spans, tails, weights, depths, edges) {
+    if settle::answers_right(
+        measure,
+        n,
+        heads,
+        own,
+        strikes,
+        spans,
+        tails,
+        weights,
+        depths,
+        edges,
+    ) {
         return Acceptance::Accepted;
     }
     Acceptance::Refused(Refusal::WrongAnswers)
@@ -282,6 +330,7 @@ fn check(
     n: u64,
     heads: &[u64],
     own: &[u64],
+    strikes: &[u64],
     spans: &[u64],
     tails: &[u64],
     in_use: Counts,
@@ -292,18 +341,20 @@ fn check(
     list: &[u64],
     head: Vertex,
     figure: Weight,
+    mark: Mark,
     needed: &[u64],
 ) -> Acceptance
     ensures { λ r.
-        let c = columns n (now (heads .entry)) (now (own .entry)) (now (spans .entry)) (now (tails .entry)) in
+        let c = columns n (now (heads .entry)) (now (own .entry)) (now (strikes .entry)) (now (spans .entry)) (now (tails .entry)) in
         let a = answers (now (weights .entry)) (now (depths .entry)) (now (edges .entry)) in
-        let l = newLine (head .0) (figure .0) (now (needed .entry)) in
+        let l = newLine (head .0) (figure .0) (mark .0) (now (needed .entry)) in
         ⌜ r ≡ appendAcceptance measure c in_use a (now (index .entry)) (now (list .entry)) l ⌝ }
 {
     let a = check_columns(
         n,
         heads,
         own,
+        strikes,
         spans,
         tails,
         in_use,
@@ -312,6 +363,7 @@ fn check(
         edges,
         head,
         figure,
+        mark,
         needed,
     );
     match a {
@@ -326,6 +378,7 @@ fn check(
         n,
         &heads[..lines],
         &own[..lines],
+        &strikes[..lines],
         &spans[..places],
         &tails[..listed],
         weights,
@@ -341,26 +394,30 @@ fn check(
 fn store_line(
     heads: &mut [u64],
     own: &mut [u64],
+    strikes: &mut [u64],
     spans: &mut [u64],
     tails: &mut [u64],
     line: Hyperedge,
     end: u64,
     head: Vertex,
     figure: Weight,
+    mark: Mark,
     needed: &[u64],
 )
-    requires { ⌜ Storable (now heads) (now own) (now spans) (now tails) (line .0) end (length (now needed)) ⌝ }
+    requires { ⌜ Storable (now heads) (now own) (now strikes) (now spans) (now tails) (line .0) end (length (now needed)) ⌝ }
     ensures { λ r.
         let m = line .0 in
         let h = now (heads .exit) ≡ set (now (heads .entry)) m (head .0) in
         let o = now (own .exit) ≡ set (now (own .entry)) m (figure .0) in
+        let k = now (strikes .exit) ≡ set (now (strikes .entry)) m (mark .0) in
         let s = now (spans .exit) ≡ set (set (now (spans .entry)) (2 * m) end) (2 * m + 1) (length (now (needed .entry))) in
         let t = now (tails .exit) ≡ take end (now (tails .entry)) ++ filled (now (needed .entry)) (drop end (now (tails .entry))) in
-        ⌜ h × (o × (s × t)) ⌝ }
+        ⌜ h × (o × (k × (s × t))) ⌝ }
 {
     let i = line.0 as usize;
     heads[i] = head.0;
     own[i] = figure.0;
+    strikes[i] = mark.0;
     spans[2 * i] = end;
     spans[2 * i + 1] = needed.len() as u64;
     let from = end as usize;
@@ -373,6 +430,7 @@ fn renew(
     n: u64,
     heads: &[u64],
     own: &[u64],
+    strikes: &[u64],
     spans: &[u64],
     tails: &[u64],
     in_use: Counts,
@@ -382,11 +440,11 @@ fn renew(
     index: &mut [u64],
     list: &mut [u64],
 )
-    requires { let c = columns n (now heads) (now own) (now spans) (now tails) in
+    requires { let c = columns n (now heads) (now own) (now strikes) (now spans) (now tails) in
         let a = answers (now weights) (now depths) (now edges) in
         ⌜ Renewable c in_use a (now index) (now list) ⌝ }
     ensures { λ r.
-        let t = inUse (columns n (now (heads .entry)) (now (own .entry)) (now (spans .entry)) (now (tails .entry))) in_use in
+        let t = inUse (columns n (now (heads .entry)) (now (own .entry)) (now (strikes .entry)) (now (spans .entry)) (now (tails .entry))) in_use in
         let a′ = answers (now (weights .exit)) (now (depths .exit)) (now (edges .exit)) in
         let i = now (index .exit) ≡ filled (indexOf t .pairs) (now (index .entry)) in
         let l = now (list .exit) ≡ filled (indexOf t .list) (now (list .entry)) in
@@ -406,6 +464,7 @@ fn renew(
         measure,
         &heads[..lines],
         &own[..lines],
+        &strikes[..lines],
         &spans[..places],
         &tails[..listed],
         weights,
@@ -421,6 +480,7 @@ pub fn append(
     n: u64,
     heads: &mut [u64],
     own: &mut [u64],
+    strikes: &mut [u64],
     spans: &mut [u64],
     tails: &mut [u64],
     in_use: Counts,
@@ -431,14 +491,15 @@ pub fn append(
     list: &mut [u64],
     head: Vertex,
     figure: Weight,
+    mark: Mark,
     needed: &[u64],
 ) -> Appending
     ensures { λ r.
-        let c = columns n (now (heads .entry)) (now (own .entry)) (now (spans .entry)) (now (tails .entry)) in
-        let c′ = columns n (now (heads .exit)) (now (own .exit)) (now (spans .exit)) (now (tails .exit)) in
+        let c = columns n (now (heads .entry)) (now (own .entry)) (now (strikes .entry)) (now (spans .entry)) (now (tails .entry)) in
+        let c′ = columns n (now (heads .exit)) (now (own .exit)) (now (strikes .exit)) (now (spans .exit)) (now (tails .exit)) in
         let a = answers (now (weights .entry)) (now (depths .entry)) (now (edges .entry)) in
         let a′ = answers (now (weights .exit)) (now (depths .exit)) (now (edges .exit)) in
-        let l = newLine (head .0) (figure .0) (now (needed .entry)) in
+        let l = newLine (head .0) (figure .0) (mark .0) (now (needed .entry)) in
         let o = leaves r c′ a′ (now (index .exit)) (now (list .exit)) in
         ⌜ o ≡ appended measure c in_use a (now (index .entry)) (now (list .entry)) l ⌝ }
 {
@@ -447,6 +508,7 @@ pub fn append(
         n,
         heads,
         own,
+        strikes,
         spans,
         tails,
         in_use,
@@ -457,6 +519,7 @@ pub fn append(
         list,
         head,
         figure,
+        mark,
         needed,
     );
     match a {
@@ -466,7 +529,19 @@ pub fn append(
     let lines = in_use.edges;
     let end = end_of(lines, spans);
     let line = Hyperedge(lines);
-    store_line(heads, own, spans, tails, line, end, head, figure, needed);
+    store_line(
+        heads,
+        own,
+        strikes,
+        spans,
+        tails,
+        line,
+        end,
+        head,
+        figure,
+        mark,
+        needed,
+    );
     let counts = Counts {
         edges: lines + 1,
         listed: end + needed.len() as u64,
@@ -476,6 +551,7 @@ pub fn append(
         n,
         heads,
         own,
+        strikes,
         spans,
         tails,
         counts,

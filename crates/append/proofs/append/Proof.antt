@@ -14,16 +14,16 @@ use Rattle.append.proofs.append.Tie as tie
 
 -- the columns, the answers and the line as they came; in the other arm everything is accepted
 abbrev tableOf : tie.Start → Columns
-tableOf c = let a = c .args in columns (a .n) (a .heads .now) (a .own .now) (a .spans .now) (a .tails .now)
+tableOf c = let a = c .args in columns (a .n) (a .heads .now) (a .own .now) (a .strikes .now) (a .spans .now) (a .tails .now)
 
 abbrev came : tie.Start → Answers
 came c = let a = c .args in answers (a .weights .now) (a .depths .now) (a .edges .now)
 
 abbrev lineOf : tie.Start → NewLine
-lineOf c = let a = c .args in newLine (a .head .0) (a .figure .0) (a .needed .now)
+lineOf c = let a = c .args in newLine (a .head .0) (a .figure .0) (a .mark .0) (a .needed .now)
 
 abbrev entry : tie.After-enum-told → tie.Start
-entry c = c .before .before .before .before .before .before .before .before .before .before .before .before .before .before .before .before .before .before .before .before .before .before
+entry c = let k = c .before .before in k .before .before .before .before .before .before .before .before .before .before .before .before .before .before .before .before .before .before .before .before .before .before
 
 accepted : (c : tie.After-enum-told) → let s = entry c in let a = s .args in appendAcceptance (a .measure) (tableOf s) (a .in-use) (came s) (a .index .now) (a .list .now) (lineOf s) ≡ Accepted
 accepted c = sym (c .before .before .check .ensures) ∙ c .enum-told .given .1
@@ -34,7 +34,7 @@ ready c = let s = entry c in let a = s .args in append-passed (a .measure) (tabl
 returns : tie.Need-returns
 returns c =
     let k = c .before .before .before in
-    let s = k .before .before .before .before .before .before .before .before .before .before .before .before .before .before .before .before .before .before .before .before in
+    let s = k .before .before .before .before .before .before .before .before .before .before .before .before .before .before .before .before .before .before .before .before .before .before in
     refused-grown (s .args .measure) (tableOf s) (s .args .in-use) (came s) (s .args .index .now) (s .args .list .now) (lineOf s) (sym (k .check .ensures) ∙ c .before .a .given .1)
 
 end-of-requires : tie.Need-end-of-requires
@@ -42,24 +42,26 @@ end-of-requires c κs = let g = ready (c .before) .appendable .counted .spanned 
 
 store-line-requires : tie.Need-store-line-requires
 store-line-requires c κs =
-    let e = c .before .before .before .before in
+    let e = c .before .before .before .before .before in
     let p = e .before .before in
     let s = entry p in
     storable (tableOf s) (s .args .in-use) (came s) (lineOf s) (ready p .appendable) (e .end-of .ensures)
 
-add-t51 : tie.Need-add-t51
-add-t51 c = omega (arith, ready (c .before .before .before .before .before .before .before .before .before .before .before .before .before .before .before) .appendable .counted .spanned .edges)
+add-t57 : tie.Need-add-t57
+add-t57 c =
+    let p = c .before .before .before .before .before .before .before .before .before .before .before .before .before .before .before .before .before .before in
+    omega (arith, ready p .appendable .counted .spanned .edges)
 
-add-t54 : tie.Need-add-t54
-add-t54 c =
-    let p = c .before .before .before .before .before .before .before .before .before .before .before .before .before in
+add-t60 : tie.Need-add-t60
+add-t60 c =
+    let p = c .before .before .before .before .before .before .before .before .before .before .before .before .before .before .before .before in
     let q = p .before .before in
-    omega (arith, ready (q) .appendable .counted .spanned .listed, p .end-of .ensures)
+    omega (arith, ready q .appendable .counted .spanned .listed, p .end-of .ensures)
 
 renew-requires : tie.Need-renew-requires
 renew-requires c κs =
-    let l = c .before .before .before .before .before .before .before .before .before .before .before .before .before .before .before .before .before in
-    let e = l .before .before .before .before .before in
+    let l = c .before .before .before .before .before .before .before .before .before .before .before .before .before .before .before .before .before .before .before .before in
+    let e = l .before .before .before .before .before .before in
     let p = e .before .before in
     let s = entry p in
     let a = s .args in
@@ -71,8 +73,8 @@ renew-requires c κs =
 returns-2 : tie.Need-returns-2
 returns-2 c =
     let r = c .before .before .before .before .before .before .before .before .before .before in
-    let l = r .before .before .before .before .before .before .before .before .before .before .before .before .before .before .before .before .before .before in
-    let e = l .before .before .before .before .before in
+    let l = r .before .before .before .before .before .before .before .before .before .before .before .before .before .before .before .before .before .before .before .before .before in
+    let e = l .before .before .before .before .before .before in
     let p = e .before .before in
     let s = entry p in
     let a = s .args in
@@ -97,13 +99,15 @@ append-spec =
     (λ c. search needs)
     (λ c. search needs)
     (λ c. search needs)
+    (λ c. search needs)
     returns
     (λ c. search needs)
     end-of-requires
     store-line-requires
-    add-t51
-    add-t54
+    add-t57
+    add-t60
     renew-requires
+    (λ c. search needs)
     (λ c. search needs)
     (λ c. search needs)
     (λ c. search needs)

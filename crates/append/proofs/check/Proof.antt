@@ -14,16 +14,16 @@ use Rattle.append.proofs.check.Tie as tie
 
 -- the columns, the answers and the line as they came; in the other arm the columns are accepted
 abbrev tableOf : tie.Start → Columns
-tableOf c = let a = c .args in columns (a .n) (a .heads .now) (a .own .now) (a .spans .now) (a .tails .now)
+tableOf c = let a = c .args in columns (a .n) (a .heads .now) (a .own .now) (a .strikes .now) (a .spans .now) (a .tails .now)
 
 abbrev came : tie.Start → Answers
 came c = let a = c .args in answers (a .weights .now) (a .depths .now) (a .edges .now)
 
 abbrev lineOf : tie.Start → NewLine
-lineOf c = let a = c .args in newLine (a .head .0) (a .figure .0) (a .needed .now)
+lineOf c = let a = c .args in newLine (a .head .0) (a .figure .0) (a .mark .0) (a .needed .now)
 
 abbrev entry : tie.After-enum-told → tie.Start
-entry c = c .before .before .before .before .before .before .before .before .before .before .before .before .before
+entry c = c .before .before .before .before .before .before .before .before .before .before .before .before .before .before
 
 accepted : (c : tie.After-enum-told) → let s = entry c in columnsAcceptance (tableOf s) (s .args .in-use) (came s) (lineOf s) ≡ Accepted
 accepted c = sym (c .before .before .check-columns .ensures) ∙ c .enum-told .given .1
@@ -33,7 +33,7 @@ appendable c = let s = entry c in columns-passed (tableOf s) (s .args .in-use) (
 
 returns : tie.Need-returns
 returns c =
-    let s = c .before .before .before .before .before .before .before .before .before .before .before .before .before .before in
+    let s = c .before .before .before .before .before .before .before .before .before .before .before .before .before .before .before in
     append-columns (s .args .measure) (tableOf s) (s .args .in-use) (came s) _ _ (lineOf s) _ (sym (c .before .before .before .check-columns .ensures) ∙ c .before .a .given .1)
 
 mul-places : tie.Need-mul-places
@@ -46,17 +46,20 @@ slice-aggregate-check-held-2 : tie.Need-slice-aggregate-check-held-2
 slice-aggregate-check-held-2 c = sym (length-take-le _ _ (appendable (c .before .before) .counted .own))
 
 slice-aggregate-check-held-3 : tie.Need-slice-aggregate-check-held-3
-slice-aggregate-check-held-3 c = sym (length-take-le _ _ (appendable (c .before .before .before) .counted .spanned .spans))
+slice-aggregate-check-held-3 c = sym (length-take-le _ _ (appendable (c .before .before .before) .counted .strikes))
 
 slice-aggregate-check-held-4 : tie.Need-slice-aggregate-check-held-4
-slice-aggregate-check-held-4 c = sym (length-take-le _ _ (appendable (c .before .before .before .before) .counted .tails))
+slice-aggregate-check-held-4 c = sym (length-take-le _ _ (appendable (c .before .before .before .before) .counted .spanned .spans))
+
+slice-aggregate-check-held-5 : tie.Need-slice-aggregate-check-held-5
+slice-aggregate-check-held-5 c = sym (length-take-le _ _ (appendable (c .before .before .before .before .before) .counted .tails))
 
 check-held-requires : tie.Need-check-held-requires
-check-held-requires c κs = appendable-holding (appendable (c .before .before .before .before))
+check-held-requires c κs = appendable-holding (appendable (c .before .before .before .before .before))
 
 returns-2 : tie.Need-returns-2
 returns-2 c =
-    let p = c .before .before .before .before .before in
+    let p = c .before .before .before .before .before .before in
     let s = entry p in
     append-held (s .args .measure) (tableOf s) (s .args .in-use) (came s) (s .args .index .now) (s .args .list .now) (lineOf s) (accepted p) (c .check-held .ensures)
 
@@ -73,5 +76,6 @@ check-spec =
     slice-aggregate-check-held-2
     slice-aggregate-check-held-3
     slice-aggregate-check-held-4
+    slice-aggregate-check-held-5
     check-held-requires
     returns-2)

@@ -43,25 +43,29 @@ returns-7 : tie.Need-returns-7
 unfolding countsAcceptance
 returns-7 c = search tests
 
+returns-8 : tie.Need-returns-8
+unfolding countsAcceptance
+returns-8 c = search tests
+
 -- past the others the end alone is left to be looked at
-abbrev last : tie.Else7 → Acceptance
+abbrev last : tie.Else8 → Acceptance
 last c =
-    let a = c .before .before .before .before .before .before .before .before .before .before .before .args in
+    let a = c .before .before .before .before .before .before .before .before .before .before .before .before .before .args in
     test (leb (endIn (a .spans .now) (a .in-use .edges) + a .size) mostListed) Lengths Accepted
 
-tested : (c : tie.Else7) → let a = c .before .before .before .before .before .before .before .before .before .before .before .args in
-    last c ≡ countsAcceptance (columns (a .n) (a .heads .now) (a .own .now) (a .spans .now) (a .tails .now)) (a .in-use) (a .size)
+tested : (c : tie.Else8) → let a = c .before .before .before .before .before .before .before .before .before .before .before .before .before .args in
+    last c ≡ countsAcceptance (columns (a .n) (a .heads .now) (a .own .now) (a .strikes .now) (a .spans .now) (a .tails .now)) (a .in-use) (a .size)
 unfolding countsAcceptance
 tested c = search tests
 
-returns-8 : tie.Need-returns-8
-returns-8 c =
-    let t = sym (c .before .end-fits .ensures) ∙ c .if8 .taken in
-    ap (λ (b : Bool). test b Lengths Accepted) (sym t) ∙ tested (c .before .before)
-
 returns-9 : tie.Need-returns-9
 returns-9 c =
-    let t = sym (c .before .end-fits .ensures) ∙ c .if8 .left in
+    let t = sym (c .before .end-fits .ensures) ∙ c .if9 .taken in
+    ap (λ (b : Bool). test b Lengths Accepted) (sym t) ∙ tested (c .before .before)
+
+returns-10 : tie.Need-returns-10
+returns-10 c =
+    let t = sym (c .before .end-fits .ensures) ∙ c .if9 .left in
     ap (λ (b : Bool). test b Lengths Accepted) (sym t) ∙ tested (c .before .before)
 
 pub check-counts-spec : {M : Type 1} → statement M
@@ -72,10 +76,11 @@ check-counts-spec =
     returns-2
     returns-3
     returns-4
-    (λ c. search needs)
     returns-5
+    (λ c. search needs)
     returns-6
     returns-7
-    (λ c κs. search needs)
     returns-8
-    returns-9)
+    (λ c κs. search needs)
+    returns-9
+    returns-10)

@@ -20,11 +20,15 @@ returns-3 c = search tests
 
 returns-4 : tie.Need-returns-4
 unfolding newLineAcceptance
-returns-4 c = let t = sym (c .before .all-below .ensures) ∙ c .if4 .taken in search (tests, t)
+returns-4 c = search tests
 
 returns-5 : tie.Need-returns-5
 unfolding newLineAcceptance
-returns-5 c = let t = sym (c .before .all-below .ensures) ∙ c .if4 .left in search (tests, t)
+returns-5 c = let t = sym (c .before .all-below .ensures) ∙ c .if5 .taken in search (tests, t)
+
+returns-6 : tie.Need-returns-6
+unfolding newLineAcceptance
+returns-6 c = let t = sym (c .before .all-below .ensures) ∙ c .if5 .left in search (tests, t)
 
 pub check-line-spec : {M : Type 1} → statement M
-check-line-spec = tie.close (tie.spec returns returns-2 returns-3 (λ c κs. search needs) returns-4 returns-5)
+check-line-spec = tie.close (tie.spec returns returns-2 returns-3 returns-4 (λ c κs. search needs) returns-5 returns-6)

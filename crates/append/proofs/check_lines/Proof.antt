@@ -15,13 +15,13 @@ use Rattle.append.proofs.check_lines.Tie as tie
 
 -- the columns and the line as they came; in the other arm the counts are accepted
 abbrev tableOf : tie.Start → Columns
-tableOf c = let a = c .args in columns (a .n) (a .heads .now) (a .own .now) (a .spans .now) (a .tails .now)
+tableOf c = let a = c .args in columns (a .n) (a .heads .now) (a .own .now) (a .strikes .now) (a .spans .now) (a .tails .now)
 
 abbrev lineOf : tie.Start → NewLine
-lineOf c = let a = c .args in newLine (a .head .0) (a .figure .0) (a .needed .now)
+lineOf c = let a = c .args in newLine (a .head .0) (a .figure .0) (a .mark .0) (a .needed .now)
 
 abbrev entry : tie.After-enum-told → tie.Start
-entry c = c .before .before .before .before .before .before .before .before
+entry c = c .before .before .before .before .before .before .before .before .before
 
 accepted : (c : tie.After-enum-told) → let s = entry c in countsAcceptance (tableOf s) (s .args .in-use) (length (s .args .needed .now)) ≡ Accepted
 accepted c = sym (c .before .before .check-counts .ensures) ∙ c .enum-told .given .1
@@ -31,7 +31,7 @@ counted c = let s = entry c in counts-passed (tableOf s) (s .args .in-use) (leng
 
 returns : tie.Need-returns
 returns c =
-    let s = c .before .before .before .before .before .before .before .before .before in
+    let s = c .before .before .before .before .before .before .before .before .before .before in
     lines-counts (tableOf s) (s .args .in-use) (lineOf s) _ (sym (c .before .before .before .check-counts .ensures) ∙ c .before .a .given .1)
 
 mul-places : tie.Need-mul-places
@@ -44,15 +44,18 @@ slice-aggregate-check-table-2 : tie.Need-slice-aggregate-check-table-2
 slice-aggregate-check-table-2 c = sym (length-take-le _ _ (counted (c .before .before) .own))
 
 slice-aggregate-check-table-3 : tie.Need-slice-aggregate-check-table-3
-slice-aggregate-check-table-3 c = sym (length-take-le _ _ (counted (c .before .before .before) .spanned .spans))
+slice-aggregate-check-table-3 c = sym (length-take-le _ _ (counted (c .before .before .before) .strikes))
 
 slice-aggregate-check-table-4 : tie.Need-slice-aggregate-check-table-4
-slice-aggregate-check-table-4 c = sym (length-take-le _ _ (counted (c .before .before .before .before) .tails))
+slice-aggregate-check-table-4 c = sym (length-take-le _ _ (counted (c .before .before .before .before) .spanned .spans))
+
+slice-aggregate-check-table-5 : tie.Need-slice-aggregate-check-table-5
+slice-aggregate-check-table-5 c = sym (length-take-le _ _ (counted (c .before .before .before .before .before) .tails))
 
 returns-2 : tie.Need-returns-2
 returns-2 c =
     let t = c .before .before .before in
-    let p = t .before .before .before .before .before in
+    let p = t .before .before .before .before .before .before in
     let s = entry p in
     lines-table (tableOf s) (s .args .in-use) (lineOf s) _ (accepted p) (sym (t .check-table .ensures) ∙ c .before .b .given .1)
 
@@ -60,7 +63,7 @@ returns-3 : tie.Need-returns-3
 returns-3 c =
     let e = c .before in
     let t = e .before .before in
-    let p = t .before .before .before .before .before in
+    let p = t .before .before .before .before .before .before in
     let s = entry p in
     lines-new (tableOf s) (s .args .in-use) (lineOf s) (accepted p) (sym (t .check-table .ensures) ∙ e .enum-told2 .given .1) (c .check-line .ensures)
 
@@ -77,6 +80,7 @@ check-lines-spec =
     slice-aggregate-check-table-2
     slice-aggregate-check-table-3
     slice-aggregate-check-table-4
+    slice-aggregate-check-table-5
     (λ c κs. search needs)
     (λ c. search needs)
     returns-2

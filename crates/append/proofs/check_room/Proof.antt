@@ -21,28 +21,32 @@ returns-3 : tie.Need-returns-3
 unfolding roomAcceptance
 returns-3 c = search tests
 
-end-of-requires : tie.Need-end-of-requires
-end-of-requires c κs =
-    let s = c .before .before .before .before .before .before .before in
-    (s .pre .spans, omega (arith, s .pre .listed))
-
-add-if4 : tie.Need-add-if4
-add-if4 c =
-    let s = c .before .before .before .before .before .before .before .before in
-    omega (arith, c .end-of .ensures, s .pre .listed)
-
 returns-4 : tie.Need-returns-4
 unfolding roomAcceptance
-returns-4 c =
-    let a = c .before .before .before .before .before .before .before .before .before .args in
-    let h : length (a .tails .now) < endIn (a .spans .now) (a .lines) + a .size = omega (arith, c .before .end-of .ensures, c .if4 .taken) in
-    search tests
+returns-4 c = search tests
+
+end-of-requires : tie.Need-end-of-requires
+end-of-requires c κs =
+    let s = c .before .before .before .before .before .before .before .before .before in
+    (s .pre .spans, omega (arith, s .pre .listed))
+
+add-if5 : tie.Need-add-if5
+add-if5 c =
+    let s = c .before .before .before .before .before .before .before .before .before .before in
+    omega (arith, c .end-of .ensures, s .pre .listed)
 
 returns-5 : tie.Need-returns-5
 unfolding roomAcceptance
 returns-5 c =
-    let a = c .before .before .before .before .before .before .before .before .before .args in
-    let h : endIn (a .spans .now) (a .lines) + a .size ≤ length (a .tails .now) = omega (arith, c .before .end-of .ensures, c .if4 .left) in
+    let a = c .before .before .before .before .before .before .before .before .before .before .before .args in
+    let h : length (a .tails .now) < endIn (a .spans .now) (a .lines) + a .size = omega (arith, c .before .end-of .ensures, c .if5 .taken) in
+    search tests
+
+returns-6 : tie.Need-returns-6
+unfolding roomAcceptance
+returns-6 c =
+    let a = c .before .before .before .before .before .before .before .before .before .before .before .args in
+    let h : endIn (a .spans .now) (a .lines) + a .size ≤ length (a .tails .now) = omega (arith, c .before .end-of .ensures, c .if5 .left) in
     search tests
 
 pub check-room-spec : {M : Type 1} → statement M
@@ -51,10 +55,11 @@ check-room-spec =
     (tie.spec
     returns
     returns-2
-    (λ c. search needs)
-    (λ c. search needs)
     returns-3
-    end-of-requires
-    add-if4
+    (λ c. search needs)
+    (λ c. search needs)
     returns-4
-    returns-5)
+    end-of-requires
+    add-if5
+    returns-5
+    returns-6)

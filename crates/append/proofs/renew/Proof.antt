@@ -11,14 +11,14 @@ use Rattle.append.proofs.renew.Tie as tie
 
 -- the columns and the answers as they came
 abbrev tableOf : tie.Start → Columns
-tableOf c = let a = c .args in columns (a .n) (a .heads .now) (a .own .now) (a .spans .now) (a .tails .now)
+tableOf c = let a = c .args in columns (a .n) (a .heads .now) (a .own .now) (a .strikes .now) (a .spans .now) (a .tails .now)
 
 abbrev came : tie.Start → Answers
 came c = let a = c .args in answers (a .weights .now) (a .depths .now) (a .edges .now)
 
 -- what was given, before the index was built and behind it
 abbrev entry : tie.After-index-uses-arg → tie.Start
-entry c = c .before .before .before .before .before .before .before .before .before .before
+entry c = c .before .before .before .before .before .before .before .before .before .before .before
 
 abbrev given : tie.After-index-uses → tie.Start
 given c = entry (c .before .before .before .before)
@@ -44,20 +44,23 @@ slice-aggregate-label-2 : tie.Need-slice-aggregate-label-2
 slice-aggregate-label-2 c = sym (length-take-le _ _ (given (c .before .before .before .before .before .before) .pre .own))
 
 slice-aggregate-label-3 : tie.Need-slice-aggregate-label-3
-slice-aggregate-label-3 c = sym (length-take-le _ _ (given (c .before .before .before .before .before .before .before) .pre .spans))
+slice-aggregate-label-3 c = sym (length-take-le _ _ (given (c .before .before .before .before .before .before .before) .pre .strikes))
 
 slice-aggregate-label-4 : tie.Need-slice-aggregate-label-4
-slice-aggregate-label-4 c = sym (length-take-le _ _ (given (c .before .before .before .before .before .before .before .before) .pre .tails))
+slice-aggregate-label-4 c = sym (length-take-le _ _ (given (c .before .before .before .before .before .before .before .before) .pre .spans))
+
+slice-aggregate-label-5 : tie.Need-slice-aggregate-label-5
+slice-aggregate-label-5 c = sym (length-take-le _ _ (given (c .before .before .before .before .before .before .before .before .before) .pre .tails))
 
 label-requires : tie.Need-label-requires
 label-requires c κs =
-    let s = given (c .before .before .before .before .before .before .before .before .before .before .before) in
+    let s = given (c .before .before .before .before .before .before .before .before .before .before .before .before) in
     told-accepted (inUse (tableOf s) (s .args .in-use)) (came s) (held-accepted (tableOf s) (s .args .in-use) (came s) (s .args .index .now) (s .args .list .now) (s .pre))
 
 returns : tie.Need-returns
 returns c =
     let l = c .before .before .before .before .before .before in
-    let u = l .before .before .before .before .before .before .before .before .before .before .before .before in
+    let u = l .before .before .before .before .before .before .before .before .before .before .before .before .before in
     let s = given u in
     let t = inUse (tableOf s) (s .args .in-use) in
     let h = held-accepted (tableOf s) (s .args .in-use) (came s) (s .args .index .now) (s .args .list .now) (s .pre) in (
@@ -83,6 +86,7 @@ renew-spec =
     slice-aggregate-label-2
     slice-aggregate-label-3
     slice-aggregate-label-4
+    slice-aggregate-label-5
     label-requires
     (λ c. search needs)
     (λ c. search needs)

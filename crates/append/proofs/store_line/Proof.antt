@@ -10,13 +10,15 @@ use Rattle.append.proofs.store_line.Tie as tie
 returns : tie.Need-returns
 returns c =
     let p = c .before .before in
-    let a = p .before .before .before .before .before .before .before .args in
-    (refl, (refl, (refl, put-back (a .tails .now) (a .needed .now) _ (a .end) (p .put .ensures))))
+    let a = p .before .before .before .before .before .before .before .before .args in
+    (refl, (refl, (refl, (refl, put-back (a .tails .now) (a .needed .now) _ (a .end) (p .put .ensures)))))
 
 pub store-line-spec : {M : Type 1} → statement M
 store-line-spec =
     tie.close
     (tie.spec
+    (λ c. search needs)
+    (λ c. search needs)
     (λ c. search needs)
     (λ c. search needs)
     (λ c. search needs)
@@ -33,6 +35,7 @@ store-line-spec =
     (λ c. search needs)
     (λ c. search needs)
     (λ c κs. search needs)
+    (λ c. search needs)
     (λ c. search needs)
     (λ c. search needs)
     (λ c. search needs)
