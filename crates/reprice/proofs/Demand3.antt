@@ -1,19 +1,18 @@
 -- Demand 3 holds: the two tables have one hypergraph, so what is proved of fixpoints whose own weights differ in one place holds of their answers.
 -- Assumes nothing.
-use mathlib.Core.Path.{_≡_, sym, _∙_, ap, subst, fun-ext}
-use mathlib.Core.Bool.{false, not}
-use mathlib.Core.Logic.{_≢_}
+use mathlib.Core.Path.{_≡_, sym, _∙_, ap, subst}
+use mathlib.Core.Bool.{false}
 use Prim.Native.Nat.{ℕ, _+_, _≤_, _<_}
 use native.Mathlib.Omega.{arith}
-use native.Mathlib.Decide.{ℕ-discrete, decLe}
+use native.Mathlib.Decide.{decLe}
 use lib.ListN.{length, set}
-use lib.Seq.{getD-set-same, getD-set-other, set-set, set-getD}
+use lib.Seq.{set-set, set-getD}
 use borrow.Author.Tests.{lt-ltb, le-leb}
 use Rattle.weights.specs.declared.Measure.{Measure}
 use Rattle.weights.specs.declared.Measure.the-variants.{Cost, Days}
 use Rattle.weights.specs.declared.State.the-variants as state
 use Rattle.weights.specs.declared.Label.{Label}
-use Rattle.weights.specs.Figures.{greatest, over, isStruck}
+use Rattle.weights.specs.Figures.{greatest, over, isStruckMark}
 use Rattle.weights.specs.Measures.{algebra, cost}
 use Rattle.weights.specs.Labels.{entryOf}
 use Rattle.weights.proofs.Laws.{lawful, cost-lawful, below-over}
@@ -21,7 +20,7 @@ use Rattle.refusal.specs.declared.Acceptance.the-variants.{Accepted}
 use Rattle.provenance.specs.Hypergraph.{Hypergraph, Derivation, listing}
 use Rattle.provenance.specs.Labelling.{Made, Fixpoint}
 use Rattle.provenance.specs.Means.{Follows}
-use Rattle.columns.specs.Columns.{Answers, Columns, ownAt, withOwn}
+use Rattle.columns.specs.Columns.{Answers, Columns, columns, ownAt, strikeAt, withOwn}
 use Rattle.provenance.proofs.Existence.{label-within}
 use Rattle.provenance.specs.Counting.{count, Raised}
 use Rattle.provenance.proofs.Sensitivity.{same-made, cost-rise, days-rise}
@@ -29,16 +28,16 @@ use Rattle.provenance.specs.Sensitivity.{MadeWithin}
 use Rattle.tables.specs.Table.{hypergraph}
 use Rattle.columns.specs.Acceptance.{acceptance}
 use Rattle.columns.proofs.Accepted.{table-accepted, columns-accept}
+use Rattle.columns.proofs.Repriced.{own-here, own-elsewhere}
 use Rattle.columns.proofs.Same.{same-refl}
 use Rattle.settle.specs.Settling.{answersOf, settled}
 use Rattle.weights.proofs.States.{unmade-state, made-state}
 use Rattle.settle.proofs.Demands.{answers-fixpoint, answers-sized, answers-mean, settled-left, settled-result}
-use Rattle.settle.proofs.States.{unstruck-own}
 use Rattle.reprice.specs.Demand3.{labelsOf, Pair, Rise, Carries, Demand3}
 use Rattle.reprice.specs.Repricing.{lineAcceptance, repriceAcceptance, repriced}
 
 -- repricing a settled table
-module _ (m : Measure) (c : Columns) (e w : ℕ) (p : acceptance c ≡ Accepted) (n : e < length (c .heads)) (u : isStruck (ownAt c e) ≡ false) (h : w ≤ greatest) where
+module _ (m : Measure) (c : Columns) (e w : ℕ) (p : acceptance c ≡ Accepted) (n : e < length (c .heads)) (u : isStruckMark (strikeAt c e) ≡ false) (h : w ≤ greatest) where
   accepted-reprice : repriceAcceptance m c (answersOf m c) e w ≡ Accepted
   unfolding repriceAcceptance lineAcceptance
   accepted-reprice = rw (columns-accept c (answersOf m c) p (answers-sized m c p), lt-ltb _ _ n, u, le-leb _ _ h, same-refl (answersOf m c))
@@ -84,64 +83,42 @@ module _ (m : Measure) (c : Columns) (e d : ℕ) (p : Pair c (withOwn c e (ownAt
   abbrev new : Columns
   new = withOwn c e (ownAt c e + d)
 
-  fits : e < length (c .own)
-  fits = omega (arith, table-accepted c (p .accepted) .own, p .numbered)
-
-  own-here : ownAt new e ≡ ownAt c e + d
-  own-here = getD-set-same (c .own) e (ownAt c e + d) 0 fits
-
-  own-elsewhere : (x : ℕ) → x ≢ e → ownAt new x ≡ ownAt c x
-  own-elsewhere x n = getD-set-other (c .own) e x (ownAt c e + d) 0 n
+  here : ownAt new e ≡ ownAt c e + d
+  here = own-here c e (ownAt c e + d) (omega (arith, table-accepted c (p .accepted) .own, p .numbered))
 
   raise : Raised (ownAt c) (ownAt new) e d
-  raise = record { here = own-here; elsewhere = own-elsewhere }
-
-  -- the same lines are live, so the hypergraph is the same
-  live-same : (x : ℕ) → not (isStruck (ownAt new x)) ≡ not (isStruck (ownAt c x))
-  live-same x = go (ℕ-discrete x e)
-    where
-      go : Dec (x ≡ e) → not (isStruck (ownAt new x)) ≡ not (isStruck (ownAt c x))
-      go (yes q) =
-          ap (λ (y : ℕ). not (isStruck (ownAt new y))) q ∙ ap (λ (n : ℕ). not (isStruck n)) own-here ∙ ap not (p .unstruck′)
-          ∙ sym (ap not (p .unstruck)) ∙ sym (ap (λ (y : ℕ). not (isStruck (ownAt c y))) q)
-      go (no n) = ap (λ (k : ℕ). not (isStruck k)) (own-elsewhere x n)
-
-  same-graph : hypergraph new ≡ hypergraph c
-  same-graph = λ i. record { vertices = c .vertices; edges = length (c .heads); head = hypergraph c .head; tail = hypergraph c .tail; live = fun-ext live-same i }
+  raise = record { here = here; elsewhere = own-elsewhere c e (ownAt c e + d) }
 
   -- the old table is the new one with the line put back
   back : set (new .own) e (ownAt c e) ≡ c .own
   back = set-set (c .own) e (ownAt c e + d) (ownAt c e) ∙ set-getD (c .own) e 0
 
   old-again : withOwn new e (ownAt c e) ≡ c
-  old-again = λ i. record { vertices = c .vertices; heads = c .heads; own = back i; spans = c .spans; tails = c .tails }
+  old-again = λ i. columns (c .vertices) (c .heads) (back i) (c .strikes) (c .spans) (c .tails)
 
   fix : Fixpoint (algebra m) (hypergraph c) (ownAt c) (labelsOf m c)
   fix = answers-fixpoint m c (p .accepted)
 
   fix′ : Fixpoint (algebra m) (hypergraph c) (ownAt new) (labelsOf m new)
-  fix′ = subst (λ (H : Hypergraph). Fixpoint (algebra m) H (ownAt new) (labelsOf m new)) same-graph (answers-fixpoint m new (p .accepted′))
+  fix′ = answers-fixpoint m new (p .accepted′)
 
   -- an own figure of an accepted table
-  own-low : (c : Columns) → acceptance c ≡ Accepted → (x : ℕ) → x < length (c .heads) → isStruck (ownAt c x) ≡ false → ownAt c x ≤ greatest
-  own-low c q x h s = unstruck-own (ownAt c x) (table-accepted c q .each x h .1 .own) s
-
-  unstruck-new : isStruck (ownAt new e) ≡ false
-  unstruck-new = ap isStruck own-here ∙ p .unstruck′
+  own-low : (c : Columns) → acceptance c ≡ Accepted → (x : ℕ) → x < length (c .heads) → ownAt c x ≤ greatest
+  own-low c q x h = table-accepted c q .each x h .1 .own
 
   upward : (a a′ : Answers) → settled m c a .result ≡ Accepted → settled m new a′ .result ≡ Accepted
       → repriced m c (settled m c a .left) e (ownAt new e) ≡ record { result = Accepted; own = new .own; left = settled m new a′ .left }
   upward a a′ q q′ =
       ap (λ (b : Answers). repriced m c b e (ownAt new e)) (left-is m c a q)
-      ∙ ap (repriced m c (answersOf m c) e) own-here
-      ∙ reprice-settled m c e (ownAt c e + d) (p .accepted) (p .numbered) (p .unstruck) (subst (λ (x : ℕ). x ≤ greatest) own-here (own-low new (p .accepted′) e (p .numbered) unstruck-new))
+      ∙ ap (repriced m c (answersOf m c) e) here
+      ∙ reprice-settled m c e (ownAt c e + d) (p .accepted) (p .numbered) (p .unstruck) (subst (λ (x : ℕ). x ≤ greatest) here (own-low new (p .accepted′) e (p .numbered)))
       ∙ ap (λ (b : Answers). record { result = Accepted; own = new .own; left = b }) (sym (left-is m new a′ q′))
 
   downward : (a a′ : Answers) → settled m c a .result ≡ Accepted → settled m new a′ .result ≡ Accepted
       → repriced m new (settled m new a′ .left) e (ownAt c e) ≡ record { result = Accepted; own = c .own; left = settled m c a .left }
   downward a a′ q q′ =
       ap (λ (b : Answers). repriced m new b e (ownAt c e)) (left-is m new a′ q′)
-      ∙ reprice-settled m new e (ownAt c e) (p .accepted′) (p .numbered) unstruck-new (own-low c (p .accepted) e (p .numbered) (p .unstruck))
+      ∙ reprice-settled m new e (ownAt c e) (p .accepted′) (p .numbered) (p .unstruck) (own-low c (p .accepted) e (p .numbered))
       ∙ (λ i. record { result = Accepted; own = back i; left = (ap (answersOf m) old-again ∙ sym (left-is m c a q)) i })
 
   unmade-in : (ls ls′ : ℕ → Label) (v : ℕ) → (Made (ls′ v) → Made (ls v)) → entryOf (ls v) .state ≡ state.Unmade → entryOf (ls′ v) .state ≡ state.Unmade
@@ -162,10 +139,7 @@ module _ (m : Measure) (c : Columns) (e d : ℕ) (p : Pair c (withOwn c e (ownAt
     carries = carries;
     means = answers-mean m c (p .accepted);
     means′ = answers-mean m new (p .accepted′);
-    rises = λ v k k′ t f.
-        let R : Hypergraph → Type 0 =
-        λ H. (t′ : Derivation H v) → Follows (labelsOf m new) t′ → Rise m d (labelsOf m c v .weight .0) (labelsOf m new v .weight .0) (count e (listing t)) (count e (listing t′)) in
-        subst R (sym same-graph) (rise-of m fix fix′ raise v (made-told (labelsOf m c v) k) (made-told (labelsOf m new v) k′) t f);
+    rises = λ v k k′. rise-of m fix fix′ raise v (made-told (labelsOf m c v) k) (made-told (labelsOf m new v) k′);
   }
 
 -- demand 3

@@ -12,12 +12,12 @@ use Rattle.weights.specs.declared.Measure.the-variants.{Cost, Days}
 use Rattle.weights.specs.declared.State.{State}
 use Rattle.weights.specs.declared.State.the-variants.{Made, Unmade}
 use Rattle.weights.specs.declared.Label.{Label}
-use Rattle.weights.specs.Figures.{isStruck}
+use Rattle.weights.specs.Figures.{isStruckMark}
 use Rattle.weights.specs.Labels.{entryOf}
 use Rattle.refusal.specs.declared.Acceptance.the-variants.{Accepted}
 use Rattle.provenance.specs.Hypergraph.{Derivation, listing}
 use Rattle.provenance.specs.Means.{Follows}
-use Rattle.columns.specs.Columns.{Answers, Columns, ownAt, withOwn}
+use Rattle.columns.specs.Columns.{Answers, Columns, ownAt, strikeAt, withOwn}
 use Rattle.provenance.specs.BestFirst.{labels}
 use Rattle.provenance.specs.Counting.{count}
 use Rattle.provenance.specs.Sensitivity.{CostRise, DaysRise}
@@ -40,8 +40,7 @@ pub record Pair (c c′ : Columns) (e d : ℕ) : Type 0 where
   pub accepted′ : acceptance c′ ≡ Accepted
   pub raised : c′ ≡ withOwn c e (ownAt c e + d)
   pub numbered : e < length (c .heads)
-  pub unstruck : isStruck (ownAt c e) ≡ false
-  pub unstruck′ : isStruck (ownAt c e + d) ≡ false
+  pub unstruck : isStruckMark (strikeAt c e) ≡ false
 
 -- by how much a part's figure rises, from w to w′, where the line stands `old` times in its old bill and `new` times in its new one
 abbrev pub Rise : Measure → (d w w′ old new : ℕ) → Type 0

@@ -1,20 +1,22 @@
-// Repricing and striking a line. Everything is checked before anything lent is written; then the
-// figure is stored and the table labelled anew.
+// Repricing, striking and restoring a line. Everything is checked before anything lent is written;
+// then the figure or the mark is stored and the table labelled anew.
 use refusal::Acceptance;
 use refusal::Refusal;
 use weights::Hyperedge;
+use weights::Mark;
 use weights::Measure;
 use weights::Weight;
 ghost use mathlib.Core.Path.{_≡_};
 ghost use Rattle.columns.specs.Columns.{columns, answers};
 ghost use Rattle.settle.specs.Checking.{answersAcceptance};
-ghost use Rattle.reprice.specs.Repricing.{lineAcceptance, changed, Changeable, repriced, stricken};
+ghost use Rattle.reprice.specs.Repricing.{numberedAcceptance, lineAcceptance, struckAcceptance, changed, marked, Changeable, Markable, repriced, stricken, restored};
 
-// Whether table, answer columns and line are accepted: 1 to 6, 7, 9.
-fn check_line(
+// Whether table and answer columns are accepted and the line exists: 1 to 6 and 21, 7, 9.
+fn check_numbered(
     n: u64,
     heads: &[u64],
     own: &[u64],
+    strikes: &[u64],
     spans: &[u64],
     tails: &[u64],
     weights: &[u64],
@@ -23,11 +25,11 @@ fn check_line(
     line: Hyperedge,
 ) -> Acceptance
     ensures { λ r.
-        let c = columns n (now (heads .entry)) (now (own .entry)) (now (spans .entry)) (now (tails .entry)) in
+        let c = columns n (now (heads .entry)) (now (own .entry)) (now (strikes .entry)) (now (spans .entry)) (now (tails .entry)) in
         let a = answers (now (weights .entry)) (now (depths .entry)) (now (edges .entry)) in
-        ⌜ r ≡ lineAcceptance c a (line .0) ⌝ }
+        ⌜ r ≡ numberedAcceptance c a (line .0) ⌝ }
 {
-    let a = columns::check_lent(n, heads, own, spans, tails, weights, depths, edges);
+    let a = columns::check_lent(n, heads, own, strikes, spans, tails, weights, depths, edges);
     match a {
         Acceptance::Refused(r) => return Acceptance::Refused(r),
         Acceptance::Accepted => {}
@@ -35,11 +37,91 @@ fn check_line(
     if line.0 >= heads.len() as u64 {
         return Acceptance::Refused(Refusal::NoSuchEdge);
     }
+    Acceptance::Accepted
+}
+
+// The same of a line that stands: 9 if it is struck too.
+fn check_line(
+    n: u64,
+    heads: &[u64],
+    own: &[u64],
+    strikes: &[u64],
+    spans: &[u64],
+    tails: &[u64],
+    weights: &[u64],
+    depths: &[u64],
+    edges: &[u64],
+    line: Hyperedge,
+) -> Acceptance
+    ensures { λ r.
+        let c = columns n (now (heads .entry)) (now (own .entry)) (now (strikes .entry)) (now (spans .entry)) (now (tails .entry)) in
+        let a = answers (now (weights .entry)) (now (depths .entry)) (now (edges .entry)) in
+        ⌜ r ≡ lineAcceptance c a (line .0) ⌝ }
+{
+    let a = check_numbered(
+        n,
+        heads,
+        own,
+        strikes,
+        spans,
+        tails,
+        weights,
+        depths,
+        edges,
+        line,
+    );
+    match a {
+        Acceptance::Refused(r) => return Acceptance::Refused(r),
+        Acceptance::Accepted => {}
+    }
     let i = line.0 as usize;
-    let figure = own[i];
-    let weight = Weight(figure);
-    if weight.is_struck() {
+    let found = strikes[i];
+    let mark = Mark(found);
+    if mark.is_struck() {
         return Acceptance::Refused(Refusal::NoSuchEdge);
+    }
+    Acceptance::Accepted
+}
+
+// The same of a line that is struck: 20 if it stands.
+fn check_struck(
+    n: u64,
+    heads: &[u64],
+    own: &[u64],
+    strikes: &[u64],
+    spans: &[u64],
+    tails: &[u64],
+    weights: &[u64],
+    depths: &[u64],
+    edges: &[u64],
+    line: Hyperedge,
+) -> Acceptance
+    ensures { λ r.
+        let c = columns n (now (heads .entry)) (now (own .entry)) (now (strikes .entry)) (now (spans .entry)) (now (tails .entry)) in
+        let a = answers (now (weights .entry)) (now (depths .entry)) (now (edges .entry)) in
+        ⌜ r ≡ struckAcceptance c a (line .0) ⌝ }
+{
+    let a = check_numbered(
+        n,
+        heads,
+        own,
+        strikes,
+        spans,
+        tails,
+        weights,
+        depths,
+        edges,
+        line,
+    );
+    match a {
+        Acceptance::Refused(r) => return Acceptance::Refused(r),
+        Acceptance::Accepted => {}
+    }
+    let i = line.0 as usize;
+    let found = strikes[i];
+    let mark = Mark(found);
+    if !mark.is_struck() {
+        return Acceptance::Refused(Refusal::NotStruck);
     }
     Acceptance::Accepted
 }
@@ -51,6 +133,7 @@ fn change(
     n: u64,
     heads: &[u64],
     own: &mut [u64],
+    strikes: &[u64],
     spans: &[u64],
     tails: &[u64],
     weights: &mut [u64],
@@ -59,21 +142,96 @@ fn change(
     line: Hyperedge,
     figure: Weight,
 ) -> Acceptance
-    requires { let c = columns n (now heads) (now own) (now spans) (now tails) in
+    requires { let c = columns n (now heads) (now own) (now strikes) (now spans) (now tails) in
         let a = answers (now weights) (now depths) (now edges) in
         ⌜ Changeable c a (line .0) (figure .0) ⌝ }
     ensures { λ r.
-        let c = columns n (now (heads .entry)) (now (own .entry)) (now (spans .entry)) (now (tails .entry)) in
+        let c = columns n (now (heads .entry)) (now (own .entry)) (now (strikes .entry)) (now (spans .entry)) (now (tails .entry)) in
         let a = answers (now (weights .entry)) (now (depths .entry)) (now (edges .entry)) in
         let a′ = answers (now (weights .exit)) (now (depths .exit)) (now (edges .exit)) in
         ⌜ record { result = r; own = now (own .exit); left = a′ } ≡ changed measure c a (line .0) (figure .0) (answersAcceptance measure c a) ⌝ }
 {
-    if !settle::answers_right(measure, n, heads, own, spans, tails, weights, depths, edges) {
+    if !settle::answers_right(
+        measure,
+        n,
+        heads,
+        own,
+        strikes,
+        spans,
+        tails,
+        weights,
+        depths,
+        edges,
+    ) {
         return Acceptance::Refused(Refusal::WrongAnswers);
     }
     let i = line.0 as usize;
     own[i] = figure.0;
-    settle::label(measure, heads, own, spans, tails, weights, depths, edges);
+    settle::label(
+        measure,
+        heads,
+        own,
+        strikes,
+        spans,
+        tails,
+        weights,
+        depths,
+        edges,
+    );
+    Acceptance::Accepted
+}
+
+// The same of the line's strike mark; the own figure keeps every byte.
+fn put_mark(
+    measure: Measure,
+    n: u64,
+    heads: &[u64],
+    own: &[u64],
+    strikes: &mut [u64],
+    spans: &[u64],
+    tails: &[u64],
+    weights: &mut [u64],
+    depths: &mut [u64],
+    edges: &mut [u64],
+    line: Hyperedge,
+    mark: Mark,
+) -> Acceptance
+    requires { let c = columns n (now heads) (now own) (now strikes) (now spans) (now tails) in
+        let a = answers (now weights) (now depths) (now edges) in
+        ⌜ Markable c a (line .0) (mark .0) ⌝ }
+    ensures { λ r.
+        let c = columns n (now (heads .entry)) (now (own .entry)) (now (strikes .entry)) (now (spans .entry)) (now (tails .entry)) in
+        let a = answers (now (weights .entry)) (now (depths .entry)) (now (edges .entry)) in
+        let a′ = answers (now (weights .exit)) (now (depths .exit)) (now (edges .exit)) in
+        ⌜ record { result = r; strikes = now (strikes .exit); left = a′ } ≡ marked measure c a (line .0) (mark .0) (answersAcceptance measure c a) ⌝ }
+{
+    if !settle::answers_right(
+        measure,
+        n,
+        heads,
+        own,
+        strikes,
+        spans,
+        tails,
+        weights,
+        depths,
+        edges,
+    ) {
+        return Acceptance::Refused(Refusal::WrongAnswers);
+    }
+    let i = line.0 as usize;
+    strikes[i] = mark.0;
+    settle::label(
+        measure,
+        heads,
+        own,
+        strikes,
+        spans,
+        tails,
+        weights,
+        depths,
+        edges,
+    );
     Acceptance::Accepted
 }
 
@@ -84,6 +242,7 @@ pub fn reprice(
     n: u64,
     heads: &[u64],
     own: &mut [u64],
+    strikes: &[u64],
     spans: &[u64],
     tails: &[u64],
     weights: &mut [u64],
@@ -93,12 +252,23 @@ pub fn reprice(
     figure: Weight,
 ) -> Acceptance
     ensures { λ r.
-        let c = columns n (now (heads .entry)) (now (own .entry)) (now (spans .entry)) (now (tails .entry)) in
+        let c = columns n (now (heads .entry)) (now (own .entry)) (now (strikes .entry)) (now (spans .entry)) (now (tails .entry)) in
         let a = answers (now (weights .entry)) (now (depths .entry)) (now (edges .entry)) in
         let a′ = answers (now (weights .exit)) (now (depths .exit)) (now (edges .exit)) in
         ⌜ record { result = r; own = now (own .exit); left = a′ } ≡ repriced measure c a (line .0) (figure .0) ⌝ }
 {
-    let a = check_line(n, heads, own, spans, tails, weights, depths, edges, line);
+    let a = check_line(
+        n,
+        heads,
+        own,
+        strikes,
+        spans,
+        tails,
+        weights,
+        depths,
+        edges,
+        line,
+    );
     match a {
         Acceptance::Refused(r) => return Acceptance::Refused(r),
         Acceptance::Accepted => {}
@@ -111,6 +281,7 @@ pub fn reprice(
         n,
         heads,
         own,
+        strikes,
         spans,
         tails,
         weights,
@@ -121,13 +292,14 @@ pub fn reprice(
     )
 }
 
-// The line is struck, and the answers become those of the table as it then is; or a refusal, and
-// nothing has changed.
+// The line is struck and keeps its figure, and the answers become those of the table as it then is;
+// or a refusal, and nothing has changed.
 pub fn strike(
     measure: Measure,
     n: u64,
     heads: &[u64],
-    own: &mut [u64],
+    own: &[u64],
+    strikes: &mut [u64],
     spans: &[u64],
     tails: &[u64],
     weights: &mut [u64],
@@ -136,27 +308,92 @@ pub fn strike(
     line: Hyperedge,
 ) -> Acceptance
     ensures { λ r.
-        let c = columns n (now (heads .entry)) (now (own .entry)) (now (spans .entry)) (now (tails .entry)) in
+        let c = columns n (now (heads .entry)) (now (own .entry)) (now (strikes .entry)) (now (spans .entry)) (now (tails .entry)) in
         let a = answers (now (weights .entry)) (now (depths .entry)) (now (edges .entry)) in
         let a′ = answers (now (weights .exit)) (now (depths .exit)) (now (edges .exit)) in
-        ⌜ record { result = r; own = now (own .exit); left = a′ } ≡ stricken measure c a (line .0) ⌝ }
+        ⌜ record { result = r; strikes = now (strikes .exit); left = a′ } ≡ stricken measure c a (line .0) ⌝ }
 {
-    let a = check_line(n, heads, own, spans, tails, weights, depths, edges, line);
-    match a {
-        Acceptance::Refused(r) => return Acceptance::Refused(r),
-        Acceptance::Accepted => {}
-    }
-    change(
-        measure,
+    let a = check_line(
         n,
         heads,
         own,
+        strikes,
         spans,
         tails,
         weights,
         depths,
         edges,
         line,
-        Weight::STRUCK,
+    );
+    match a {
+        Acceptance::Refused(r) => return Acceptance::Refused(r),
+        Acceptance::Accepted => {}
+    }
+    put_mark(
+        measure,
+        n,
+        heads,
+        own,
+        strikes,
+        spans,
+        tails,
+        weights,
+        depths,
+        edges,
+        line,
+        Mark::STRUCK,
+    )
+}
+
+// The struck line stands again at the figure that it kept, and the answers become those of the table
+// as it then is; or a refusal, and nothing has changed.
+pub fn restore(
+    measure: Measure,
+    n: u64,
+    heads: &[u64],
+    own: &[u64],
+    strikes: &mut [u64],
+    spans: &[u64],
+    tails: &[u64],
+    weights: &mut [u64],
+    depths: &mut [u64],
+    edges: &mut [u64],
+    line: Hyperedge,
+) -> Acceptance
+    ensures { λ r.
+        let c = columns n (now (heads .entry)) (now (own .entry)) (now (strikes .entry)) (now (spans .entry)) (now (tails .entry)) in
+        let a = answers (now (weights .entry)) (now (depths .entry)) (now (edges .entry)) in
+        let a′ = answers (now (weights .exit)) (now (depths .exit)) (now (edges .exit)) in
+        ⌜ record { result = r; strikes = now (strikes .exit); left = a′ } ≡ restored measure c a (line .0) ⌝ }
+{
+    let a = check_struck(
+        n,
+        heads,
+        own,
+        strikes,
+        spans,
+        tails,
+        weights,
+        depths,
+        edges,
+        line,
+    );
+    match a {
+        Acceptance::Refused(r) => return Acceptance::Refused(r),
+        Acceptance::Accepted => {}
+    }
+    put_mark(
+        measure,
+        n,
+        heads,
+        own,
+        strikes,
+        spans,
+        tails,
+        weights,
+        depths,
+        edges,
+        line,
+        Mark::STANDS,
     )
 }

@@ -10,13 +10,13 @@ use Rattle.reprice.proofs.change.Tie as tie
 
 -- the table and the answers as they came
 abbrev tableOf : tie.Start → Columns
-tableOf c = let a = c .args in columns (a .n) (a .heads .now) (a .own .now) (a .spans .now) (a .tails .now)
+tableOf c = let a = c .args in columns (a .n) (a .heads .now) (a .own .now) (a .strikes .now) (a .spans .now) (a .tails .now)
 
 abbrev came : tie.Start → Answers
 came c = let a = c .args in answers (a .weights .now) (a .depths .now) (a .edges .now)
 
 abbrev entry : tie.After-answers-right → tie.Start
-entry c = c .before .before .before .before .before .before .before .before .before .before .before .before
+entry c = c .before .before .before .before .before .before .before .before .before .before .before .before .before
 
 returns : tie.Need-returns
 returns c =

@@ -7,17 +7,17 @@ use native.Mathlib.Omega.{arith}
 use Rattle.refusal.specs.declared.Acceptance.the-variants.{Accepted}
 use Rattle.columns.specs.Columns.{Answers, Columns, columns, answers}
 use Rattle.reprice.specs.Repricing.{lineAcceptance}
-use Rattle.reprice.proofs.Laws.{reprice-by, reprice-line, reprice-figure, reprice-answers, line-changeable}
+use Rattle.reprice.proofs.Laws.{reprice-by, reprice-line, reprice-figure, reprice-answers, line-numbered, line-changeable}
 
 -- the table and the answers as they came; in the other arm the line is accepted
 abbrev tableOf : tie.Start → Columns
-tableOf c = let a = c .args in columns (a .n) (a .heads .now) (a .own .now) (a .spans .now) (a .tails .now)
+tableOf c = let a = c .args in columns (a .n) (a .heads .now) (a .own .now) (a .strikes .now) (a .spans .now) (a .tails .now)
 
 abbrev came : tie.Start → Answers
 came c = let a = c .args in answers (a .weights .now) (a .depths .now) (a .edges .now)
 
 abbrev entry : tie.After-enum-told → tie.Start
-entry c = c .before .before .before .before .before .before .before .before .before .before .before .before .before .before
+entry c = c .before .before .before .before .before .before .before .before .before .before .before .before .before .before .before
 
 accepted : (c : tie.After-enum-told) → lineAcceptance (tableOf (entry c)) (came (entry c)) (entry c .args .line .0) ≡ Accepted
 accepted c = sym (c .before .before .check-line .ensures) ∙ c .enum-told .given .1
@@ -32,7 +32,7 @@ change-requires : tie.Need-change-requires
 change-requires c κs =
     let e = c .before .before .before .before in
     let low = e .if1 .left in
-    line-changeable _ _ _ (accepted (e .before .before .before)) _ (omega arith)
+    line-changeable _ _ _ (line-numbered _ _ _ (accepted (e .before .before .before))) _ (omega arith)
 
 returns-3 : tie.Need-returns-3
 returns-3 c =

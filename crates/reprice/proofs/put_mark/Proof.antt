@@ -1,0 +1,56 @@
+-- `reprice::put_mark` meets its contract: the answers are refused, or the mark is stored, the table is still accepted, and `label` leaves its answers. Assumes
+-- nothing.
+use mathlib.Core.Path.{sym, _∙_}
+use borrow.Author.Needs.{needs}
+use borrow.Author.Tests.{not-true, not-false}
+use Rattle.columns.specs.Columns.{Answers, Columns, columns, answers}
+use Rattle.reprice.proofs.Laws.{mark-accepted, mark-made, mark-refused}
+use Rattle.reprice.proofs.put_mark.Statement.{statement}
+use Rattle.reprice.proofs.put_mark.Tie as tie
+
+-- the table and the answers as they came
+abbrev tableOf : tie.Start → Columns
+tableOf c = let a = c .args in columns (a .n) (a .heads .now) (a .own .now) (a .strikes .now) (a .spans .now) (a .tails .now)
+
+abbrev came : tie.Start → Answers
+came c = let a = c .args in answers (a .weights .now) (a .depths .now) (a .edges .now)
+
+abbrev entry : tie.After-answers-right → tie.Start
+entry c = c .before .before .before .before .before .before .before .before .before .before .before .before .before
+
+returns : tie.Need-returns
+returns c =
+    let s = entry (c .before) in
+    mark-refused (tableOf s) (came s) _ _ (s .pre) (s .args .measure) (sym (c .before .answers-right .ensures) ∙ not-true _ (c .if1 .taken))
+
+label-requires : tie.Need-label-requires
+label-requires c κs =
+    let s = entry (c .before .before .before .before .before) in
+    mark-accepted (tableOf s) (came s) _ _ (s .pre)
+
+returns-2 : tie.Need-returns-2
+returns-2 c =
+    let l = c .before .before .before .before .before .before in
+    let e = l .before .before .before .before .before in
+    let s = entry (e .before) in
+    let right = sym (e .before .answers-right .ensures) ∙ not-false _ (e .if1 .left) in
+    mark-made (tableOf s) (came s) _ _ (s .pre) (s .args .measure) right (l .label .ensures)
+
+pub put-mark-spec : {M : Type 1} → statement M
+put-mark-spec =
+    tie.close
+    (tie.spec
+    (λ c κs. search needs)
+    (λ c. search needs)
+    (λ c. search needs)
+    (λ c. search needs)
+    (λ c. search needs)
+    returns
+    (λ c. search needs)
+    (λ c. search needs)
+    label-requires
+    (λ c. search needs)
+    (λ c. search needs)
+    (λ c. search needs)
+    (λ c. search needs)
+    returns-2)
