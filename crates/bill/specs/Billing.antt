@@ -22,7 +22,7 @@ use Rattle.settle.specs.Settling.{answersOf}
 unfoldable pub billOf : Columns → Answers → (v : ℕ) → List ℕ
 billOf c a v = bill (hypergraph c) (labels a) (labels a v .depth) v
 
--- the table, the answers and the part: 1 to 7, then 11, 8 and 12
+-- the table, the answers and the part: 1 to 7 and 21, then 11, 8 and 12
 unfoldable pub partAcceptance : Measure → Columns → Answers → (v : ℕ) → Acceptance
 partAcceptance m c a v =
     andThen (lentAcceptance c a)
@@ -35,7 +35,7 @@ partAcceptance m c a v =
 abbrev pub roomAcceptance : (bill : List ℕ) → (places : ℕ) → Acceptance
 roomAcceptance bill places = test (leb (length bill) places) BillRoom answer.Accepted
 
--- 1 to 7, 11, 8 and 12, then 13
+-- 1 to 7 and 21, 11, 8 and 12, then 13
 unfoldable pub billAcceptance : Measure → Columns → Answers → (v places : ℕ) → Acceptance
 billAcceptance m c a v places = andThen (partAcceptance m c a v) (roomAcceptance (billOf c a v) places)
 

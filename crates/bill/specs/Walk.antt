@@ -19,7 +19,7 @@ use Rattle.bill.specs.declared.Budget.the-variants.{Left, Spent}
 
 -- of a table and its answers, what a bill reads: the lists of the lines, and the chosen line of each part
 abbrev pub lists : (spans tails : List ℕ) → Hypergraph
-lists spans tails = hypergraph (columns 0 [] [] spans tails)
+lists spans tails = hypergraph (columns 0 [] [] [] spans tails)
 
 abbrev pub choices : (edges : List ℕ) → ℕ → Label
 choices edges = labels (answers [] [] edges)

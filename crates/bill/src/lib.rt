@@ -113,12 +113,13 @@ fn tail_bill(
     )
 }
 
-// Whether the table, the answers and the part allow a bill: refusals 1 to 7, 11, 8 and 12.
+// Whether the table, the answers and the part allow a bill: 1 to 7 and 21, 11, 8 and 12.
 fn check_part(
     measure: Measure,
     n: u64,
     heads: &[u64],
     own: &[u64],
+    strikes: &[u64],
     spans: &[u64],
     tails: &[u64],
     weights: &[u64],
@@ -127,11 +128,11 @@ fn check_part(
     part: Vertex,
 ) -> Acceptance
     ensures { λ r.
-        let c = columns n (now (heads .entry)) (now (own .entry)) (now (spans .entry)) (now (tails .entry)) in
+        let c = columns n (now (heads .entry)) (now (own .entry)) (now (strikes .entry)) (now (spans .entry)) (now (tails .entry)) in
         let a = answers (now (weights .entry)) (now (depths .entry)) (now (edges .entry)) in
         ⌜ r ≡ partAcceptance measure c a (part .0) ⌝ }
 {
-    let a = columns::check_lent(n, heads, own, spans, tails, weights, depths, edges);
+    let a = columns::check_lent(n, heads, own, strikes, spans, tails, weights, depths, edges);
     match a {
         Acceptance::Refused(r) => return Acceptance::Refused(r),
         Acceptance::Accepted => {}
@@ -139,7 +140,18 @@ fn check_part(
     if part.0 >= n {
         return Acceptance::Refused(Refusal::NoSuchVertex);
     }
-    if !settle::answers_right(measure, n, heads, own, spans, tails, weights, depths, edges) {
+    if !settle::answers_right(
+        measure,
+        n,
+        heads,
+        own,
+        strikes,
+        spans,
+        tails,
+        weights,
+        depths,
+        edges,
+    ) {
         return Acceptance::Refused(Refusal::WrongAnswers);
     }
     let i = part.0 as usize;
@@ -177,6 +189,7 @@ pub fn bill(
     n: u64,
     heads: &[u64],
     own: &[u64],
+    strikes: &[u64],
     spans: &[u64],
     tails: &[u64],
     weights: &[u64],
@@ -186,7 +199,7 @@ pub fn bill(
     room: &mut [u64],
 ) -> Extent
     ensures { λ r.
-        let c = columns n (now (heads .entry)) (now (own .entry)) (now (spans .entry)) (now (tails .entry)) in
+        let c = columns n (now (heads .entry)) (now (own .entry)) (now (strikes .entry)) (now (spans .entry)) (now (tails .entry)) in
         let a = answers (now (weights .entry)) (now (depths .entry)) (now (edges .entry)) in
         ⌜ record { result = r; left = now (room .exit) } ≡ billed measure c a (part .0) (now (room .entry)) ⌝ }
 {
@@ -195,6 +208,7 @@ pub fn bill(
         n,
         heads,
         own,
+        strikes,
         spans,
         tails,
         weights,

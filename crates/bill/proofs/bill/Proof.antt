@@ -11,13 +11,13 @@ use Rattle.bill.proofs.Printed.{bill-refused, bill-placed, bill-grounde
 
 -- the table and the answers; past the check of the part it is accepted
 abbrev tableOf : tie.Start → Columns
-tableOf c = let a = c .args in columns (a .n) (a .heads .now) (a .own .now) (a .spans .now) (a .tails .now)
+tableOf c = let a = c .args in columns (a .n) (a .heads .now) (a .own .now) (a .strikes .now) (a .spans .now) (a .tails .now)
 
 abbrev came : tie.Start → Answers
 came c = let a = c .args in answers (a .weights .now) (a .depths .now) (a .edges .now)
 
 abbrev entry : tie.After-enum-told → tie.Start
-entry c = c .before .before .before .before .before .before .before .before .before .before .before
+entry c = c .before .before .before .before .before .before .before .before .before .before .before .before
 
 accepted : (c : tie.After-enum-told) → let s = entry c in partAcceptance (s .args .measure) (tableOf s) (came s) (s .args .part .0) ≡ Accepted
 accepted c = sym (c .before .before .check-part .ensures) ∙ c .enum-told .given .1

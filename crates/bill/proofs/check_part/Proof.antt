@@ -7,7 +7,7 @@ use borrow.Author.Tests.{not-true, not-false}
 use Rattle.refusal.specs.declared.Acceptance.the-variants.{Accepted}
 use Rattle.columns.specs.Columns.{Answers, Columns, columns, answers}
 use Rattle.columns.specs.Acceptance.{lentAcceptance}
-use Rattle.columns.proofs.Accepted.{columns-accepted}
+use Rattle.columns.proofs.Accepted.{columns-accepted, table-accepted}
 use Rattle.columns.specs.Same.{sameAnswers}
 use Rattle.settle.specs.Settling.{answersOf}
 use Rattle.bill.proofs.Admitted.{part-refused, part-absent, part-wrong, part-placed, part-underivable, part-accepted}
@@ -16,13 +16,13 @@ use Rattle.bill.proofs.check_part.Tie as tie
 
 -- the table and the answers
 abbrev tableOf : tie.Start → Columns
-tableOf c = let a = c .args in columns (a .n) (a .heads .now) (a .own .now) (a .spans .now) (a .tails .now)
+tableOf c = let a = c .args in columns (a .n) (a .heads .now) (a .own .now) (a .strikes .now) (a .spans .now) (a .tails .now)
 
 abbrev came : tie.Start → Answers
 came c = let a = c .args in answers (a .weights .now) (a .depths .now) (a .edges .now)
 
 abbrev entry : tie.After-enum-told → tie.Start
-entry c = c .before .before .before .before .before .before .before .before .before .before
+entry c = c .before .before .before .before .before .before .before .before .before .before .before
 
 -- past 7 the columns are accepted
 accepted : (c : tie.After-enum-told) → lentAcceptance (tableOf (entry c)) (came (entry c)) ≡ Accepted
@@ -50,7 +50,7 @@ mul-if3 : tie.Need-mul-if3
 mul-if3 c =
     let p = c .before .before in
     let s = entry (p .before .before) in
-    omega (arith, part-placed (s .args .measure) (tableOf s) (came s) _ (accepted (p .before .before)) (p .if1 .left))
+    omega (arith, p .if1 .left, table-accepted (tableOf s) (columns-accepted (tableOf s) (came s) (accepted (p .before .before)) .table) .few)
 
 shared-slice-read-if3 : tie.Need-shared-slice-read-if3
 shared-slice-read-if3 c =
