@@ -3,7 +3,7 @@ use mathlib.Core.Path.{_≡_, refl, sym, _∙_, ap, subst}
 use mathlib.Core.Bool.{Bool, true, false}
 use mathlib.Core.Logic.{_↔_}
 use mathlib.Core.List.{List, [], _∷_, _++_}
-use Prim.Native.Nat.{ℕ, _≤_}
+use Prim.Native.Nat.{ℕ}
 use native.Mathlib.Omega.{arith}
 use lib.ListN.{length, take}
 use lib.Dec.{eqb}
@@ -12,7 +12,6 @@ use Rattle.weights.specs.declared.Measure.{Measure}
 use Rattle.weights.specs.declared.Measure.the-variants.{Cost, Days}
 use Rattle.weights.specs.Choice.{pick}
 use Rattle.weights.proofs.Choice.{apart}
-use Rattle.weights.specs.Figures.{greatest, struck}
 use Rattle.weights.specs.Labels.{aheadOf}
 use Rattle.weights.specs.Measures.{fold, weigh}
 use Rattle.refusal.specs.declared.Refusal.{Refusal}
@@ -35,7 +34,7 @@ use Rattle.columns.proofs.Exactly.{lent-refused-exactly}
 use Rattle.settle.specs.Settling.{answersOf, settled}
 use Rattle.settle.proofs.Demands.{settled-result}
 use Rattle.reprice.specs.Repricing.{lineAcceptance, repriceAcceptance, repriced}
-use Rattle.reprice.specs.Changes.{WrongChange}
+use Rattle.reprice.specs.Changes.{WrongChange, WrongReprice}
 use Rattle.reprice.proofs.Changes.{reprice-refused-exactly, repriced-result}
 use Rattle.bill.specs.Billing.{billOf, partAcceptance, billAcceptance, billed}
 use Rattle.bill.specs.Asked.{WrongBill}
@@ -46,13 +45,14 @@ use Rattle.counter.specs.Numbers.{Among, SettleReturns, RepriceReturns, 
 
 -- No other number ------------------------------------------------------------------------------------------------------------------------------
 
--- what holds of 1 to 7 holds of the number of each refusal of lent columns
-module _ (P : ℕ → Type 0) (p1 : P 1) (p2 : P 2) (p3 : P 3) (p4 : P 4) (p5 : P 5) (p6 : P 6) (p7 : P 7) where
+-- what holds of 1 to 7 and 21 holds of the number of each refusal of lent columns
+module _ (P : ℕ → Type 0) (p1 : P 1) (p2 : P 2) (p3 : P 3) (p4 : P 4) (p21 : P 21) (p5 : P 5) (p6 : P 6) (p7 : P 7) where
   edge-number : {c : Columns} {e : ℕ} {r : Refusal} → WrongEdge c e r → P (numberOf r)
   edge-number (WrongEdge.head n) = p3
   edge-number (WrongEdge.own h n) = p4
-  edge-number (WrongEdge.span h o n) = p5
-  edge-number (WrongEdge.tail h o s n) = p6
+  edge-number (WrongEdge.mark h o n) = p21
+  edge-number (WrongEdge.span h o m n) = p5
+  edge-number (WrongEdge.tail h o m s n) = p6
 
   lent-number : {c : Columns} {a : Answers} {r : Refusal} → WrongLent c a r → P (numberOf r)
   lent-number (WrongLent.table (WrongTable.many n)) = p1
@@ -104,7 +104,7 @@ unfolding among
 settle-among c a m r e =
     let L = settleList in
     let l : (n : ℕ) → among n L ≡ true → Among n L = λ n. listed n L in
-    lent-number (λ n. Among n L) (l 1 refl) (l 2 refl) (l 3 refl) (l 4 refl) (l 5 refl) (l 6 refl) (l 7 refl)
+    lent-number (λ n. Among n L) (l 1 refl) (l 2 refl) (l 3 refl) (l 4 refl) (l 21 refl) (l 5 refl) (l 6 refl) (l 7 refl)
     (lent-refused-exactly c a r .0 (sym (settled-result m c a) ∙ answered (settled m c a .result) e))
 
 reprice-among : (c : Columns) (a : Answers) (e w : ℕ) (m : Measure) (r : Refusal) → extentOf (repriced m c a e w .result) ≡ Refused r → Among (numberOf r) repriceList
@@ -114,10 +114,10 @@ reprice-among c a e w m r q = go (reprice-refused-exactly m c a e w r .0 (sym (r
     l : (n : ℕ) → among n repriceList ≡ true → Among n repriceList
     l n = listed n repriceList
 
-    go : {r : Refusal} → WrongChange m c a e (w ≤ greatest) r → Among (numberOf r) repriceList
-    go (WrongChange.lent x) = lent-number (λ n. Among n repriceList) (l 1 refl) (l 2 refl) (l 3 refl) (l 4 refl) (l 5 refl) (l 6 refl) (l 7 refl) x
+    go : {r : Refusal} → WrongReprice m c a e w r → Among (numberOf r) repriceList
+    go (WrongChange.lent x) = lent-number (λ n. Among n repriceList) (l 1 refl) (l 2 refl) (l 3 refl) (l 4 refl) (l 21 refl) (l 5 refl) (l 6 refl) (l 7 refl) x
     go (WrongChange.line x n) = l 9 refl
-    go (WrongChange.figure x n h) = l 10 refl
+    go (WrongChange.further x n h) = l 10 refl
     go (WrongChange.answers x n h f) = l 8 refl
 
 bill-among : (c : Columns) (a : Answers) (v : ℕ) (room : List ℕ) (m : Measure) (r : Refusal) → billed m c a v room .result ≡ Refused r → Among (numberOf r) billList
@@ -128,7 +128,7 @@ bill-among c a v room m r q = go (bill-refused-exactly m c a v (length room) r .
     l n = listed n billList
 
     go : {r : Refusal} → WrongBill m c a v (length room) r → Among (numberOf r) billList
-    go (WrongBill.lent x) = lent-number (λ n. Among n billList) (l 1 refl) (l 2 refl) (l 3 refl) (l 4 refl) (l 5 refl) (l 6 refl) (l 7 refl) x
+    go (WrongBill.lent x) = lent-number (λ n. Among n billList) (l 1 refl) (l 2 refl) (l 3 refl) (l 4 refl) (l 21 refl) (l 5 refl) (l 6 refl) (l 7 refl) x
     go (WrongBill.part x n) = l 11 refl
     go (WrongBill.answers x h n) = l 8 refl
     go (WrongBill.unmade x h f n) = l 12 refl
@@ -156,17 +156,18 @@ record Shown (n : ℕ) : Type 0 where
 abbrev nothing : Answers
 nothing = answers [] [] []
 
-shown : All Shown (1 ∷ 2 ∷ 3 ∷ 4 ∷ 5 ∷ 6 ∷ 7 ∷ [])
+shown : All Shown (1 ∷ 2 ∷ 3 ∷ 4 ∷ 21 ∷ 5 ∷ 6 ∷ 7 ∷ [])
 unfolding lentAcceptance acceptance edgesAcceptance edgeAcceptance allBelow
 shown =
-    All.more (record { columns = columns 1025 [] [] [] []; answers = nothing; refusal = _; refused = refl; number = refl })
-    (All.more (record { columns = columns 5 (0 ∷ 0 ∷ []) (0 ∷ []) [] []; answers = nothing; refusal = _; refused = refl; number = refl })
-    (All.more (record { columns = columns 5 (5 ∷ []) (0 ∷ []) (0 ∷ 0 ∷ []) []; answers = nothing; refusal = _; refused = refl; number = refl })
-    (All.more (record { columns = columns 5 (0 ∷ []) (1_000_000_002 ∷ []) (0 ∷ 0 ∷ []) []; answers = nothing; refusal = _; refused = refl; number = refl })
-    (All.more (record { columns = columns 5 (0 ∷ 0 ∷ []) (0 ∷ 0 ∷ []) (0 ∷ 2 ∷ 1 ∷ 1 ∷ []) (0 ∷ 0 ∷ []); answers = nothing; refusal = _; refused = refl; number = refl })
-    (All.more (record { columns = columns 5 (0 ∷ []) (0 ∷ []) (0 ∷ 1 ∷ []) (9 ∷ []); answers = nothing; refusal = _; refused = refl; number = refl })
-    (All.more (record { columns = columns 5 [] [] [] []; answers = nothing; refusal = _; refused = refl; number = refl })
-    All.none))))))
+    All.more (record { columns = columns 1025 [] [] [] [] []; answers = nothing; refusal = _; refused = refl; number = refl })
+    (All.more (record { columns = columns 5 (0 ∷ 0 ∷ []) (0 ∷ []) (0 ∷ 0 ∷ []) [] []; answers = nothing; refusal = _; refused = refl; number = refl })
+    (All.more (record { columns = columns 5 (5 ∷ []) (0 ∷ []) (0 ∷ []) (0 ∷ 0 ∷ []) []; answers = nothing; refusal = _; refused = refl; number = refl })
+    (All.more (record { columns = columns 5 (0 ∷ []) (1_000_000_001 ∷ []) (0 ∷ []) (0 ∷ 0 ∷ []) []; answers = nothing; refusal = _; refused = refl; number = refl })
+    (All.more (record { columns = columns 5 (0 ∷ []) (0 ∷ []) (2 ∷ []) (0 ∷ 0 ∷ []) []; answers = nothing; refusal = _; refused = refl; number = refl })
+    (All.more (record { columns = columns 5 (0 ∷ 0 ∷ []) (0 ∷ 0 ∷ []) (0 ∷ 0 ∷ []) (0 ∷ 2 ∷ 1 ∷ 1 ∷ []) (0 ∷ 0 ∷ []); answers = nothing; refusal = _; refused = refl; number = refl })
+    (All.more (record { columns = columns 5 (0 ∷ []) (0 ∷ []) (0 ∷ []) (0 ∷ 1 ∷ []) (9 ∷ []); answers = nothing; refusal = _; refused = refl; number = refl })
+    (All.more (record { columns = columns 5 [] [] [] [] []; answers = nothing; refusal = _; refused = refl; number = refl })
+    All.none)))))))
 
 all-map : {P Q : ℕ → Type 0} → ((n : ℕ) → P n → Q n) → {ns : List ℕ} → All P ns → All Q ns
 all-map f All.none = All.none
@@ -178,11 +179,11 @@ all-append (All.more p ps) qs = All.more p (all-append ps qs)
 
 -- one line, `0 5`, and one part
 abbrev single : Columns
-single = columns 1 (0 ∷ []) (5 ∷ []) (0 ∷ 0 ∷ []) []
+single = columns 1 (0 ∷ []) (5 ∷ []) (0 ∷ []) (0 ∷ 0 ∷ []) []
 
 -- one part, and no line
 abbrev lineless : Columns
-lineless = columns 1 [] [] [] []
+lineless = columns 1 [] [] [] [] []
 
 abbrev unmade : Answers
 unmade = answers (0 ∷ []) (0 ∷ []) (0 ∷ [])
@@ -203,7 +204,7 @@ settle-shown n s = record {
 settle-all : All SettleReturns settleList
 settle-all = All.more (record { measure = 2; columns = single; answers = nothing; refused = record { refusal = MeasureNumber; returned = refl; number = refl } }) (all-map settle-shown shown)
 
--- "Refusals: 16, 1 to 7"
+-- "Refusals: 16, 1 to 7 and 21"
 pub settle-numbers : (n : ℕ) → SettleReturns n ↔ Among n settleList
 unfolding among
 settle-numbers n = (
@@ -225,12 +226,12 @@ reprice-shown n s =
     let q = repriced-result Cost c a 0 0 ∙ reprice-refused-exactly Cost c a 0 0 (s .refusal) .1 (WrongChange.lent w) in
     record { measure = 0; columns = c; answers = a; edge = 0; weight = 0; refused = record { refusal = s .refusal; returned = ap extentOf q; number = s .number } }
 
--- a line that is not there, the struck mark as a figure, a figure off by 1
+-- a line that is not there, a figure above the greatest, a figure off by 1
 reprice-late : All RepriceReturns (9 ∷ 10 ∷ 8 ∷ [])
 unfolding repriced repriceAcceptance lineAcceptance lentAcceptance acceptance edgesAcceptance edgeAcceptance allBelow sameAnswers equal answersOf best-first turns turn next opening offerOf noneZero aheadOf weigh fold each deepest
 reprice-late =
     All.more (record { measure = 0; columns = single; answers = answer-of 5; edge = 1; weight = 0; refused = record { refusal = NoSuchEdge; returned = refl; number = refl } })
-    (All.more (record { measure = 0; columns = single; answers = answer-of 5; edge = 0; weight = struck; refused = record { refusal = NewWeight; returned = refl; number = refl } })
+    (All.more (record { measure = 0; columns = single; answers = answer-of 5; edge = 0; weight = 1_000_000_001; refused = record { refusal = NewWeight; returned = refl; number = refl } })
     (All.more (record { measure = 0; columns = single; answers = answer-of 6; edge = 0; weight = 5; refused = record { refusal = WrongAnswers; returned = refl; number = refl } })
     All.none))
 
@@ -239,7 +240,7 @@ reprice-all =
     All.more (record { measure = 2; columns = single; answers = nothing; edge = 0; weight = 0; refused = record { refusal = MeasureNumber; returned = refl; number = refl } })
     (all-append (all-map reprice-shown shown) reprice-late)
 
--- "Refusals: 16, 1 to 7, 9, 10, 8"
+-- "Refusals: 16, 1 to 7 and 21, 9, 10, 8"
 pub reprice-numbers : (n : ℕ) → RepriceReturns n ↔ Among n repriceList
 unfolding among
 reprice-numbers n = (
@@ -276,7 +277,7 @@ bill-all =
     All.more (record { measure = 2; columns = single; answers = nothing; vertex = 0; room = []; refused = record { refusal = MeasureNumber; returned = refl; number = refl } })
     (all-append (all-map bill-shown shown) bill-late)
 
--- "Refusals: 16, 1 to 7, 11, 8, 12, 13"
+-- "Refusals: 16, 1 to 7 and 21, 11, 8, 12, 13"
 pub bill-numbers : (n : ℕ) → BillReturns n ↔ Among n billList
 unfolding among
 bill-numbers n = (

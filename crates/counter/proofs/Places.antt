@@ -8,7 +8,6 @@ use lib.Dec.{eqb}
 use Rattle.weights.specs.declared.Measure.{Measure}
 use Rattle.weights.specs.declared.Measure.the-variants.{Cost, Days}
 use Rattle.weights.specs.Choice.{pick}
-use Rattle.weights.specs.Figures.{greatest}
 use Rattle.refusal.specs.declared.Refusal.{Refusal}
 use Rattle.refusal.specs.declared.Refusal.the-variants.{MeasureNumber}
 use Rattle.refusal.specs.declared.Acceptance.the-variants as answer
@@ -19,7 +18,7 @@ use Rattle.columns.specs.Acceptance.{mostEdges, lentAcceptance}
 use Rattle.columns.specs.Right.{WrongEdge, WrongTable, WrongLent}
 use Rattle.columns.proofs.Exactly.{lent-refused-exactly}
 use Rattle.reprice.specs.Repricing.{repriceAcceptance}
-use Rattle.reprice.specs.Changes.{WrongChange}
+use Rattle.reprice.specs.Changes.{WrongChange, WrongReprice}
 use Rattle.reprice.proofs.Changes.{reprice-refused-exactly}
 use Rattle.bill.specs.Billing.{billAcceptance}
 use Rattle.bill.specs.Asked.{WrongBill}
@@ -29,8 +28,9 @@ use Rattle.bill.proofs.Asked.{bill-refused-exactly}
 edge-place : {c : Columns} {e : ℕ} {r : Refusal} → WrongEdge c e r → e ≤ mostEdges → placeOf r ≤ lastPlace
 edge-place (WrongEdge.head n) h = omega arith
 edge-place (WrongEdge.own x n) h = omega arith
-edge-place (WrongEdge.span x y n) h = omega arith
-edge-place (WrongEdge.tail x y z n) h = omega arith
+edge-place (WrongEdge.mark x y n) h = omega arith
+edge-place (WrongEdge.span x y m n) h = omega arith
+edge-place (WrongEdge.tail x y m z n) h = omega arith
 
 wrong-place : {c : Columns} {a : Answers} {r : Refusal} → WrongLent c a r → placeOf r ≤ lastPlace
 wrong-place (WrongLent.table (WrongTable.many n)) = omega arith
@@ -44,10 +44,10 @@ lent-place c a {s} p = wrong-place (lent-refused-exactly c a s .0 p)
 pub reprice-place : (m : Measure) (c : Columns) (a : Answers) (e w : ℕ) {s : Refusal} → repriceAcceptance m c a e w ≡ answer.Refused s → placeOf s ≤ lastPlace
 reprice-place m c a e w {s} p = go (reprice-refused-exactly m c a e w s .0 p)
   where
-    go : {r : Refusal} → WrongChange m c a e (w ≤ greatest) r → placeOf r ≤ lastPlace
+    go : {r : Refusal} → WrongReprice m c a e w r → placeOf r ≤ lastPlace
     go (WrongChange.lent x) = wrong-place x
     go (WrongChange.line l n) = omega arith
-    go (WrongChange.figure l n h) = omega arith
+    go (WrongChange.further l n h) = omega arith
     go (WrongChange.answers l n h f) = omega arith
 
 pub bill-place : (m : Measure) (c : Columns) (a : Answers) (v places : ℕ) {s : Refusal} → billAcceptance m c a v places ≡ answer.Refused s → placeOf s ≤ lastPlace

@@ -1,5 +1,5 @@
 -- Which refusals a program in C can get of each call: the lists that the header gives. The paper's "Order: 16, 1, 2, then line by line …; then 7, 9, 10, 11, 8, 12,
--- 13". Assumes nothing: these are definitions.
+-- 13"; in each line 21 comes "after 4" (document 02, 2026-02). Assumes nothing: these are definitions.
 use mathlib.Core.Path.{_≡_}
 use mathlib.Core.List.{List, [], _∷_}
 use Prim.Native.Nat.{ℕ}
@@ -46,10 +46,10 @@ pub record BillReturns (n : ℕ) : Type 0 where
 
 -- the header's lists
 abbrev pub settleList : List ℕ
-settleList = 16 ∷ 1 ∷ 2 ∷ 3 ∷ 4 ∷ 5 ∷ 6 ∷ 7 ∷ []
+settleList = 16 ∷ 1 ∷ 2 ∷ 3 ∷ 4 ∷ 21 ∷ 5 ∷ 6 ∷ 7 ∷ []
 
 abbrev pub repriceList : List ℕ
-repriceList = 16 ∷ 1 ∷ 2 ∷ 3 ∷ 4 ∷ 5 ∷ 6 ∷ 7 ∷ 9 ∷ 10 ∷ 8 ∷ []
+repriceList = 16 ∷ 1 ∷ 2 ∷ 3 ∷ 4 ∷ 21 ∷ 5 ∷ 6 ∷ 7 ∷ 9 ∷ 10 ∷ 8 ∷ []
 
 abbrev pub billList : List ℕ
-billList = 16 ∷ 1 ∷ 2 ∷ 3 ∷ 4 ∷ 5 ∷ 6 ∷ 7 ∷ 11 ∷ 8 ∷ 12 ∷ 13 ∷ []
+billList = 16 ∷ 1 ∷ 2 ∷ 3 ∷ 4 ∷ 21 ∷ 5 ∷ 6 ∷ 7 ∷ 11 ∷ 8 ∷ 12 ∷ 13 ∷ []

@@ -16,6 +16,7 @@ pub extern "C" fn settle(
     n: u64,
     heads: &[u64],
     own: &[u64],
+    strikes: &[u64],
     spans: &[u64],
     tails: &[u64],
     weights: &mut [u64],
@@ -23,7 +24,7 @@ pub extern "C" fn settle(
     edges: &mut [u64],
 ) -> u64
     ensures { λ r.
-        let c = columns n (now (heads .entry)) (now (own .entry)) (now (spans .entry)) (now (tails .entry)) in
+        let c = columns n (now (heads .entry)) (now (own .entry)) (now (strikes .entry)) (now (spans .entry)) (now (tails .entry)) in
         let a = answers (now (weights .entry)) (now (depths .entry)) (now (edges .entry)) in
         let a′ = answers (now (weights .exit)) (now (depths .exit)) (now (edges .exit)) in
         ⌜ record { result = r; left = a′ } ≡ settledResult (measureOf measure) c a ⌝ }
@@ -32,7 +33,18 @@ pub extern "C" fn settle(
     match choice {
         MeasureChoice::Refused(r) => return r.result(),
         MeasureChoice::Measure(m) => {
-            let a = settle::settle(m, n, heads, own, spans, tails, weights, depths, edges);
+            let a = settle::settle(
+                m,
+                n,
+                heads,
+                own,
+                strikes,
+                spans,
+                tails,
+                weights,
+                depths,
+                edges,
+            );
             return a.result();
         }
     }
@@ -44,6 +56,7 @@ pub extern "C" fn reprice(
     n: u64,
     heads: &[u64],
     own: &mut [u64],
+    strikes: &[u64],
     spans: &[u64],
     tails: &[u64],
     weights: &mut [u64],
@@ -53,7 +66,7 @@ pub extern "C" fn reprice(
     figure: u64,
 ) -> u64
     ensures { λ r.
-        let c = columns n (now (heads .entry)) (now (own .entry)) (now (spans .entry)) (now (tails .entry)) in
+        let c = columns n (now (heads .entry)) (now (own .entry)) (now (strikes .entry)) (now (spans .entry)) (now (tails .entry)) in
         let a = answers (now (weights .entry)) (now (depths .entry)) (now (edges .entry)) in
         let a′ = answers (now (weights .exit)) (now (depths .exit)) (now (edges .exit)) in
         ⌜ record { result = r; own = now (own .exit); left = a′ } ≡ repricedResult (measureOf measure) c a line figure ⌝ }
@@ -67,6 +80,7 @@ pub extern "C" fn reprice(
                 n,
                 heads,
                 own,
+                strikes,
                 spans,
                 tails,
                 weights,
@@ -100,6 +114,7 @@ pub extern "C" fn bill(
     n: u64,
     heads: &[u64],
     own: &[u64],
+    strikes: &[u64],
     spans: &[u64],
     tails: &[u64],
     weights: &[u64],
@@ -109,7 +124,7 @@ pub extern "C" fn bill(
     room: &mut [u64],
 ) -> u64
     ensures { λ r.
-        let c = columns n (now (heads .entry)) (now (own .entry)) (now (spans .entry)) (now (tails .entry)) in
+        let c = columns n (now (heads .entry)) (now (own .entry)) (now (strikes .entry)) (now (spans .entry)) (now (tails .entry)) in
         let a = answers (now (weights .entry)) (now (depths .entry)) (now (edges .entry)) in
         ⌜ record { result = r; left = now (room .exit) } ≡ billedResult (measureOf measure) c a part (now (room .entry)) ⌝ }
 {
@@ -123,6 +138,7 @@ pub extern "C" fn bill(
                 n,
                 heads,
                 own,
+                strikes,
                 spans,
                 tails,
                 weights,
