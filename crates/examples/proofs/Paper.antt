@@ -13,7 +13,7 @@ use Rattle.columns.specs.Worked.{worked}
 use Rattle.columns.specs.Same.{equal, sameAnswers}
 use Rattle.columns.specs.Acceptance.{allBelow, edgeAcceptance, edgesAcceptance, acceptance, lentAcceptance}
 use Rattle.settle.specs.Settling.{answersOf, settled}
-use Rattle.reprice.specs.Repricing.{lineAcceptance, repriceAcceptance, strikeAcceptance, repriced, stricken}
+use Rattle.reprice.specs.Repricing.{lineAcceptance, repriceAcceptance, strikeAcceptance, numberedAcceptance, struckAcceptance, restoreAcceptance, repriced, stricken, restored}
 use Rattle.reprice.specs.Demand3.{Pair}
 use Rattle.bill.specs.Billing.{billOf, partAcceptance, billAcceptance, billed}
 use Rattle.bill.specs.Rises.{Demand3Billed}
@@ -24,14 +24,14 @@ use Rattle.examples.specs.Paper.{cases}
 -- the worked table and that of P3 are a pair as demand 3 asks for
 pub worked-pair : Pair worked (withOwn worked 1 500) 1 200
 unfolding acceptance edgesAcceptance edgeAcceptance allBelow
-worked-pair = record { accepted = refl; accepted′ = refl; raised = refl; numbered = omega arith; unstruck = refl; unstruck′ = refl }
+worked-pair = record { accepted = refl; accepted′ = refl; raised = refl; numbered = omega arith; unstruck = refl }
 
 -- P3's bounds are demand 3's
 worked-bounds : Demand3Billed Cost worked (withOwn worked 1 500) 1 200
 worked-bounds = demand-3-billed Cost worked (withOwn worked 1 500) 1 200 worked-pair
 
 pub every-case-holds : AllHold cases
-unfolding cases AllHold states settled billed repriced stricken answersOf billOf partAcceptance billAcceptance repriceAcceptance strikeAcceptance lineAcceptance sameAnswers equal lentAcceptance acceptance edgesAcceptance edgeAcceptance allBelow best-first turns turn next opening offerOf noneZero aheadOf weigh fold each greatestDepth bill bills count
+unfolding cases AllHold states settled billed repriced stricken restored answersOf billOf partAcceptance billAcceptance repriceAcceptance strikeAcceptance lineAcceptance restoreAcceptance struckAcceptance numberedAcceptance sameAnswers equal lentAcceptance acceptance edgesAcceptance edgeAcceptance allBelow best-first turns turn next opening offerOf noneZero aheadOf weigh fold each greatestDepth bill bills count
 every-case-holds = (
   record { outcome = refl; told = refl },
   (
@@ -54,7 +54,10 @@ every-case-holds = (
                     record { outcome = refl; told = refl },
                     (
                       refl,
-                      tt,
+                      (
+                        refl,
+                        tt,
+                      ),
                     ),
                   ),
                 ),

@@ -11,7 +11,7 @@ use Rattle.refusal.specs.declared.Acceptance.the-variants.{Accepted}
 use Rattle.refusal.specs.declared.Extent.the-variants.{Length}
 use Rattle.columns.specs.Columns.{Answers, Columns, ownAt, withOwn}
 use Rattle.settle.specs.Settling.{settled}
-use Rattle.reprice.specs.Repricing.{repriced, stricken}
+use Rattle.reprice.specs.Repricing.{repriced, stricken, restored}
 use Rattle.reprice.specs.Demand3.{labelsOf, Pair, Rise}
 use Rattle.bill.specs.Billing.{billed}
 use Rattle.bill.specs.Rises.{countIn}
@@ -21,9 +21,11 @@ pub data Case : Type 0 where
   settles : Measure → Columns → (filler left : Answers) → List State → Case
   -- once settled, the bill of part v stands at the start of the room
   prints : Measure → Columns → (filler : Answers) → (v : ℕ) → (room bill : List ℕ) → Case
-  -- once settled, repricing line e to w, or striking it, leaves these own figures and answers
+  -- once settled, repricing line e to w leaves these own figures and answers
   reprices : Measure → Columns → (filler : Answers) → (e w : ℕ) → (own : List ℕ) → (left : Answers) → Case
-  strikes : Measure → Columns → (filler : Answers) → (e : ℕ) → (own : List ℕ) → (left : Answers) → Case
+  -- once settled, striking line e, or restoring it, leaves these strike marks and answers; the own figures are lent to be read alone
+  strikes : Measure → Columns → (filler : Answers) → (e : ℕ) → (marks : List ℕ) → (left : Answers) → Case
+  restores : Measure → Columns → (filler : Answers) → (e : ℕ) → (marks : List ℕ) → (left : Answers) → Case
   -- line e raised by d carries part v from figure w to w′, and stands `old` times in its bill before and `new` times after
   raises : Measure → Columns → (e d v w w′ old new : ℕ) → Case
 
@@ -51,7 +53,8 @@ abbrev pub Holds : Case → Type 0
 Holds (settles m c filler left ss) = Settles m c filler left ss
 Holds (prints m c filler v room bill) = billed m c (settled m c filler .left) v room ≡ record { result = Length (length bill); left = bill ++ drop (length bill) room }
 Holds (reprices m c filler e w own left) = repriced m c (settled m c filler .left) e w ≡ record { result = Accepted; own = own; left = left }
-Holds (strikes m c filler e own left) = stricken m c (settled m c filler .left) e ≡ record { result = Accepted; own = own; left = left }
+Holds (strikes m c filler e marks left) = stricken m c (settled m c filler .left) e ≡ record { result = Accepted; strikes = marks; left = left }
+Holds (restores m c filler e marks left) = restored m c (settled m c filler .left) e ≡ record { result = Accepted; strikes = marks; left = left }
 Holds (raises m c e d v w w′ old new) = Raises m c e d v w w′ old new
 
 -- every case of a list holds

@@ -1,12 +1,11 @@
--- The paper's examples P1 to P10 ("A table priced whole") as one list, each by the call that it is about. Assumes nothing: these are definitions.
+-- The paper's examples P1 to P10 ("A table priced whole"; P10 in the columns of document 02, 2026-02) as one list, each by the call that it is about. Assumes nothing: these are definitions.
 use Prim.Native.Nat.{ℕ}
 use mathlib.Core.List.{List, [], _∷_}
 use Rattle.weights.specs.declared.Measure.the-variants.{Cost, Days}
 use Rattle.weights.specs.declared.State.the-variants.{Made, Over, Unmade}
-use Rattle.weights.specs.Figures.{struck}
-use Rattle.columns.specs.Columns.{Answers, Columns, columns, answers}
+use Rattle.columns.specs.Columns.{Answers, Columns, columns, answers, withStrike}
 use Rattle.columns.specs.Worked.{worked}
-use Rattle.examples.specs.Case.{Case, settles, prints, reprices, strikes, raises}
+use Rattle.examples.specs.Case.{Case, settles, prints, reprices, strikes, restores, raises}
 
 -- part 0 at the greatest figure, and three lines that each need ten of the part before, the last with this own figure
 abbrev pub tens : ℕ → Columns
@@ -14,6 +13,7 @@ tens own =
     columns 4
     (0 ∷ 1 ∷ 2 ∷ 3 ∷ [])
     (1_000_000_000 ∷ 0 ∷ 0 ∷ own ∷ [])
+    (0 ∷ 0 ∷ 0 ∷ 0 ∷ [])
     (0 ∷ 0 ∷ 0 ∷ 10 ∷ 10 ∷ 10 ∷ 20 ∷ 10 ∷ [])
     (0 ∷ 0 ∷ 0 ∷ 0 ∷ 0 ∷ 0 ∷ 0 ∷ 0 ∷ 0 ∷ 0 ∷ 1 ∷ 1 ∷ 1 ∷ 1 ∷ 1 ∷ 1 ∷ 1 ∷ 1 ∷ 1 ∷ 1 ∷ 2 ∷ 2 ∷ 2 ∷ 2 ∷ 2 ∷ 2 ∷ 2 ∷ 2 ∷ 2 ∷ 2 ∷ [])
 
@@ -39,9 +39,9 @@ cases =
     -- P4: with days, parts 2 and 3 are 1200, part 2 by line 2
     ∷ settles Days worked five (answers (1200 ∷ 300 ∷ 1200 ∷ 1200 ∷ 0 ∷ []) (1 ∷ 1 ∷ 2 ∷ 3 ∷ 0 ∷ []) (0 ∷ 1 ∷ 2 ∷ 4 ∷ 0 ∷ [])) (Made ∷ Made ∷ Made ∷ Made ∷ Unmade ∷ [])
     -- P5: no parts and no lines have no entries
-    ∷ settles Cost (columns 0 [] [] [] []) (answers [] [] []) (answers [] [] []) []
+    ∷ settles Cost (columns 0 [] [] [] [] []) (answers [] [] []) (answers [] [] []) []
     -- P6: two lines that need one another make nothing
-    ∷ settles Cost (columns 2 (0 ∷ 1 ∷ []) (0 ∷ 0 ∷ []) (0 ∷ 1 ∷ 1 ∷ 1 ∷ []) (1 ∷ 0 ∷ [])) two (answers (0 ∷ 0 ∷ []) (0 ∷ 0 ∷ []) (0 ∷ 0 ∷ [])) (Unmade ∷ Unmade ∷ [])
+    ∷ settles Cost (columns 2 (0 ∷ 1 ∷ []) (0 ∷ 0 ∷ []) (0 ∷ 0 ∷ []) (0 ∷ 1 ∷ 1 ∷ 1 ∷ []) (1 ∷ 0 ∷ [])) two (answers (0 ∷ 0 ∷ []) (0 ∷ 0 ∷ []) (0 ∷ 0 ∷ [])) (Unmade ∷ Unmade ∷ [])
     -- P7: the ceiling itself is made
     ∷ settles Cost (tens 0) four
     (answers (1_000_000_000 ∷ 10_000_000_000 ∷ 100_000_000_000 ∷ 1_000_000_000_000 ∷ []) (1 ∷ 2 ∷ 3 ∷ 4 ∷ []) (0 ∷ 1 ∷ 2 ∷ 3 ∷ []))
@@ -51,7 +51,10 @@ cases =
     (answers (1_000_000_000 ∷ 10_000_000_000 ∷ 100_000_000_000 ∷ 1_000_000_000_001 ∷ []) (1 ∷ 2 ∷ 3 ∷ 4 ∷ []) (0 ∷ 1 ∷ 2 ∷ 3 ∷ []))
     (Made ∷ Made ∷ Made ∷ Over ∷ [])
     -- P9: a tie goes to the lesser depth before the lower line
-    ∷ settles Cost (columns 2 (0 ∷ 1 ∷ 1 ∷ []) (5 ∷ 0 ∷ 5 ∷ []) (0 ∷ 0 ∷ 0 ∷ 1 ∷ 1 ∷ 0 ∷ []) (0 ∷ [])) two (answers (5 ∷ 5 ∷ []) (1 ∷ 1 ∷ []) (0 ∷ 2 ∷ [])) (Made ∷ Made ∷ [])
+    ∷ settles Cost (columns 2 (0 ∷ 1 ∷ 1 ∷ []) (5 ∷ 0 ∷ 5 ∷ []) (0 ∷ 0 ∷ 0 ∷ []) (0 ∷ 0 ∷ 0 ∷ 1 ∷ 1 ∷ 0 ∷ []) (0 ∷ [])) two (answers (5 ∷ 5 ∷ []) (1 ∷ 1 ∷ []) (0 ∷ 2 ∷ [])) (Made ∷ Made ∷ [])
     -- P10: line 0 struck; part 2 takes line 3, and part 0 is unmade
-    ∷ strikes Cost worked five 0 (struck ∷ 300 ∷ 500 ∷ 2100 ∷ 0 ∷ 10 ∷ []) (answers (0 ∷ 300 ∷ 2100 ∷ 2700 ∷ 0 ∷ []) (0 ∷ 1 ∷ 1 ∷ 2 ∷ 0 ∷ []) (0 ∷ 1 ∷ 3 ∷ 4 ∷ 0 ∷ []))
+    ∷ strikes Cost worked five 0 (1 ∷ 0 ∷ 0 ∷ 0 ∷ 0 ∷ 0 ∷ []) (answers (0 ∷ 300 ∷ 2100 ∷ 2700 ∷ 0 ∷ []) (0 ∷ 1 ∷ 1 ∷ 2 ∷ 0 ∷ []) (0 ∷ 1 ∷ 3 ∷ 4 ∷ 0 ∷ []))
+    -- and restored: it stands at 1200, the figure that it kept, and the answers are those of P1
+    ∷ restores Cost (withStrike worked 0 1) five 0 (0 ∷ 0 ∷ 0 ∷ 0 ∷ 0 ∷ 0 ∷ [])
+    (answers (1200 ∷ 300 ∷ 2000 ∷ 2600 ∷ 0 ∷ []) (1 ∷ 1 ∷ 2 ∷ 3 ∷ 0 ∷ []) (0 ∷ 1 ∷ 2 ∷ 4 ∷ 0 ∷ []))
     ∷ []
