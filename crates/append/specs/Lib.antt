@@ -1,3 +1,4 @@
 pub mod Appending
 pub mod Growing
 pub mod Leaves
+pub mod Changes
