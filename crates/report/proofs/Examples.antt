@@ -14,7 +14,7 @@ use Rattle.columns.specs.Worked.{worked}
 use Rattle.columns.specs.Acceptance.{allBelow, edgeAcceptance, edgesAcceptance, acceptance}
 use Rattle.settle.specs.Settling.{answersOf}
 use Rattle.text.specs.Tables.{edgesFrom}
-use Rattle.text.specs.Render.{digitsOn, digits, word, firstWord as opened, measureText, header, ownText, tailText, edgeText, edgesText, tableText, render}
+use Rattle.text.specs.Render.{digitsOn, digits, word, firstWord as opened, measureText, header, markText, ownText, tailText, edgeText, edgesText, tableText, render}
 use Rattle.text.specs.Machine.{run, finish, parse}
 use Rattle.text.specs.Worked.{costText, daysText}
 use Rattle.readtable.specs.Read.{readInto}
@@ -27,7 +27,7 @@ unfolding allBelow edgeAcceptance edgesAcceptance acceptance
 accepted = refl
 
 rendered-cost : render Cost worked ≡ costText
-unfolding costText edgesFrom digitsOn digits word opened measureText header ownText tailText edgeText edgesText tableText
+unfolding costText edgesFrom digitsOn digits word opened measureText header markText ownText tailText edgeText edgesText tableText
 rendered-cost = refl
 
 listed-cost : list (answersOf Cost worked) 5 ≡ costList
@@ -41,7 +41,7 @@ worked-cost =
     ap report (sym rendered-cost) ∙ report-rendered Cost worked accepted s ∙ listed-cost
 
 rendered-days : render Days worked ≡ daysText
-unfolding daysText edgesFrom digitsOn digits word opened measureText header ownText tailText edgeText edgesText tableText
+unfolding daysText edgesFrom digitsOn digits word opened measureText header markText ownText tailText edgeText edgesText tableText
 rendered-days = refl
 
 listed-days : list (answersOf Days worked) 5 ≡ daysList

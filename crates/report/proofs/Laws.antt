@@ -102,18 +102,18 @@ module _ (m : Measure) (c : Columns) (a : Answers) (x : Acceptance) (b : Answers
 pub reported : (input bytes old : List ℕ) (r : ℕ) (room : List ℕ) → report input ≡ bytes → Written bytes old r room → (r ≡ length (report input)) × (room ≡ filled (report input) old)
 reported input bytes old r room e w = (w .count ∙ ap length (sym e), w .room-is ∙ ap (λ (z : List ℕ). filled z old) (sym e))
 
-module _ (input : List ℕ) (short : length input ≤ mostInput) (a : Reading) (h o s t : List ℕ) (q : readOutcome a h o s t ≡ readInput input) where
+module _ (input : List ℕ) (short : length input ≤ mostInput) (a : Reading) (h o ms s t : List ℕ) (q : readOutcome a h o ms s t ≡ readInput input) where
   pub report-refused : (r : Refusal) → a ≡ reading.Refused r → report input ≡ refusedLine r
   unfolding listedAs
-  report-refused r e = report-short input short ∙ ap listed (sym q) ∙ ap (λ (z : Reading). listedAs z (readOutcome a h o s t)) e
+  report-refused r e = report-short input short ∙ ap listed (sym q) ∙ ap (λ (z : Reading). listedAs z (readOutcome a h o ms s t)) e
 
-  pub report-table : (g : Header) → a ≡ reading.Table g → report input ≡ priced (g .vertices) (settled (g .measure) (lentColumns g h o s t) (blank (g .vertices)))
+  pub report-table : (g : Header) → a ≡ reading.Table g → report input ≡ priced (g .vertices) (settled (g .measure) (lentColumns g h o ms s t) (blank (g .vertices)))
   unfolding listedAs
-  report-table g e = report-short input short ∙ ap listed (sym q) ∙ ap (λ (z : Reading). listedAs z (readOutcome a h o s t)) e
+  report-table g e = report-short input short ∙ ap listed (sym q) ∙ ap (λ (z : Reading). listedAs z (readOutcome a h o ms s t)) e
 
-  pub table-lent : (g : Header) (room : ℕ) → room ≡ mostOutput → a ≡ reading.Table g → Lent g h o s t room
+  pub table-lent : (g : Header) (room : ℕ) → room ≡ mostOutput → a ≡ reading.Table g → Lent g h o ms s t room
   table-lent g room l e =
-      subst (λ (x : ReadOutcome). Lent g (x .heads) (x .own) (x .spans) (x .tails) room) (sym q) (input-lent input g room short l (sym (ap (λ (x : ReadOutcome). x .answer) q) ∙ e))
+      subst (λ (x : ReadOutcome). Lent g (x .heads) (x .own) (x .strikes) (x .spans) (x .tails) room) (sym q) (input-lent input g room short l (sym (ap (λ (x : ReadOutcome). x .answer) q) ∙ e))
 
 -- what the report needs of room
 pub report-within : (input bytes : List ℕ) (room : ℕ) → room ≡ mostOutput → report input ≡ bytes → length bytes ≤ room

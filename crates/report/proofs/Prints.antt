@@ -41,10 +41,10 @@ prints input = go (decLe (length input) mostInput)
     go (no h) = let l : suc mostInput ≤ length input = omega arith in subst (Prints input) (sym (report-long input l)) (Prints.long l)
 
 -- "Read after write gives the table with its gaps closed", which has the same answers
-pub reads-back : (m : Measure) (c : Columns) (room : List ℕ) (k : ℕ) (h o s t : List ℕ) → writeTable m c room .answer ≡ extent.Length k → Room (closed c) h o s t
-    → ReadsBack m c (readTable (take k (writeTable m c room .room)) h o s t)
-reads-back m c room k h o s t e r =
+pub reads-back : (m : Measure) (c : Columns) (room : List ℕ) (k : ℕ) (h o ms s t : List ℕ) → writeTable m c room .answer ≡ extent.Length k → Room (closed c) h o ms s t
+    → ReadsBack m c (readTable (take k (writeTable m c room .room)) h o ms s t)
+reads-back m c room k h o ms s t e r =
     let a = written m c room k e .0 in
-    let q = read-after-write m c room k h o s t e r in
-    let b = ap (columnsRead (headerFor m (closed c))) q ∙ filled-back m c a h o s t in
+    let q = read-after-write m c room k h o ms s t e r in
+    let b = ap (columnsRead (headerFor m (closed c))) q ∙ filled-back m c a h o ms s t in
     record { told = ap (λ (x : ReadOutcome). x .answer) q; table = b; answers = ap (answersOf m) b ∙ answers-closed m c a }

@@ -20,11 +20,11 @@ use Rattle.columns.specs.Acceptance.{mostEdges, mostListed, acceptance, lentAcc
 use Rattle.columns.proofs.Accepted.{table-accepted, columns-accept}
 use Rattle.settle.specs.Settling.{answersOf, settled}
 use Rattle.settle.proofs.Demands.{settled-result}
-use Rattle.text.specs.Tables.{Table, headsOf, ownsOf, spansFrom, tailsOf, closed}
+use Rattle.text.specs.Tables.{Table, headsOf, ownsOf, marksOf, spansFrom, tailsOf, closed}
 use Rattle.text.specs.Render.{render, Permitted}
 use Rattle.text.specs.Machine.{Parse, Whole, Wrong, parse}
 use Rattle.text.proofs.Digits.{pick-by}
-use Rattle.text.proofs.Rows.{closed-accepted, length-heads, length-owns, length-spans, length-tails}
+use Rattle.text.proofs.Rows.{closed-accepted, length-heads, length-owns, length-marks, length-spans, length-tails}
 use Rattle.text.proofs.Sound.{sound}
 use Rattle.text.specs.Permitted.{FirstWrong}
 use Rattle.columns.proofs.Filled.{length-filled}
@@ -46,7 +46,7 @@ module _ (input : List ℕ) (g : Header) (e : readInput input .answer ≡ readin
 
   pub input-accepted : acceptance table ≡ Accepted
   unfolding readInput
-  input-accepted = read-accepted input _ _ _ _ g e
+  input-accepted = read-accepted input _ _ _ _ _ g e
 
   lent : lentAcceptance table (blank (g .vertices)) ≡ Accepted
   lent =
@@ -80,15 +80,15 @@ abbrev placeIn : Reading → ℕ
 placeIn (reading.Table g) = 0
 placeIn (reading.Refused r) = placeOf r
 
-place-low : (h o s t : List ℕ) (P : Parse) → ((l : ℕ) → P ≡ Wrong l → l ≤ mostEdges + 2) → placeIn (readInto P h o s t .answer) < 10_000
+place-low : (h o ms s t : List ℕ) (P : Parse) → ((l : ℕ) → P ≡ Wrong l → l ≤ mostEdges + 2) → placeIn (readInto P h o ms s t .answer) < 10_000
 unfolding readInto
-place-low h o s t (Wrong l) k = let m = k l refl in omega arith
-place-low h o s t (Whole u) k =
-    pick-by (λ (x : ReadOutcome). placeIn (x .answer) < 10_000) (roomFor (headerOf u) (length h) (length o) (length s) (length t)) (λ _. omega arith) (λ _. omega arith)
+place-low h o ms s t (Wrong l) k = let m = k l refl in omega arith
+place-low h o ms s t (Whole u) k =
+    pick-by (λ (x : ReadOutcome). placeIn (x .answer) < 10_000) (roomFor (headerOf u) (length h) (length o) (length ms) (length s) (length t)) (λ _. omega arith) (λ _. omega arith)
 
 read-low : (input : List ℕ) → placeIn (readInput input .answer) < 10_000
 unfolding readInput
-read-low input = place-low _ _ _ _ (parse input) (λ l e. wrong-low input l e)
+read-low input = place-low _ _ _ _ _ (parse input) (λ l e. wrong-low input l e)
 
 listed-fits : (input : List ℕ) → length (listed (readInput input)) ≤ mostOutput
 listed-fits input = go (readInput input .answer) refl
@@ -115,24 +115,25 @@ module _ (m : Measure) (c : Columns) (a : acceptance c ≡ Accepted) where
   abbrev zeros : ℕ → List ℕ
   zeros n = replicate n 0
 
-  roomy : Room (closed c) (zeros mostEdges) (zeros mostEdges) (zeros (2 * mostEdges)) (zeros mostListed)
+  roomy : Room (closed c) (zeros mostEdges) (zeros mostEdges) (zeros mostEdges) (zeros (2 * mostEdges)) (zeros mostListed)
   roomy =
       let t = table-accepted (closed c) (closed-accepted m c a) in
       let e = t .edges in
       let o = t .own in
+      let k = t .strikes in
       let s = t .spans in
       let l = t .tails in
       let p = length-replicate {A = ℕ} mostEdges 0 in
       let q = length-replicate {A = ℕ} (2 * mostEdges) 0 in
       let r = length-replicate {A = ℕ} mostListed 0 in
-      record { heads = omega arith; own = omega arith; spans = omega arith; tails = omega arith }
+      record { heads = omega arith; own = omega arith; strikes = omega arith; spans = omega arith; tails = omega arith }
 
-  rendered : readInput (render m c) ≡ filledWith (closed c) m (zeros mostEdges) (zeros mostEdges) (zeros (2 * mostEdges)) (zeros mostListed)
+  rendered : readInput (render m c) ≡ filledWith (closed c) m (zeros mostEdges) (zeros mostEdges) (zeros mostEdges) (zeros (2 * mostEdges)) (zeros mostListed)
   unfolding readInput
-  rendered = read-rendered m c (zeros mostEdges) (zeros mostEdges) (zeros (2 * mostEdges)) (zeros mostListed) a roomy
+  rendered = read-rendered m c (zeros mostEdges) (zeros mostEdges) (zeros mostEdges) (zeros (2 * mostEdges)) (zeros mostListed) a roomy
 
   columns-back : columnsRead (headerFor m (closed c)) (readInput (render m c)) ≡ closed c
-  columns-back = ap (columnsRead (headerFor m (closed c))) rendered ∙ filled-back m c a (zeros mostEdges) (zeros mostEdges) (zeros (2 * mostEdges)) (zeros mostListed)
+  columns-back = ap (columnsRead (headerFor m (closed c))) rendered ∙ filled-back m c a (zeros mostEdges) (zeros mostEdges) (zeros mostEdges) (zeros (2 * mostEdges)) (zeros mostListed)
 
   -- of an accepted table whose text is short enough: the list of its best-first answers
   pub report-rendered : length (render m c) ≤ mostInput → report (render m c) ≡ list (answersOf m c) (c .vertices)
@@ -146,17 +147,17 @@ module _ (m : Measure) (c : Columns) (a : acceptance c ≡ Accepted) where
 pub report-unpermitted : (input : List ℕ) → length input ≤ mostInput → (Permitted input → ⊥) → (k : ℕ) × (report input ≡ refusedLine (Text (record { 0 = k }))) × FirstWrong input k
 unfolding listedAs readInput
 report-unpermitted input h n =
-    let u = unpermitted-is-refused input _ _ _ _ n in
+    let u = unpermitted-is-refused input _ _ _ _ _ n in
     (u .0, report-short input h ∙ ap listed (u .1), u .2)
 
 -- What the code asks ---------------------------------------------------------------------------------------------------------------------------
 
 -- the table that was read stands at the start of the columns, and its output fits the room
 pub input-lent : (input : List ℕ) (g : Header) (room : ℕ) → length input ≤ mostInput → room ≡ mostOutput → readInput input .answer ≡ reading.Table g
-    → Lent g (readInput input .heads) (readInput input .own) (readInput input .spans) (readInput input .tails) room
+    → Lent g (readInput input .heads) (readInput input .own) (readInput input .strikes) (readInput input .spans) (readInput input .tails) room
 unfolding readInput
 input-lent input g room short large e =
-    let k = held input _ _ _ _ g e in
+    let k = held input _ _ _ _ _ g e in
     let es = k .table .edges in
     let f = sound input (k .table) (k .whole) .0 in
     let fe = f .edges in
@@ -170,14 +171,16 @@ input-lent input g room short large e =
     let r = length-replicate {A = ℕ} mostListed 0 in
     let a = length-heads es in
     let b = length-owns es in
+    let i = length-marks es in
     let c = length-spans 0 es in
     let d = length-tails es in
     let hs = ap (λ (x : ReadOutcome). length (x .heads)) (k .outcome) ∙ length-filled (headsOf es) (replicate mostEdges 0) (omega arith) in
     let os = ap (λ (x : ReadOutcome). length (x .own)) (k .outcome) ∙ length-filled (ownsOf es) (replicate mostEdges 0) (omega arith) in
+    let ms = ap (λ (x : ReadOutcome). length (x .strikes)) (k .outcome) ∙ length-filled (marksOf es) (replicate mostEdges 0) (omega arith) in
     let ss = ap (λ (x : ReadOutcome). length (x .spans)) (k .outcome) ∙ length-filled (spansFrom 0 es) (replicate (2 * mostEdges) 0) (omega arith) in
     let ts = ap (λ (x : ReadOutcome). length (x .tails)) (k .outcome) ∙ length-filled (tailsOf es) (replicate mostListed 0) (omega arith) in
     let y : listed (readInput input) ≡ priced (g .vertices) (settled (g .measure) (columnsRead g (readInput input)) (blank (g .vertices))) = unfold listedAs in
     ap (λ (z : Reading). listedAs z (readInput input)) e in
     let z = ap length (report-short input short ∙ y) in
     let w = report-fits input in
-    record { few = omega arith; heads = omega arith; own = omega arith; spans = omega arith; tails = omega arith; fits = omega arith }
+    record { few = omega arith; heads = omega arith; own = omega arith; strikes = omega arith; spans = omega arith; tails = omega arith; fits = omega arith }

@@ -11,15 +11,16 @@ use Rattle.settle.specs.Settling.{settled}
 use Rattle.readtable.specs.Read.{readOutcome, columnsRead}
 use Rattle.report.specs.Report.{priced}
 
--- the table that a header tells of, at the start of four columns
-abbrev pub lentColumns : Header → (heads own spans tails : List ℕ) → Columns
-lentColumns g h o s t = columnsRead g (readOutcome (reading.Table g) h o s t)
+-- the table that a header tells of, at the start of five columns
+abbrev pub lentColumns : Header → (heads own strikes spans tails : List ℕ) → Columns
+lentColumns g h o ms s t = columnsRead g (readOutcome (reading.Table g) h o ms s t)
 
 -- the columns are so long, and the room holds the output
-pub record Lent (g : Header) (h o s t : List ℕ) (room : ℕ) : Type 0 where
+pub record Lent (g : Header) (h o ms s t : List ℕ) (room : ℕ) : Type 0 where
   pub few : g .vertices ≤ mostVertices
   pub heads : g .edges ≤ length h
   pub own : g .edges ≤ length o
+  pub strikes : g .edges ≤ length ms
   pub spans : 2 * g .edges ≤ length s
   pub tails : g .listed ≤ length t
-  pub fits : length (priced (g .vertices) (settled (g .measure) (lentColumns g h o s t) (blank (g .vertices)))) ≤ room
+  pub fits : length (priced (g .vertices) (settled (g .measure) (lentColumns g h o ms s t) (blank (g .vertices)))) ≤ room

@@ -85,7 +85,7 @@ listed x = listedAs (x .answer) x
 
 -- a text, read into columns that have room for the largest table
 unfoldable pub readInput : List ℕ → ReadOutcome
-readInput input = readTable input (replicate mostEdges 0) (replicate mostEdges 0) (replicate (2 * mostEdges) 0) (replicate mostListed 0)
+readInput input = readTable input (replicate mostEdges 0) (replicate mostEdges 0) (replicate mostEdges 0) (replicate (2 * mostEdges) 0) (replicate mostListed 0)
 
 -- the bytes printed of an input
 unfoldable pub report : List ℕ → List ℕ

@@ -118,21 +118,33 @@ fn put_priced(
     n: u64,
     heads: &[u64],
     own: &[u64],
+    strikes: &[u64],
     spans: &[u64],
     tails: &[u64],
     weights: &mut [u64],
     depths: &mut [u64],
     edges: &mut [u64],
 ) -> usize
-    requires { let c = columns n (now heads) (now own) (now spans) (now tails) in
+    requires { let c = columns n (now heads) (now own) (now strikes) (now spans) (now tails) in
         let a = answers (now weights) (now depths) (now edges) in
         ⌜ length (priced n (settled measure c a)) ≤ length (now room) ⌝ }
     ensures { λ r.
-        let c = columns n (now (heads .entry)) (now (own .entry)) (now (spans .entry)) (now (tails .entry)) in
+        let c = columns n (now (heads .entry)) (now (own .entry)) (now (strikes .entry)) (now (spans .entry)) (now (tails .entry)) in
         let a = answers (now (weights .entry)) (now (depths .entry)) (now (edges .entry)) in
         ⌜ Written (priced n (settled measure c a)) (now (room .entry)) r (now (room .exit)) ⌝ }
 {
-    let answer = settle::settle(measure, n, heads, own, spans, tails, weights, depths, edges);
+    let answer = settle::settle(
+        measure,
+        n,
+        heads,
+        own,
+        strikes,
+        spans,
+        tails,
+        weights,
+        depths,
+        edges,
+    );
     match answer {
         Acceptance::Refused(r) => return put_refused(room, r),
         Acceptance::Accepted => {}
@@ -146,11 +158,14 @@ fn put_read(
     header: Header,
     heads: &[u64],
     own: &[u64],
+    strikes: &[u64],
     spans: &[u64],
     tails: &[u64],
 ) -> usize
-    requires { ⌜ Lent header (now heads) (now own) (now spans) (now tails) (length (now room)) ⌝ }
-    ensures { λ r. ⌜ Written (priced (header .vertices) (settled (header .measure) (lentColumns header (now (heads .entry)) (now (own .entry)) (now (spans .entry)) (now (tails .entry))) (blank (header .vertices)))) (now (room .entry)) r (now (room .exit)) ⌝ }
+    requires { ⌜ Lent header (now heads) (now own) (now strikes) (now spans) (now tails) (length (now room)) ⌝ }
+    ensures { λ r.
+        let c = lentColumns header (now (heads .entry)) (now (own .entry)) (now (strikes .entry)) (now (spans .entry)) (now (tails .entry)) in
+        ⌜ Written (priced (header .vertices) (settled (header .measure) c (blank (header .vertices)))) (now (room .entry)) r (now (room .exit)) ⌝ }
 {
     let measure = header.measure;
     let n = header.vertices;
@@ -167,6 +182,7 @@ fn put_read(
         n,
         &heads[..lines],
         &own[..lines],
+        &strikes[..lines],
         &spans[..places],
         &tails[..listed],
         &mut weights[..parts],
@@ -185,13 +201,21 @@ pub fn report(input: &[u8], room: &mut [u8; MOST_OUTPUT]) -> usize
     }
     let mut heads = [0u64; 4096];
     let mut own = [0u64; 4096];
+    let mut strikes = [0u64; 4096];
     let mut spans = [0u64; 8192];
     let mut tails = [0u64; 16384];
-    let reading = read_table(input, &mut heads, &mut own, &mut spans, &mut tails);
+    let reading = read_table(
+        input,
+        &mut heads,
+        &mut own,
+        &mut strikes,
+        &mut spans,
+        &mut tails,
+    );
     match reading {
         Reading::Refused(r) => return put_refused(room, r),
         Reading::Table(header) => {
-            return put_read(room, header, &heads, &own, &spans, &tails);
+            return put_read(room, header, &heads, &own, &strikes, &spans, &tails);
         }
     }
 }

@@ -23,21 +23,21 @@ long : (c : tie.Then1) → report (c .before .before .args .input .now) ≡ refu
 long c = report-long (c .before .before .args .input .now) (let h = c .if1 .taken in omega arith)
 
 wrong : (c : tie.After-reading)
-    → report (c .before .before .before .before .before .before .before .before .before .before .before .before .before .args .input .now) ≡ refusedLine (c .reading .given .0 .0)
+    → report (c .before .before .before .before .before .before .before .before .before .before .before .before .before .before .before .args .input .now) ≡ refusedLine (c .reading .given .0 .0)
 unfolding readInput
 wrong c =
-    report-refused _ (short (c .before .before .before .before .before .before .before .before .before .before .before)) _ _ _ _ _
-    (c .before .before .before .before .before .before .read-table .ensures) _ (c .reading .given .1)
+    report-refused _ (short (c .before .before .before .before .before .before .before .before .before .before .before .before .before)) _ _ _ _ _ _
+    (c .before .before .before .before .before .before .before .read-table .ensures) _ (c .reading .given .1)
 
 whole : (c : tie.After-reading2)
     → let g = c .reading2 .given .0 .0 in
-    let l = c .before .before .before .before .before .before .read-table .last in
-    report (c .before .before .before .before .before .before .before .before .before .before .before .before .before .args .input .now) ≡ priced
-    (g .vertices) (settled (g .measure) (lentColumns g (l .1 .0) (l .1 .1 .0) (l .1 .1 .1 .0) (l .1 .1 .1 .1 .0)) (blank (g .vertices)))
+    let l = c .before .before .before .before .before .before .before .read-table .last in
+    report (c .before .before .before .before .before .before .before .before .before .before .before .before .before .before .before .args .input .now) ≡ priced
+    (g .vertices) (settled (g .measure) (lentColumns g (l .1 .0) (l .1 .1 .0) (l .1 .1 .1 .0) (l .1 .1 .1 .1 .0) (l .1 .1 .1 .1 .1 .0)) (blank (g .vertices)))
 unfolding readInput
 whole c =
-    report-table _ (short (c .before .before .before .before .before .before .before .before .before .before .before)) _ _ _ _ _
-    (c .before .before .before .before .before .before .read-table .ensures) _ (c .reading2 .given .1)
+    report-table _ (short (c .before .before .before .before .before .before .before .before .before .before .before .before .before)) _ _ _ _ _ _
+    (c .before .before .before .before .before .before .before .read-table .ensures) _ (c .reading2 .given .1)
 
 put-refused-requires : tie.Need-put-refused-requires
 put-refused-requires c κs = let k = c .before in report-within _ _ _ (c .put-refused-arg .given .0 .1) (long k)
@@ -54,14 +54,13 @@ returns-2 c = reported _ _ _ _ _ (wrong (c .before .before .before)) (c .put-ref
 put-read-requires : tie.Need-put-read-requires
 unfolding readInput
 put-read-requires c κs =
-    let p = c .before .before .before .before in
-    let q = p .before .before in
-    let k = q in
-    table-lent _ (short (k .before .before .before .before .before .before .before .before .before .before .before)) _ _ _ _ _
-    (k .before .before .before .before .before .before .read-table .ensures) _ _ (p .put-read-arg .given .0 .1) (k .reading2 .given .1)
+    let p = c .before .before .before .before .before in
+    let k = p .before .before in
+    table-lent _ (short (k .before .before .before .before .before .before .before .before .before .before .before .before .before)) _ _ _ _ _ _
+    (k .before .before .before .before .before .before .before .read-table .ensures) _ _ (p .put-read-arg .given .0 .1) (k .reading2 .given .1)
 
 returns-3 : tie.Need-returns-3
-returns-3 c = reported _ _ _ _ _ (whole (c .before .before .before .before .before .before .before)) (c .put-read .ensures)
+returns-3 c = reported _ _ _ _ _ (whole (c .before .before .before .before .before .before .before .before)) (c .put-read .ensures)
 
 pub report-spec : {M : Type 1} → statement M
 report-spec =
@@ -73,10 +72,12 @@ report-spec =
     (λ c. search needs)
     (λ c. search needs)
     (λ c. search needs)
+    (λ c. search needs)
     (λ c κs. search needs)
     (λ c. search needs)
     put-refused-requires-2
     returns-2
+    (λ c. search needs)
     (λ c. search needs)
     (λ c. search needs)
     (λ c. search needs)
