@@ -5,7 +5,7 @@
 -- returns `refuse r` and leaves `entry`, all that was lent to be written, as it came. `result` and `left` are of the function that the call's contract equates its outcome
 -- with, for every input. `Fixed` says that no input is both right and wrong, or wrong in two ways. What is lent to be read can't be written; `tt` stands where nothing else
 -- is lent. Assumes nothing.
-use mathlib.Core.Path.{_≡_, refl, sym, _∙_}
+use mathlib.Core.Path.{_≡_, refl}
 use mathlib.Core.Logic.{_⊎_, inl, inr, _↔_}
 use mathlib.Core.List.{List, [], _∷_, _++_}
 use Prim.Native.Nat.{ℕ, _≤_, _<_}
@@ -14,11 +14,10 @@ use lib.ListN.{length, set, take, drop}
 use borrow.Author.Tests.{ne-eqb}
 use Rattle.weights.specs.declared.Measure.{Measure}
 use Rattle.weights.specs.declared.Measure.the-variants.{Cost, Days}
-use Rattle.weights.specs.Figures.{greatest, struck}
+use Rattle.weights.specs.Figures.{struckMark}
 use Rattle.weights.specs.Labels.{unmade, entryOf}
 use Rattle.refusal.specs.declared.Refusal.{Refusal}
 use Rattle.refusal.specs.declared.Refusal.the-variants.{MeasureNumber}
-use Rattle.refusal.specs.declared.Acceptance.{Acceptance}
 use Rattle.refusal.specs.declared.Acceptance.the-variants.{Accepted, Refused}
 use Rattle.refusal.specs.declared.Verdict.the-variants as verdict
 use Rattle.refusal.specs.declared.Extent.the-variants as extent
@@ -26,22 +25,20 @@ use Rattle.refusal.specs.declared.Reading.the-variants as reading
 use Rattle.refusal.specs.declared.MeasureChoice.the-variants as choice
 use Rattle.refusal.specs.Refusals.{codeOf, resultOf, acceptanceResult, extentResult, measureOf}
 use Rattle.refusal.proofs.Codes.{codes-differ}
-use Rattle.columns.specs.Columns.{Answers, Sized, Columns, withOwn}
+use Rattle.columns.specs.Columns.{Answers, Sized, Columns, withOwn, withStrike}
 use Rattle.columns.specs.Acceptance.{acceptance, lentAcceptance}
 use Rattle.columns.specs.Filled.{filled}
 use Rattle.columns.specs.Owed.{Owed}
 use Rattle.columns.specs.Right.{RightTable, WrongTable, RightLent, WrongLent}
-use Rattle.columns.proofs.Accepted.{refused}
 use Rattle.columns.proofs.Exactly.{accepted-exactly, refused-exactly, lent-exactly, lent-refused-exactly}
 use Rattle.columns.proofs.Owed.{check-table-owes, check-lent-owes}
-use Rattle.columns.proofs.Refuses.{same-refusal}
 use Rattle.provenance.specs.BestFirst.{labels}
 use Rattle.settle.specs.Settling.{answersOf, settled}
 use Rattle.settle.specs.Checking.{checked}
 use Rattle.settle.specs.Defined.{AllMean}
 use Rattle.settle.proofs.Owed.{settle-owes, check-answers-owes, entry-owes, entry-beyond}
 use Rattle.reprice.specs.Repricing.{repriceAcceptance, strikeAcceptance, repriced, stricken}
-use Rattle.reprice.specs.Changes.{RightChange, WrongChange, lentTo}
+use Rattle.reprice.specs.Changes.{RightReprice, WrongReprice, RightStrike, WrongStrike, lentTo}
 use Rattle.reprice.proofs.Changes.{reprice-exactly, reprice-refused-exactly, reprice-owes, strike-exactly, strike-refused-exactly, strike-owes}
 use Rattle.bill.specs.Billing.{billOf, billAcceptance, billed}
 use Rattle.bill.specs.Asked.{RightBill, WrongBill}
@@ -61,10 +58,7 @@ use Rattle.counter.specs.Numbers.{Among, SettleReturns, RepriceReturns, BillRet
 use Rattle.counter.proofs.Decoded.{settled-decoded, repriced-decoded, billed-decoded}
 use Rattle.counter.proofs.Numbers.{settle-numbers, reprice-numbers, bill-numbers}
 use Rattle.promises.specs.Fixed.{Fixed}
-
--- tests that pass exactly if `Right` holds, and refuse by r exactly if `Wrong r` does, fix the result
-fixed : {Right : Type 0} {Wrong : Refusal → Type 0} (x : Acceptance) → ((x ≡ Accepted) ↔ Right) → ((r : Refusal) → (x ≡ Refused r) ↔ Wrong r) → Fixed Right Wrong
-fixed x p q = record { never = λ {r} a b. refused (sym (q r .1 b) ∙ p .1 a); once = λ {r} {s} a b. same-refusal (sym (q r .1 a) ∙ q s .1 b) }
+use Rattle.promises.proofs.Fixed.{fixed}
 
 -- "Check a table." Refusals 1 to 6 -----------------------------------------------------------------------------------------------------------------------------
 module _ (c : Columns) where
@@ -102,20 +96,21 @@ module _ (a : Answers) (v : ℕ) where
 
 -- "Reprice an unstruck line to 0 to 1,000,000,000." 1 to 7, 9, 10, 8
 module _ (m : Measure) (c : Columns) (a : Answers) (e w : ℕ) where
-  pub reprice : Owed Refused (lentTo (c .own) a) (RightChange m c a e (w ≤ greatest)) (λ _. Accepted) (λ _. lentTo (set (c .own) e w) (answersOf m (withOwn c e w)))
-      (WrongChange m c a e (w ≤ greatest)) (repriced m c a e w .result) (lentTo (repriced m c a e w .own) (repriced m c a e w .left))
+  pub reprice : Owed Refused (lentTo (c .own) a) (RightReprice m c a e w) (λ _. Accepted) (λ _. lentTo (set (c .own) e w) (answersOf m (withOwn c e w)))
+      (WrongReprice m c a e w) (repriced m c a e w .result) (lentTo (repriced m c a e w .own) (repriced m c a e w .left))
   reprice = reprice-owes m c a e w
 
-  pub reprice-fixed : Fixed (RightChange m c a e (w ≤ greatest)) (WrongChange m c a e (w ≤ greatest))
+  pub reprice-fixed : Fixed (RightReprice m c a e w) (WrongReprice m c a e w)
   reprice-fixed = fixed (repriceAcceptance m c a e w) (reprice-exactly m c a e w) (reprice-refused-exactly m c a e w)
 
--- "and strike an unstruck line." 1 to 7, 9, 8
+-- "and strike an unstruck line." 1 to 7, 9, 8. By document 02, 2026-02, in "a column of its own": the own figures are lent to be read alone
 module _ (m : Measure) (c : Columns) (a : Answers) (e : ℕ) where
-  pub strike : Owed Refused (lentTo (c .own) a) (RightChange m c a e (Unit {0})) (λ _. Accepted) (λ _. lentTo (set (c .own) e struck) (answersOf m (withOwn c e struck)))
-      (WrongChange m c a e (Unit {0})) (stricken m c a e .result) (lentTo (stricken m c a e .own) (stricken m c a e .left))
+  pub strike : Owed Refused (lentTo (c .strikes) a) (RightStrike m c a e) (λ _. Accepted)
+      (λ _. lentTo (set (c .strikes) e struckMark) (answersOf m (withStrike c e struckMark))) (WrongStrike m c a e) (stricken m c a e .result)
+      (lentTo (stricken m c a e .strikes) (stricken m c a e .left))
   strike = strike-owes m c a e
 
-  pub strike-fixed : Fixed (RightChange m c a e (Unit {0})) (WrongChange m c a e (Unit {0}))
+  pub strike-fixed : Fixed (RightStrike m c a e) (WrongStrike m c a e)
   strike-fixed = fixed (strikeAcceptance m c a e) (strike-exactly m c a e) (strike-refused-exactly m c a e)
 
 -- "Print a bill." 1 to 7, 11, 8, 12, 13. "A bill returns its length; the room behind it keeps its bytes." What `billOf` is, the bill's rule says
@@ -129,16 +124,16 @@ module _ (m : Measure) (c : Columns) (a : Answers) (v : ℕ) (room : List ℕ) w
 
 -- "Reading text: 14 at the first text line that breaks a rule …, then 15." "Reading returns n, the measure and the counts, and writes that many places of each column; the
 -- rest keep theirs. Spans are written from offset 0 without gaps"
-module _ (text h o s t : List ℕ) where
-  pub read-table : Owed reading.Refused (lent h o s t) (RightRead text (lent h o s t))
+module _ (text h o ms s t : List ℕ) where
+  pub read-table : Owed reading.Refused (lent h o ms s t) (RightRead text (lent h o ms s t))
       (λ p. reading.Table (headerFor (p .permitted .measure) (closed (p .permitted .table))))
-      (λ p. let c = closed (p .permitted .table) in lent (filled (c .heads) h) (filled (c .own) o) (filled (c .spans) s) (filled (c .tails) t))
-      (WrongRead text (lent h o s t)) (readTable text h o s t .answer)
-      (let x = readTable text h o s t in lent (x .heads) (x .own) (x .spans) (x .tails))
-  read-table = reads text h o s t
+      (λ p. let c = closed (p .permitted .table) in lent (filled (c .heads) h) (filled (c .own) o) (filled (c .strikes) ms) (filled (c .spans) s) (filled (c .tails) t))
+      (WrongRead text (lent h o ms s t)) (readTable text h o ms s t .answer)
+      (let x = readTable text h o ms s t in lent (x .heads) (x .own) (x .strikes) (x .spans) (x .tails))
+  read-table = reads text h o ms s t
 
-  pub read-table-fixed : Fixed (RightRead text (lent h o s t)) (WrongRead text (lent h o s t))
-  read-table-fixed = record { never = read-or-refused text (lent h o s t); once = refused-once text (lent h o s t) }
+  pub read-table-fixed : Fixed (RightRead text (lent h o ms s t)) (WrongRead text (lent h o ms s t))
+  read-table-fixed = record { never = read-or-refused text (lent h o ms s t); once = refused-once text (lent h o ms s t) }
 
 -- "Writing: 1 to 6, then 15." "Writing fills the text room from its start and returns the text's length; the room behind it keeps its bytes"
 module _ (m : Measure) (c : Columns) (room : List ℕ) where
@@ -205,11 +200,11 @@ module _ (k : ℕ) (c : Columns) (a : Answers) where
   c-bill-tells = billed-decoded k c a
 
 -- the numbers that each call can return, and no others: some input is refused by each
-pub c-settle-numbers : (n : ℕ) → SettleReturns n ↔ Among n (16 ∷ 1 ∷ 2 ∷ 3 ∷ 4 ∷ 5 ∷ 6 ∷ 7 ∷ [])
+pub c-settle-numbers : (n : ℕ) → SettleReturns n ↔ Among n (16 ∷ 1 ∷ 2 ∷ 3 ∷ 4 ∷ 21 ∷ 5 ∷ 6 ∷ 7 ∷ [])
 c-settle-numbers = settle-numbers
 
-pub c-reprice-numbers : (n : ℕ) → RepriceReturns n ↔ Among n (16 ∷ 1 ∷ 2 ∷ 3 ∷ 4 ∷ 5 ∷ 6 ∷ 7 ∷ 9 ∷ 10 ∷ 8 ∷ [])
+pub c-reprice-numbers : (n : ℕ) → RepriceReturns n ↔ Among n (16 ∷ 1 ∷ 2 ∷ 3 ∷ 4 ∷ 21 ∷ 5 ∷ 6 ∷ 7 ∷ 9 ∷ 10 ∷ 8 ∷ [])
 c-reprice-numbers = reprice-numbers
 
-pub c-bill-numbers : (n : ℕ) → BillReturns n ↔ Among n (16 ∷ 1 ∷ 2 ∷ 3 ∷ 4 ∷ 5 ∷ 6 ∷ 7 ∷ 11 ∷ 8 ∷ 12 ∷ 13 ∷ [])
+pub c-bill-numbers : (n : ℕ) → BillReturns n ↔ Among n (16 ∷ 1 ∷ 2 ∷ 3 ∷ 4 ∷ 21 ∷ 5 ∷ 6 ∷ 7 ∷ 11 ∷ 8 ∷ 12 ∷ 13 ∷ [])
 c-bill-numbers = bill-numbers

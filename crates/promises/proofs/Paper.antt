@@ -10,7 +10,7 @@ use lib.IntN.{ℤ, pos}
 use Rattle.weights.specs.declared.Measure.{Measure}
 use Rattle.weights.specs.declared.Measure.the-variants.{Cost, Days}
 use Rattle.weights.specs.declared.State.the-variants.{Made, Over, Unmade}
-use Rattle.weights.specs.Figures.{struck, ceiling, over, capped}
+use Rattle.weights.specs.Figures.{struckMark, ceiling, over, capped}
 use Rattle.weights.specs.Measures.{cost, days, algebra}
 use Rattle.weights.specs.Labels.{stateOf, entryOf}
 use Rattle.weights.specs.Laws.{Lawful}
@@ -23,7 +23,7 @@ use Rattle.refusal.specs.declared.Acceptance.the-variants.{Accepted, Refused}
 use Rattle.refusal.specs.declared.Verdict.the-variants.{Yes}
 use Rattle.refusal.specs.declared.Extent.the-variants as extent
 use Rattle.refusal.specs.declared.Reading.the-variants as reading
-use Rattle.columns.specs.Columns.{Answers, Columns, ownAt, withOwn}
+use Rattle.columns.specs.Columns.{Answers, Columns, strikeAt, withOwn, withStrike}
 use Rattle.columns.specs.Acceptance.{acceptance}
 use Rattle.columns.specs.Filled.{filled}
 use Rattle.columns.specs.Gaps.{Gapped, withTails}
@@ -92,10 +92,10 @@ module _ (c : Columns) where
   pub table-refused : (r : Refusal) → (acceptance c ≡ Refused r) ↔ WrongTable c r
   table-refused = refused-exactly c
 
-  -- "The mark 1,000,000,001 means struck: that line then yields nothing"
-  pub struck-yields-nothing : (v : ℕ) (d : Derivation (hypergraph c) v) → ¬ (ownAt c (root d) ≡ 1_000_000_001)
+  -- "struck: that line then yields nothing"; by document 02, 2026-02, the strike stands "in a column of its own, 0 or 1"
+  pub struck-yields-nothing : (v : ℕ) (d : Derivation (hypergraph c) v) → ¬ (strikeAt c (root d) ≡ 1)
   unfolding root
-  struck-yields-nothing v (node e s h ds) = eqb-false (ownAt c e) struck (not-true _ (s .unstruck))
+  struck-yields-nothing v (node e s h ds) = eqb-false (strikeAt c e) struckMark (not-true _ (s .unstruck))
 
   -- "Gaps may stand between spans and their contents are never looked at"
   pub gaps-unseen : (tails : List ℕ) → Gapped c tails → acceptance c ≡ acceptance (withTails c tails)
@@ -151,7 +151,8 @@ laws = lawful
 
 -- The calls ------------------------------------------------------------------------------------------------------------------------------------------------------------
 
--- "both change the own figure, and leave in the answer columns the answers of the table as it then is": those of demand 2, so the next call's check says yes
+-- "both … leave in the answer columns the answers of the table as it then is": those of demand 2, so the next call's check says yes. Repricing changes the own figure, and
+-- striking, by document 02, 2026-02, the strike mark alone
 module _ (m : Measure) (c : Columns) (a : Answers) (e w : ℕ) (h : repriced m c a e w .result ≡ Accepted) where
   pub reprice-stores : repriced m c a e w .own ≡ set (c .own) e w
   reprice-stores = reprice-leaves m c a e w h .stored
@@ -166,16 +167,16 @@ module _ (m : Measure) (c : Columns) (a : Answers) (e w : ℕ) (h : repriced m c
   reprice-checks = reprice-leaves m c a e w h .checks
 
 module _ (m : Measure) (c : Columns) (a : Answers) (e : ℕ) (h : stricken m c a e .result ≡ Accepted) where
-  pub strike-stores : stricken m c a e .own ≡ set (c .own) e struck
+  pub strike-stores : stricken m c a e .strikes ≡ set (c .strikes) e struckMark
   strike-stores = strike-leaves m c a e h .stored
 
-  pub strike-means : (v : ℕ) → Demand2 m (withOwn c e struck) (labels (stricken m c a e .left)) v
+  pub strike-means : (v : ℕ) → Demand2 m (withStrike c e struckMark) (labels (stricken m c a e .left)) v
   strike-means = strike-leaves m c a e h .means
 
-  pub strike-states : (v : ℕ) → StateMeans m (withOwn c e struck) (labels (stricken m c a e .left) v) v
+  pub strike-states : (v : ℕ) → StateMeans m (withStrike c e struckMark) (labels (stricken m c a e .left) v) v
   strike-states = strike-leaves m c a e h .states
 
-  pub strike-checks : checked m (withOwn c e struck) (stricken m c a e .left) ≡ Yes
+  pub strike-checks : checked m (withStrike c e struckMark) (stricken m c a e .left) ≡ Yes
   strike-checks = strike-leaves m c a e h .checks
 
 module _ (m : Measure) (c : Columns) (a : Answers) (v : ℕ) where
@@ -212,21 +213,21 @@ pub permitted-is-walked : (s : List ℕ) → Permitted s → (t : Table) × Walk
 permitted-is-walked = permitted-walk
 
 -- "Read after write gives the table with its gaps closed", and so the same answers
-module _ (m : Measure) (c : Columns) (room : List ℕ) (k : ℕ) (h o s t : List ℕ) (p : writeTable m c room .answer ≡ extent.Length k) (q : Room (closed c) h o s t) where
-  pub read-after-writing : readTable (take k (writeTable m c room .room)) h o s t ≡ filledWith (closed c) m h o s t
-  read-after-writing = read-after-write m c room k h o s t p q
+module _ (m : Measure) (c : Columns) (room : List ℕ) (k : ℕ) (h o ms s t : List ℕ) (p : writeTable m c room .answer ≡ extent.Length k) (q : Room (closed c) h o ms s t) where
+  pub read-after-writing : readTable (take k (writeTable m c room .room)) h o ms s t ≡ filledWith (closed c) m h o ms s t
+  read-after-writing = read-after-write m c room k h o ms s t p q
 
-  pub reads-the-same : ReadsBack m c (readTable (take k (writeTable m c room .room)) h o s t)
-  reads-the-same = reads-back m c room k h o s t p q
+  pub reads-the-same : ReadsBack m c (readTable (take k (writeTable m c room .room)) h o ms s t)
+  reads-the-same = reads-back m c room k h o ms s t p q
 
 -- "write after read gives the text back"
-module _ (text h o s t : List ℕ) (g : Header) (p : readTable text h o s t .answer ≡ reading.Table g) where
+module _ (text h o ms s t : List ℕ) (g : Header) (p : readTable text h o ms s t .answer ≡ reading.Table g) where
   pub write-after-reading : (room : List ℕ) → length text ≤ length room
-      → writeTable (g .measure) (columnsRead g (readTable text h o s t)) room ≡ writeOutcome (extent.Length (length text)) (filled text room)
-  write-after-reading room = write-after-read text h o s t room g p
+      → writeTable (g .measure) (columnsRead g (readTable text h o ms s t)) room ≡ writeOutcome (extent.Length (length text)) (filled text room)
+  write-after-reading room = write-after-read text h o ms s t room g p
 
-  pub read-is-accepted : acceptance (columnsRead g (readTable text h o s t)) ≡ Accepted
-  read-is-accepted = read-accepted text h o s t g p
+  pub read-is-accepted : acceptance (columnsRead g (readTable text h o ms s t)) ≡ Accepted
+  read-is-accepted = read-accepted text h o ms s t g p
 
 -- A table priced whole ---------------------------------------------------------------------------------------------------------------------------------------------
 

@@ -1,4 +1,5 @@
--- "What is turned away": the small example of each of the seventeen refusals. When each applies, and in which order, Demand1 says. Assumes nothing.
+-- "What is turned away": the small example of each of the seventeen refusals, and of those that document 02 added. When each applies, and in which order, Demand1 and
+-- the files of the requests say. Assumes nothing.
 use mathlib.Core.Path.{_≡_, refl}
 use mathlib.Core.List.{List, [], _∷_}
 use Prim.Native.Nat.{ℕ}
@@ -8,7 +9,7 @@ use Rattle.weights.specs.declared.Measure.the-variants.{Cost}
 use Rattle.weights.specs.Measures.{fold, weigh}
 use Rattle.weights.specs.Labels.{aheadOf}
 use Rattle.refusal.specs.declared.Refusal.the-variants.{TooManyVertices, Lengths, Head, Own, Span, Tail, AnswerLength, WrongAnswers, NoSuchEdge, NewWeight}
-use Rattle.refusal.specs.declared.Refusal.the-variants.{NoSuchVertex, Underivable, BillRoom, Text, TextRoom, MeasureNumber, InputLength}
+use Rattle.refusal.specs.declared.Refusal.the-variants.{NoSuchVertex, Underivable, BillRoom, Text, TextRoom, MeasureNumber, InputLength, NotStruck, StrikeMark}
 use Rattle.refusal.specs.declared.Acceptance.the-variants.{Refused}
 use Rattle.refusal.specs.declared.Extent.the-variants as extent
 use Rattle.refusal.specs.declared.Reading.the-variants as reading
@@ -22,7 +23,7 @@ use Rattle.provenance.specs.Labelling.{each, greatestDepth, noneZero, offerOf}
 use Rattle.provenance.specs.BestFirst.{opening, next, turn, turns, best-first}
 use Rattle.provenance.specs.Support.{bills, bill}
 use Rattle.settle.specs.Settling.{answersOf}
-use Rattle.reprice.specs.Repricing.{lineAcceptance, repriceAcceptance, repriced}
+use Rattle.reprice.specs.Repricing.{lineAcceptance, repriceAcceptance, repriced, numberedAcceptance, struckAcceptance, restoreAcceptance, restored}
 use Rattle.bill.specs.Billing.{billOf, partAcceptance, billAcceptance, billed}
 use Rattle.text.specs.Tables.{listedInAll}
 use Rattle.text.specs.Render.{word, firstWord, Permitted}
@@ -34,32 +35,32 @@ use Rattle.report.specs.Report.{refusedLine, report}
 use Rattle.report.proofs.Reports.{report-long}
 
 -- "n = 1,025"
-pub refusal-1 : acceptance (columns 1_025 [] [] [] []) ≡ Refused TooManyVertices
+pub refusal-1 : acceptance (columns 1_025 [] [] [] [] []) ≡ Refused TooManyVertices
 unfolding acceptance
 refusal-1 = refl
 
 -- "2 heads, 1 own figure"
-pub refusal-2 : acceptance (columns 5 (0 ∷ 1 ∷ []) (0 ∷ []) (0 ∷ 0 ∷ 0 ∷ 0 ∷ []) []) ≡ Refused Lengths
+pub refusal-2 : acceptance (columns 5 (0 ∷ 1 ∷ []) (0 ∷ []) (0 ∷ 0 ∷ []) (0 ∷ 0 ∷ 0 ∷ 0 ∷ []) []) ≡ Refused Lengths
 unfolding acceptance
 refusal-2 = refl
 
 -- "n = 5, head 5"
-pub refusal-3 : acceptance (columns 5 (5 ∷ []) (0 ∷ []) (0 ∷ 0 ∷ []) []) ≡ Refused (Head (record { 0 = 0 }))
+pub refusal-3 : acceptance (columns 5 (5 ∷ []) (0 ∷ []) (0 ∷ []) (0 ∷ 0 ∷ []) []) ≡ Refused (Head (record { 0 = 0 }))
 unfolding acceptance edgesAcceptance edgeAcceptance
 refusal-3 = refl
 
--- "1,000,000,002"
-pub refusal-4 : acceptance (columns 5 (0 ∷ []) (1_000_000_002 ∷ []) (0 ∷ 0 ∷ []) []) ≡ Refused (Own (record { 0 = 0 }))
+-- "4 now turns away any figure above 1,000,000,000" (document 02, 2026-02), struck or not
+pub refusal-4 : acceptance (columns 5 (0 ∷ []) (1_000_000_001 ∷ []) (1 ∷ []) (0 ∷ 0 ∷ []) []) ≡ Refused (Own (record { 0 = 0 }))
 unfolding acceptance edgesAcceptance edgeAcceptance
 refusal-4 = refl
 
 -- "spans (0,2), (1,1)"
-pub refusal-5 : acceptance (columns 5 (0 ∷ 1 ∷ []) (0 ∷ 0 ∷ []) (0 ∷ 2 ∷ 1 ∷ 1 ∷ []) (0 ∷ 1 ∷ [])) ≡ Refused (Span (record { 0 = 1 }))
+pub refusal-5 : acceptance (columns 5 (0 ∷ 1 ∷ []) (0 ∷ 0 ∷ []) (0 ∷ 0 ∷ []) (0 ∷ 2 ∷ 1 ∷ 1 ∷ []) (0 ∷ 1 ∷ [])) ≡ Refused (Span (record { 0 = 1 }))
 unfolding acceptance edgesAcceptance edgeAcceptance allBelow
 refusal-5 = refl
 
 -- "n = 5, part 9"
-pub refusal-6 : acceptance (columns 5 (0 ∷ []) (0 ∷ []) (0 ∷ 1 ∷ []) (9 ∷ [])) ≡ Refused (Tail (record { 0 = 0 }))
+pub refusal-6 : acceptance (columns 5 (0 ∷ []) (0 ∷ []) (0 ∷ []) (0 ∷ 1 ∷ []) (9 ∷ [])) ≡ Refused (Tail (record { 0 = 0 }))
 unfolding acceptance edgesAcceptance edgeAcceptance allBelow
 refusal-6 = refl
 
@@ -86,7 +87,7 @@ pub refusal-9 : repriced Cost worked (with-figure 2600) 6 500 .result ≡ Refuse
 unfolding repriced repriceAcceptance lineAcceptance lentAcceptance acceptance edgesAcceptance edgeAcceptance allBelow
 refusal-9 = refl
 
--- "the struck mark"
+-- 1,000,000,001
 pub refusal-10 : repriced Cost worked (with-figure 2600) 1 1_000_000_001 .result ≡ Refused NewWeight
 unfolding repriced repriceAcceptance lineAcceptance lentAcceptance acceptance edgesAcceptance edgeAcceptance allBelow
 refusal-10 = refl
@@ -107,7 +108,7 @@ unfolding billed billAcceptance partAcceptance billOf bill bills sameAnswers equ
 refusal-13 = rw priced refl
 
 -- "empty text, place 1"
-pub refusal-14 : readTable [] [] [] [] [] .answer ≡ reading.Refused (Text (record { 0 = 1 }))
+pub refusal-14 : readTable [] [] [] [] [] [] .answer ≡ reading.Refused (Text (record { 0 = 1 }))
 unfolding run finish parse readInto
 refusal-14 = refl
 
@@ -122,7 +123,7 @@ unfolding word firstWord limit lineAt digitOf grown instead after spell ended st
 mark-unnumbered = wrong-unpermitted _ 2 refl
 
 -- "6 lines, 5 heads": the worked text
-pub refusal-15 : let z = replicate {A = ℕ} 6 0 in readTable costText (replicate 5 0) z (replicate 12 0) z .answer ≡ reading.Refused TextRoom
+pub refusal-15 : let z = replicate {A = ℕ} 6 0 in readTable costText (replicate 5 0) z z (replicate 12 0) z .answer ≡ reading.Refused TextRoom
 unfolding costText word firstWord listedInAll limit lineAt digitOf grown instead after spell ended step run finish parse roomFor readInto
 refusal-15 = refl
 
@@ -133,3 +134,18 @@ refusal-16 = refl
 -- "65,536 bytes", whatever they are: "The program: 17 first"
 pub refusal-17 : (input : List ℕ) → length input ≡ 65_536 → report input ≡ refusedLine InputLength
 refusal-17 input h = report-long input (omega arith)
+
+-- restoring a line that stands
+pub refusal-20 : restored Cost worked (with-figure 2600) 1 .result ≡ Refused NotStruck
+unfolding restored restoreAcceptance struckAcceptance numberedAcceptance lentAcceptance acceptance edgesAcceptance edgeAcceptance allBelow
+refusal-20 = refl
+
+-- the mark 2
+pub refusal-21 : acceptance (columns 5 (0 ∷ []) (0 ∷ []) (2 ∷ []) (0 ∷ 0 ∷ []) []) ≡ Refused (StrikeMark (record { 0 = 0 }))
+unfolding acceptance edgesAcceptance edgeAcceptance
+refusal-21 = refl
+
+-- "a bare `-` is refused": `parts 1`, then `0 -`
+pub bare-dash : ¬ Permitted (112 ∷ 97 ∷ 114 ∷ 116 ∷ 115 ∷ 32 ∷ 49 ∷ 10 ∷ 48 ∷ 32 ∷ 45 ∷ 10 ∷ [])
+unfolding word firstWord limit lineAt digitOf grown instead after spell ended step run finish parse
+bare-dash = wrong-unpermitted _ 2 refl

@@ -1,4 +1,4 @@
--- The change requests that have landed (document 02), one by one. Assumes nothing.
+-- Document 02, change request 2026-01. Assumes nothing.
 use mathlib.Core.Path.{_≡_}
 use mathlib.Core.Bool.{true}
 use mathlib.Core.Logic.{_↔_}
@@ -20,7 +20,7 @@ use Rattle.columns.proofs.Exactly.{accepted-exactly}
 use Rattle.indextable.specs.Index.{indexOf, isIndex, indexAcceptance, tableIndexed}
 use Rattle.indextable.specs.Told.{Told}
 use Rattle.indextable.proofs.Told.{index-told, index-fixed, index-exactly, index-kept}
-use Rattle.append.specs.Appending.{appendAcceptance, Grown, appended}
+use Rattle.append.specs.Appending.{appendAcceptance, appended}
 use Rattle.append.specs.Leaves.{Extended, Behind}
 use Rattle.append.proofs.Appended.{appended-longer, appended-behind, appended-result, appended-keeps}
 
@@ -40,7 +40,7 @@ pub index-tested : (c : Columns) → RightTable c → (index list : List ℕ)
     → (isIndex c index list ≡ true) ↔ ((k : ℕ) × Told c (take (2 * c .vertices) index) (take k list))
 index-tested c t = index-exactly c (accepted-exactly c .1 t)
 
--- repricing and striking leave the index true
+-- repricing leaves the index true; striking and restoring do too (Request02)
 pub index-stays : (c : Columns) (e w : ℕ) → indexOf (withOwn c e w) ≡ indexOf c
 index-stays = index-kept
 
