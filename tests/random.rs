@@ -1,6 +1,6 @@
 //! A seeded source of numbers (splitmix64), so that every case can be made again from its seed.
 
-use crate::model::{Labelling, CEILING, GREATEST, OVER, STRUCK};
+use crate::model::{Labelling, CEILING, GREATEST, OVER};
 
 pub struct Rng {
     state: u64,
@@ -15,8 +15,8 @@ const EDGES: [u64; 18] = [
     1_024,
     1_025,
     GREATEST,
-    STRUCK,
-    STRUCK + 1,
+    GREATEST + 1,
+    GREATEST + 2,
     CEILING,
     OVER,
     OVER + 1,

@@ -40,7 +40,8 @@ fn other_measure(trial: &Trial) -> Outcome {
     tried_wrong(trial, |measure, table, _, _| solve(COST + DAYS - measure, table))
 }
 
-/// The answers of a table with one hyperedge struck, repriced or turned: right somewhere, not here.
+/// The answers of a table with one hyperedge struck or restored, repriced or turned: right somewhere,
+/// not here.
 fn other_table(trial: &Trial) -> Outcome {
     tried_wrong(trial, |measure, table, right, rng| {
         let mut other = table.clone();
@@ -49,7 +50,7 @@ fn other_table(trial: &Trial) -> Outcome {
         }
         let edge = rng.index(other.edges());
         match rng.below(4) {
-            0 => other.own[edge] = STRUCK,
+            0 => other.strikes[edge] ^= STRUCK,
             1 => other.own[edge] = 0,
             2 => other.own[edge] = tables::any_own(rng),
             _ => other.heads[edge] = rng.below(other.n),

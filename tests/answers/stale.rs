@@ -64,19 +64,17 @@ fn other_measure(trial: &Trial) -> Outcome {
     })
 }
 
-/// After an earlier change the own weights are the new ones but the answers still the old ones, for
-/// any next change, and for one that would make them right again.
+/// After an earlier change the columns are the new ones but the answers still the old ones, for any
+/// next change, and for one that would make them right again.
 fn before_a_change(trial: &Trial) -> Outcome {
     tried_wrong(trial, |right, change, rng| {
         let now = after(right, accepted(right, change)?);
-        if live_edge(rng, &now).is_none() {
-            return Ok((right.clone(), change));
-        }
-        let undone = Change::Reprice(change.edge(), right.table.own[change.edge() as usize]);
-        let next = match change {
-            Change::Reprice(..) if rng.chance(50) => undone,
-            _ => any_change(rng, &now),
+        let undone = match change {
+            Change::Reprice(edge, _) => Change::Reprice(edge, right.table.own[edge as usize]),
+            Change::Strike(edge) => Change::Restore(edge),
+            Change::Restore(edge) => Change::Strike(edge),
         };
+        let next = if rng.chance(50) { undone } else { any_change(rng, &now) };
         Ok((Call { answers: right.answers.clone(), ..now }, next))
     })
 }
@@ -104,6 +102,11 @@ fn zero_circle(_: &Trial) -> Outcome {
                     returns(&lent, change, refusal(8, 0))?;
                     tried += 1;
                 }
+                // Struck, vertex 0 rests on nothing; restored, on the circle again.
+                let mut lent = lent.clone();
+                lent.table.strikes[0] = STRUCK;
+                returns(&lent, Change::Restore(0), refusal(8, 0))?;
+                tried += 1;
             }
         }
     }

@@ -9,7 +9,8 @@ use crate::tables;
 use crate::trial::{expect, Verdict};
 
 impl Growth {
-    /// An accepted table whose columns have no place to spare, with its answers and index.
+    /// An accepted table whose columns have no place to spare, with its answers and index; the new
+    /// line stands.
     pub fn exact(measure: u64, table: &Table, head: u64, figure: u64, needed: &[u64]) -> Growth {
         Growth {
             measure,
@@ -20,53 +21,48 @@ impl Growth {
             table: table.clone(),
             head,
             figure,
+            mark: STANDS,
             needed: needed.to_vec(),
         }
     }
 
-    /// So many places more of heads, own, spans, tails, index and list.
-    #[allow(clippy::too_many_arguments)]
-    pub fn spare(
-        &mut self,
-        heads: usize,
-        own: usize,
-        spans: usize,
-        tails: usize,
-        pairs: usize,
-        list: usize,
-        mut word: impl FnMut(u64) -> u64,
-    ) {
-        let columns = [
-            (&mut self.table.heads, heads),
-            (&mut self.table.own, own),
-            (&mut self.table.spans, spans),
-            (&mut self.table.tails, tails),
-            (&mut self.index.pairs, pairs),
-            (&mut self.index.list, list),
-        ];
-        for (column, places) in columns {
+    /// So many places more of heads, own, strikes, spans, tails, index and list.
+    pub fn spare(&mut self, places: [usize; 7], mut word: impl FnMut(u64) -> u64) {
+        let [heads, own, strikes, spans, tails] = self.table.columns_mut();
+        let Index { pairs, list } = &mut self.index;
+        let columns = [heads, own, strikes, spans, tails, pairs, list];
+        for (column, places) in columns.into_iter().zip(places) {
             column.extend((0..places as u64).map(&mut word));
         }
     }
+
+    /// Another line to append.
+    pub fn with(self, (head, figure, mark, needed): Line) -> Growth {
+        Growth { head, figure, mark, needed, ..self }
+    }
 }
 
-pub fn any_line(rng: &mut Rng, n: u64) -> (u64, u64, Vec<u64>) {
-    let figure = if rng.chance(15) { STRUCK } else { tables::any_own(rng) };
+/// Head, own figure, mark and needed parts.
+pub type Line = (u64, u64, u64, Vec<u64>);
+
+pub fn any_line(rng: &mut Rng, n: u64) -> Line {
+    let figure = tables::any_own(rng);
+    let mark = if rng.chance(15) { STRUCK } else { STANDS };
     let size = rng.pick(&[0, 0, 1, 1, 2, 3, 5, 16]);
     let mut needed: Vec<u64> = (0..size).map(|_| rng.below(n)).collect();
     if size > 1 && rng.chance(40) {
         needed[0] = needed[size - 1];
     }
-    (rng.below(n), figure, needed)
+    (rng.below(n), figure, mark, needed)
 }
 
 /// A table with spare places of noise and a line; now and then one has no room for it.
 pub fn any_growth(rng: &mut Rng, measure: u64, table: &Table) -> Growth {
-    let (head, figure, needed) = any_line(rng, table.n);
-    let mut growth = Growth::exact(measure, table, head, figure, &needed);
+    let mut growth = Growth::exact(measure, table, 0, 0, &[]).with(any_line(rng, table.n));
+    let listed = growth.needed.len();
     let mut some = |least: usize| if rng.chance(3) { 0 } else { least + rng.index(4) };
-    let places = [some(1), some(1), some(2), some(needed.len()), some(0), some(needed.len())];
-    growth.spare(places[0], places[1], places[2], places[3], places[4], places[5], |_| rng.any());
+    let places = [1, 1, 1, 2, listed, 0, listed].map(&mut some);
+    growth.spare(places, |_| rng.any());
     growth
 }
 

@@ -4,14 +4,14 @@ pub mod lent;
 pub mod refusals;
 
 use crate::append::lent::*;
-use crate::calls::{
-    bill, check_answers, growth::append, growth::index_table, reprice, settle, strike,
-};
+use crate::calls::{bill, check_answers, growth::append, growth::index_table, settle};
 use crate::model::growth::{Growth, Index};
-use crate::model::solver::{bill_outcome, change_result, changed, solve};
+use crate::model::solver::{bill_outcome, changed, refusal, solve};
 use crate::model::*;
 use crate::random::Rng;
+use crate::reprice::changes::{any_change, as_solver_says};
 use crate::tables;
+use crate::tables::damage::Call;
 use crate::tables::examples::worked;
 use crate::trial::{expect, Outcome, Test, Trial, Verdict};
 
@@ -22,15 +22,17 @@ pub const TESTS: &[Test] = &[
     Test { name: "appending/in-turn", run: in_turn },
     Test { name: "appending/limits", run: at_the_limits },
     Test { name: "appending/then-the-others", run: then_the_others },
+    Test { name: "appending/all-changes", run: all_changes },
+    Test { name: "appending/kept-figure", run: kept_figure },
 ];
 
 fn stated(_: &Trial) -> Outcome {
     let mut growth = Growth::exact(COST, &worked(), 4, 7, &[1, 1]);
-    growth.spare(1, 1, 3, 3, 1, 2, |place| 90 + place);
+    growth.spare([1, 1, 1, 3, 3, 1, 2], |place| 90 + place);
     let (result, left) = append(&growth)?;
     expect("the worked table", result, 0)?;
     let counts = (left.lines, left.listed);
-    if counts != (7, 8) || left.table.spans[12..14] != [6, 2] {
+    if counts != (7, 8) || left.table.spans[12..14] != [6, 2] || left.table.strikes[6] != STANDS {
         return Err(format!("counts {counts:?}, spans {:?}", left.table.spans));
     }
     if left.index.list[..6] != [2, 2, 4, 6, 4, 5] {
@@ -40,7 +42,12 @@ fn stated(_: &Trial) -> Outcome {
         return Err(format!("part 4 is {:?}", left.answers.label(4)));
     }
     same_growth(&left, &growth.after())?;
-    Ok(1)
+    let (result, left) = append(&Growth { mark: STRUCK, ..growth.clone() })?;
+    expect("the worked table and a struck line", result, 0)?;
+    if left.table.own[6] != 7 || left.table.strikes[6] != STRUCK || left.answers != growth.answers {
+        return Err(format!("a struck line left {}", left.describe()));
+    }
+    Ok(2)
 }
 
 fn random(trial: &Trial) -> Outcome {
@@ -59,11 +66,9 @@ fn from_nothing(trial: &Trial) -> Outcome {
         let n = rng.between(1, 12);
         let mut growth = Growth::exact(measure, &Table::new(n), 0, 0, &[]);
         // Forty lines of 16 parts each at most.
-        growth.spare(40, 40, 80, 640, 3, 640, |place| place);
+        growth.spare([40, 40, 40, 80, 640, 3, 640], |place| place);
         for line in 1..=40 {
-            let (head, figure, needed) = any_line(rng, n);
-            growth = Growth { head, figure, needed, ..growth };
-            growth = accepted(&growth)?;
+            growth = accepted(&growth.with(any_line(rng, n)))?;
             expect("the lines", growth.lines, line)?;
         }
         Ok(())
@@ -77,8 +82,8 @@ fn in_turn(trial: &Trial) -> Outcome {
         let table = tables::any(rng);
         let mut growth = any_growth(rng, measure, &table);
         for _ in 0..rng.between(1, 6) {
-            let (head, figure, needed) = any_line(rng, growth.table.n);
-            growth = Growth { head, figure, needed, ..growth };
+            let line = any_line(rng, growth.table.n);
+            growth = growth.with(line);
             let (result, left) = as_model_says(&growth)?;
             if result != 0 {
                 return Ok(());
@@ -94,13 +99,14 @@ fn at_the_limits(_: &Trial) -> Outcome {
     let line = |part: usize| (part as u64 % 1_024, 3, vec![]);
     let lines: Vec<_> = (0..MOST_EDGES - 1).map(line).collect();
     let mut most = Growth::exact(COST, &Table::of(1_024, &lines), 5, 2, &[7]);
-    most.spare(2, 2, 4, 9, 0, 9, |place| place);
+    most.spare([2, 2, 2, 4, 9, 0, 9], |place| place);
     let most = accepted(&most)?;
     as_model_says(&most)?;
     let full = |part: usize| (part as u64, 1, vec![part as u64; LONGEST_TAIL]);
     let lines: Vec<_> = (0..MOST_TAILS / LONGEST_TAIL - 1).map(full).collect();
-    let mut long = Growth::exact(DAYS, &Table::of(1_024, &lines), 5, STRUCK, &[7; 16]);
-    long.spare(9, 9, 18, 40, 0, 40, |place| place);
+    let mut long = Growth::exact(DAYS, &Table::of(1_024, &lines), 5, GREATEST, &[7; 16]);
+    long.mark = STRUCK;
+    long.spare([9, 9, 9, 18, 40, 0, 40], |place| place);
     let long = accepted(&long)?;
     expect("the needed parts", long.listed, MOST_TAILS as u64)?;
     as_model_says(&long)?;
@@ -135,17 +141,15 @@ fn then_the_others(trial: &Trial) -> Outcome {
     })
 }
 
-/// Repricing, striking and a bill of the new line and its head.
+/// Repricing, striking, restoring and a bill of the new line and its head.
 fn others(rng: &mut Rng, measure: u64, grown: &Table, right: &Labelling) -> Verdict {
     let edge = grown.edges() as u64 - 1;
-    for change in [Change::Reprice(edge, rng.below(50)), Change::Strike(edge)] {
-        let left = match change {
-            Change::Reprice(edge, own) => reprice(measure, grown, right, edge, own),
-            Change::Strike(edge) => strike(measure, grown, right, edge),
-        }?;
-        let wanted = change_result(measure, grown, right, change);
-        expect("a change", left.result, wanted)?;
-        if wanted == 0 && Index::of(&changed(grown, change)) != Index::of(grown) {
+    let call = Call { measure, table: grown.clone(), answers: right.clone() };
+    let changes =
+        [Change::Reprice(edge, rng.below(50)), Change::Strike(edge), Change::Restore(edge)];
+    for change in changes {
+        let left = as_solver_says(&call, change)?;
+        if left.result == 0 && Index::of(&changed(grown, change)) != Index::of(grown) {
             return Err("a change has moved the index".to_string());
         }
     }
@@ -158,4 +162,76 @@ fn others(rng: &mut Rng, measure: u64, grown: &Table, right: &Labelling) -> Verd
         return Err("another bill".to_string());
     }
     Ok(())
+}
+
+/// A change of the lines in use, in the columns with places to spare; what it must leave, the change's
+/// own test says. No change moves the index.
+fn change_in_use(growth: &mut Growth, change: Change) -> Result<u64, String> {
+    let table = growth.in_use();
+    let index = Index::of(&table);
+    let call = Call { measure: growth.measure, table, answers: growth.answers.clone() };
+    let left = as_solver_says(&call, change)?;
+    growth.table.own.splice(..left.own.len(), left.own);
+    growth.table.strikes.splice(..left.strikes.len(), left.strikes);
+    growth.answers = left.answers;
+    if Index::of(&growth.in_use()) != index {
+        return Err("a change has moved the index".to_string());
+    }
+    Ok(left.result)
+}
+
+/// Reprices, strikes, restores and appendings in any order, each with the columns that the one before
+/// left; some name a line that there is not, or whose mark is the other.
+fn all_changes(trial: &Trial) -> Outcome {
+    trial.cases(trial.count, |rng| {
+        let measure = rng.pick(&MEASURES);
+        let table = tables::any(rng);
+        let mut growth = any_growth(rng, measure, &table);
+        growth.spare([12, 12, 12, 24, 96, 2, 96], |_| rng.any());
+        for _ in 0..rng.between(4, 20) {
+            if rng.chance(35) {
+                let line = any_line(rng, growth.table.n);
+                growth = as_model_says(&growth.with(line))?.1;
+                continue;
+            }
+            let (table, answers) = (growth.in_use(), growth.answers.clone());
+            let edge = rng.below(growth.lines + 2);
+            let any = [Change::Reprice(edge, 7), Change::Strike(edge), Change::Restore(edge)];
+            let change = match rng.chance(20) {
+                true => rng.pick(&any),
+                false => any_change(rng, &Call { measure, table, answers }),
+            };
+            change_in_use(&mut growth, change)?;
+        }
+        Ok(())
+    })
+}
+
+/// A line is struck, or appended struck; others are appended and changed; restored, it has its own
+/// figure in the table as it then is.
+fn kept_figure(trial: &Trial) -> Outcome {
+    trial.cases(trial.count / 4, |rng| {
+        let (measure, n) = (rng.pick(&MEASURES), rng.between(1, 6));
+        let mut growth = Growth::exact(measure, &Table::new(n), 0, 0, &[]);
+        growth.spare([9, 9, 9, 18, 144, 0, 144], |_| rng.any());
+        let (head, kept, mark, needed) = any_line(rng, n);
+        growth = accepted(&growth.with((head, kept, mark, needed)))?;
+        if mark == STANDS {
+            expect("a strike", change_in_use(&mut growth, Change::Strike(0))?, 0)?;
+        }
+        for _ in 0..8 {
+            growth = accepted(&growth.with(any_line(rng, n)))?;
+            let edge = rng.between(1, growth.lines - 1);
+            let any = [Change::Reprice(edge, 3), Change::Strike(edge), Change::Restore(edge)];
+            change_in_use(&mut growth, rng.pick(&any))?;
+            let repriced = change_in_use(&mut growth, Change::Reprice(0, 3))?;
+            expect("a reprice of the struck line", repriced, refusal(9, 0))?;
+        }
+        expect("a restoring", change_in_use(&mut growth, Change::Restore(0))?, 0)?;
+        expect("the kept figure", growth.table.own[0], kept)?;
+        if growth.answers != solve(measure, &growth.in_use()) {
+            return Err("other answers".to_string());
+        }
+        Ok(())
+    })
 }

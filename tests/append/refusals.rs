@@ -42,6 +42,9 @@ const FLAWS: &[Flaw] = &[
     flaw("parts", 1, 1, At::Nought, |g| g.table.n = 1_025),
     flaw("lines past heads", 2, 2, At::Nought, |g| g.table.heads.truncate(g.lines as usize - 1)),
     flaw("lines past own", 2, 2, At::Nought, |g| g.table.own.truncate(g.lines as usize - 1)),
+    flaw("lines past strikes", 2, 2, At::Nought, |g| {
+        g.table.strikes.truncate(g.lines as usize - 1)
+    }),
     flaw("lines past spans", 2, 2, At::Nought, |g| {
         g.table.spans.truncate(2 * g.lines as usize - 1)
     }),
@@ -54,37 +57,41 @@ const FLAWS: &[Flaw] = &[
         g.table.spans[last - 1] = 2;
     }),
     flaw("head of line 2", 3, 3, At::LineTwo, |g| g.table.heads[2] = g.table.n),
-    flaw("own of line 2", 4, 4, At::LineTwo, |g| g.table.own[2] = STRUCK + 1),
-    flaw("span of line 2", 5, 5, At::LineTwo, |g| g.table.spans[5] = 17),
-    flaw("part of line 2", 6, 6, At::LineTwo, |g| {
+    flaw("own of line 2", 4, 4, At::LineTwo, |g| g.table.own[2] = GREATEST + 1),
+    flaw("mark of line 2", 5, 21, At::LineTwo, |g| g.table.strikes[2] = 2),
+    flaw("span of line 2", 6, 5, At::LineTwo, |g| g.table.spans[5] = 17),
+    flaw("part of line 2", 7, 6, At::LineTwo, |g| {
         let place = g.table.spans[4] as usize;
         g.table.tails[place] = g.table.n;
     }),
-    flaw("new head", 7, 3, At::NewLine, |g| g.head = g.table.n),
-    flaw("new figure", 8, 4, At::NewLine, |g| g.figure = STRUCK + 1),
-    flaw("new list", 9, 5, At::NewLine, |g| g.needed = vec![0; 17]),
-    flaw("new part", 10, 6, At::NewLine, |g| g.needed[0] = g.table.n),
-    flaw("weights", 11, 7, At::Nought, |g| g.answers.weights.push(0)),
-    flaw("depths", 11, 7, At::Nought, |g| {
+    flaw("new head", 8, 3, At::NewLine, |g| g.head = g.table.n),
+    flaw("new figure", 9, 4, At::NewLine, |g| g.figure = GREATEST + 1),
+    flaw("new mark", 10, 21, At::NewLine, |g| g.mark = 2),
+    flaw("a huge new mark", 10, 21, At::NewLine, |g| g.mark = u64::MAX),
+    flaw("new list", 11, 5, At::NewLine, |g| g.needed = vec![0; 17]),
+    flaw("new part", 12, 6, At::NewLine, |g| g.needed[0] = g.table.n),
+    flaw("weights", 13, 7, At::Nought, |g| g.answers.weights.push(0)),
+    flaw("depths", 13, 7, At::Nought, |g| {
         g.answers.depths.pop();
     }),
-    flaw("edges", 11, 7, At::Nought, |g| g.answers.edges.push(0)),
-    flaw("no head to spare", 12, 18, At::Nought, |g| g.table.heads.truncate(g.lines as usize)),
-    flaw("no own to spare", 12, 18, At::Nought, |g| g.table.own.truncate(g.lines as usize)),
-    flaw("no span to spare", 12, 18, At::Nought, |g| {
+    flaw("edges", 13, 7, At::Nought, |g| g.answers.edges.push(0)),
+    flaw("no head to spare", 14, 18, At::Nought, |g| g.table.heads.truncate(g.lines as usize)),
+    flaw("no own to spare", 14, 18, At::Nought, |g| g.table.own.truncate(g.lines as usize)),
+    flaw("no strike to spare", 14, 18, At::Nought, |g| g.table.strikes.truncate(g.lines as usize)),
+    flaw("no span to spare", 14, 18, At::Nought, |g| {
         g.table.spans.truncate(2 * g.lines as usize + 1)
     }),
-    flaw("no part to spare", 12, 18, At::Nought, |g| g.table.tails.truncate(g.listed as usize)),
-    flaw("no pair to spare", 12, 18, At::Nought, |g| {
+    flaw("no part to spare", 14, 18, At::Nought, |g| g.table.tails.truncate(g.listed as usize)),
+    flaw("no pair to spare", 14, 18, At::Nought, |g| {
         g.index.pairs.truncate(2 * g.table.n as usize - 1)
     }),
-    flaw("no entry to spare", 12, 18, At::Nought, |g| {
+    flaw("no entry to spare", 14, 18, At::Nought, |g| {
         g.index.list.truncate(g.index.list.len() - 3)
     }),
-    flaw("a pair off", 13, 19, At::Nought, |g| g.index.pairs[3] += 1),
-    flaw("an entry off", 13, 19, At::Nought, |g| g.index.list[0] += 1),
-    flaw("a figure off", 14, 8, At::Nought, |g| g.answers.weights[0] += 1),
-    flaw("a line off", 14, 8, At::Nought, |g| g.answers.edges[1] += 1),
+    flaw("a pair off", 15, 19, At::Nought, |g| g.index.pairs[3] += 1),
+    flaw("an entry off", 15, 19, At::Nought, |g| g.index.list[0] += 1),
+    flaw("a figure off", 16, 8, At::Nought, |g| g.answers.weights[0] += 1),
+    flaw("a line off", 16, 8, At::Nought, |g| g.answers.edges[1] += 1),
 ];
 
 /// Three lines or more, the third of which lists a part; two places of tails and list to spare, which
@@ -93,12 +100,13 @@ fn sound(rng: &mut Rng) -> Growth {
     let n = 5 + rng.below(4);
     let mut table = Table::of(n, &[(0, 5, vec![]), (1, 2, vec![0]), (2, 1, vec![1, 0])]);
     for _ in 0..rng.below(4) {
-        let (head, figure, needed) = any_line(rng, n);
-        table.push(head, figure, &needed);
+        let (head, figure, mark, needed) = any_line(rng, n);
+        table.push_marked(head, figure, mark, &needed);
     }
     let measure = rng.pick(&MEASURES);
     let mut growth = Growth::exact(measure, &table, 3, rng.below(90), &[2, 1]);
-    growth.spare(1, 1, 2, 2, 0, 2, |_| rng.any());
+    growth.mark = rng.pick(&MARKS);
+    growth.spare([1, 1, 1, 2, 2, 0, 2], |_| rng.any());
     growth
 }
 
@@ -194,16 +202,21 @@ fn one_word(trial: &Trial) -> Outcome {
     trial.cases(4 * trial.count, |rng| {
         let mut growth = sound(rng);
         let word = rng.any();
-        let column = match rng.below(11) {
+        let column = match rng.below(13) {
             0 => &mut growth.table.heads,
             1 => &mut growth.table.own,
-            2 => &mut growth.table.spans,
-            3 => &mut growth.table.tails,
-            4 => &mut growth.answers.weights,
-            5 => &mut growth.answers.depths,
-            6 => &mut growth.answers.edges,
-            7 => &mut growth.index.pairs,
-            8 => &mut growth.index.list,
+            2 => &mut growth.table.strikes,
+            3 => &mut growth.table.spans,
+            4 => &mut growth.table.tails,
+            5 => &mut growth.answers.weights,
+            6 => &mut growth.answers.depths,
+            7 => &mut growth.answers.edges,
+            8 => &mut growth.index.pairs,
+            9 => &mut growth.index.list,
+            10 => {
+                growth.mark = word;
+                return as_model_says(&growth).map(|_| ());
+            }
             _ => &mut growth.needed,
         };
         let place = rng.index(column.len());

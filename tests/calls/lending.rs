@@ -86,6 +86,7 @@ impl<'a, W: Word> Column<'a, W> {
 pub struct LentTable<'a> {
     pub heads: Column<'a>,
     pub own: Column<'a>,
+    pub strikes: Column<'a>,
     pub spans: Column<'a>,
     pub tails: Column<'a>,
 }
@@ -95,6 +96,7 @@ impl<'a> LentTable<'a> {
         LentTable {
             heads: Column::lend("heads", &table.heads),
             own: Column::lend("own", &table.own),
+            strikes: Column::lend("strikes", &table.strikes),
             spans: Column::lend("spans", &table.spans),
             tails: Column::lend("tails", &table.tails),
         }
@@ -103,18 +105,20 @@ impl<'a> LentTable<'a> {
     pub fn guarded(&self) -> Verdict {
         self.heads.guarded()?;
         self.own.guarded()?;
+        self.strikes.guarded()?;
         self.spans.guarded()?;
         self.tails.guarded()
     }
 
     pub fn kept(&self) -> Verdict {
-        self.kept_but(None)
+        self.kept_but([None, None])
     }
 
-    /// All is as lent, but the own weight of the hyperedge `free` may be any.
-    pub fn kept_but(&self, free: Option<u64>) -> Verdict {
+    /// All is as lent, but a place of the own weights and one of the strikes may hold anything.
+    pub fn kept_but(&self, [own, strike]: [Option<u64>; 2]) -> Verdict {
         self.heads.kept()?;
-        self.own.kept_but(free)?;
+        self.own.kept_but(own)?;
+        self.strikes.kept_but(strike)?;
         self.spans.kept()?;
         self.tails.kept()
     }
@@ -125,6 +129,7 @@ impl<'a> LentTable<'a> {
             n,
             heads: self.heads.values().to_vec(),
             own: self.own.values().to_vec(),
+            strikes: self.strikes.values().to_vec(),
             spans: self.spans.values().to_vec(),
             tails: self.tails.values().to_vec(),
         }

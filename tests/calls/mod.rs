@@ -6,7 +6,7 @@ pub mod lending;
 pub mod texts;
 
 use crate::calls::lending::{Column, LentLabelling, LentTable};
-use crate::model::{Labelling, Table};
+use crate::model::{Labelling, Table, STANDS, STRUCK};
 
 /// The calls of a program in C, in their own archive.
 mod counter {
@@ -18,6 +18,8 @@ mod counter {
             heads_len: usize,
             own: *const u64,
             own_len: usize,
+            strikes: *const u64,
+            strikes_len: usize,
             spans: *const u64,
             spans_len: usize,
             tails: *const u64,
@@ -37,6 +39,8 @@ mod counter {
             heads_len: usize,
             own: *mut u64,
             own_len: usize,
+            strikes: *const u64,
+            strikes_len: usize,
             spans: *const u64,
             spans_len: usize,
             tails: *const u64,
@@ -58,6 +62,8 @@ mod counter {
             heads_len: usize,
             own: *const u64,
             own_len: usize,
+            strikes: *const u64,
+            strikes_len: usize,
             spans: *const u64,
             spans_len: usize,
             tails: *const u64,
@@ -82,6 +88,8 @@ extern "C" {
         heads_len: usize,
         own: *const u64,
         own_len: usize,
+        strikes: *const u64,
+        strikes_len: usize,
         spans: *const u64,
         spans_len: usize,
         tails: *const u64,
@@ -95,6 +103,8 @@ extern "C" {
         heads_len: usize,
         own: *const u64,
         own_len: usize,
+        strikes: *const u64,
+        strikes_len: usize,
         spans: *const u64,
         spans_len: usize,
         tails: *const u64,
@@ -124,8 +134,32 @@ extern "C" {
         n: u64,
         heads: *const u64,
         heads_len: usize,
-        own: *mut u64,
+        own: *const u64,
         own_len: usize,
+        strikes: *mut u64,
+        strikes_len: usize,
+        spans: *const u64,
+        spans_len: usize,
+        tails: *const u64,
+        tails_len: usize,
+        weights: *mut u64,
+        weights_len: usize,
+        depths: *mut u64,
+        depths_len: usize,
+        edges: *mut u64,
+        edges_len: usize,
+        line: u64,
+    ) -> u64;
+
+    fn harness_restore(
+        measure: u64,
+        n: u64,
+        heads: *const u64,
+        heads_len: usize,
+        own: *const u64,
+        own_len: usize,
+        strikes: *mut u64,
+        strikes_len: usize,
         spans: *const u64,
         spans_len: usize,
         tails: *const u64,
@@ -149,6 +183,8 @@ pub fn check_table(table: &Table) -> Result<u64, String> {
             lent.heads.len(),
             lent.own.pointer(),
             lent.own.len(),
+            lent.strikes.pointer(),
+            lent.strikes.len(),
             lent.spans.pointer(),
             lent.spans.len(),
             lent.tails.pointer(),
@@ -175,6 +211,8 @@ pub fn settle(
             lent.heads.len(),
             lent.own.pointer(),
             lent.own.len(),
+            lent.strikes.pointer(),
+            lent.strikes.len(),
             lent.spans.pointer(),
             lent.spans.len(),
             lent.tails.pointer(),
@@ -203,6 +241,8 @@ pub fn check_answers(measure: u64, table: &Table, answers: &Labelling) -> Result
             lent.heads.len(),
             lent.own.pointer(),
             lent.own.len(),
+            lent.strikes.pointer(),
+            lent.strikes.len(),
             lent.spans.pointer(),
             lent.spans.len(),
             lent.tails.pointer(),
@@ -238,6 +278,8 @@ pub fn bill(
             lent.heads.len(),
             lent.own.pointer(),
             lent.own.len(),
+            lent.strikes.pointer(),
+            lent.strikes.len(),
             lent.spans.pointer(),
             lent.spans.len(),
             lent.tails.pointer(),
@@ -280,10 +322,11 @@ pub fn entry(answers: &Labelling, vertex: u64, room: &[u64]) -> Result<(u64, Vec
     Ok((state, entry.values().to_vec()))
 }
 
-/// What a change leaves: its result, the own weights and the answer columns.
+/// What a change leaves: its result, the own weights, the strikes and the answer columns.
 pub struct Changed {
     pub result: u64,
     pub own: Vec<u64>,
+    pub strikes: Vec<u64>,
     pub answers: Labelling,
 }
 
@@ -304,6 +347,8 @@ pub fn reprice(
             lent.heads.len(),
             lent.own.pointer(),
             lent.own.len(),
+            lent.strikes.pointer(),
+            lent.strikes.len(),
             lent.spans.pointer(),
             lent.spans.len(),
             lent.tails.pointer(),
@@ -318,7 +363,7 @@ pub fn reprice(
             own,
         )
     };
-    changed(result, edge, &lent, &room).map_err(|wrong| format!("reprice, {wrong}"))
+    changed(result, [Some(edge), None], &lent, &room).map_err(|wrong| format!("reprice, {wrong}"))
 }
 
 pub fn strike(
@@ -327,16 +372,39 @@ pub fn strike(
     answers: &Labelling,
     edge: u64,
 ) -> Result<Changed, String> {
+    marked(STRUCK, measure, table, answers, edge).map_err(|wrong| format!("strike, {wrong}"))
+}
+
+pub fn restore(
+    measure: u64,
+    table: &Table,
+    answers: &Labelling,
+    edge: u64,
+) -> Result<Changed, String> {
+    marked(STANDS, measure, table, answers, edge).map_err(|wrong| format!("restore, {wrong}"))
+}
+
+/// A change of one mark, by the call that makes it so.
+fn marked(
+    mark: u64,
+    measure: u64,
+    table: &Table,
+    answers: &Labelling,
+    edge: u64,
+) -> Result<Changed, String> {
     let mut lent = LentTable::lend(table);
     let mut room = LentLabelling::lend(answers);
+    let call = if mark == STRUCK { harness_strike } else { harness_restore };
     let result = unsafe {
-        harness_strike(
+        call(
             measure,
             table.n,
             lent.heads.pointer(),
             lent.heads.len(),
             lent.own.pointer(),
             lent.own.len(),
+            lent.strikes.pointer(),
+            lent.strikes.len(),
             lent.spans.pointer(),
             lent.spans.len(),
             lent.tails.pointer(),
@@ -350,20 +418,22 @@ pub fn strike(
             edge,
         )
     };
-    changed(result, edge, &lent, &room).map_err(|wrong| format!("strike, {wrong}"))
+    changed(result, [None, Some(edge)], &lent, &room)
 }
 
-/// Accepted, it writes the answers and one own weight; refused, it writes nothing.
+/// Accepted, it writes the answers and one place, of the own weights or of the strikes; refused, it
+/// writes nothing.
 fn changed(
     result: u64,
-    edge: u64,
+    written: [Option<u64>; 2],
     lent: &LentTable,
     room: &LentLabelling,
 ) -> Result<Changed, String> {
     if result == 0 {
-        lent.kept_but(Some(edge)).and(room.guarded())?;
+        lent.kept_but(written).and(room.guarded())?;
     } else {
         lent.kept().and(room.kept())?;
     }
-    Ok(Changed { result, own: lent.own.values().to_vec(), answers: room.labelling() })
+    let [own, strikes] = [&lent.own, &lent.strikes].map(|column| column.values().to_vec());
+    Ok(Changed { result, own, strikes, answers: room.labelling() })
 }

@@ -55,6 +55,7 @@ pub struct Growth {
     pub index: Index,
     pub head: u64,
     pub figure: u64,
+    pub mark: u64,
     pub needed: Vec<u64>,
 }
 
@@ -66,6 +67,7 @@ impl Growth {
             n: self.table.n,
             heads: self.table.heads[..lines].to_vec(),
             own: self.table.own[..lines].to_vec(),
+            strikes: self.table.strikes[..lines].to_vec(),
             spans: self.table.spans[..2 * lines].to_vec(),
             tails: self.table.tails[..listed].to_vec(),
         }
@@ -85,7 +87,7 @@ impl Growth {
     pub fn longer(&self) -> Table {
         let mut table = self.in_use();
         table.tails.truncate(self.end() as usize);
-        table.push(self.head, self.figure, &self.needed);
+        table.push_marked(self.head, self.figure, self.mark, &self.needed);
         table
     }
 
@@ -95,10 +97,9 @@ impl Growth {
             return refusal(1, 0);
         }
         let (lines, listed) = (u128::from(self.lines), u128::from(self.listed));
-        let places = [&self.table.heads, &self.table.own].map(|column| column.len() as u128);
-        let within = places.iter().all(|&place| lines <= place)
-            && 2 * lines <= self.table.spans.len() as u128
-            && listed <= self.table.tails.len() as u128;
+        let places = self.table.columns().map(|column| column.len() as u128);
+        let taken = [lines, lines, lines, 2 * lines, listed];
+        let within = taken.iter().zip(places).all(|(&taken, places)| taken <= places);
         let room = MOST_TAILS as u128;
         if !within
             || lines + 1 > MOST_EDGES as u128
@@ -110,14 +111,17 @@ impl Growth {
         0
     }
 
-    /// 3 to 6 of the new line.
+    /// 3, 4, 21, 5 and 6 of the new line.
     fn line_result(&self) -> u64 {
         let refused = |number| refusal(number, self.lines);
         if self.head >= self.table.n {
             return refused(3);
         }
-        if self.figure > STRUCK {
+        if self.figure > GREATEST {
             return refused(4);
+        }
+        if !MARKS.contains(&self.mark) {
+            return refused(21);
         }
         if self.needed.len() > LONGEST_TAIL {
             return refused(5);
@@ -130,12 +134,11 @@ impl Growth {
 
     /// 18.
     fn lacks_room(&self) -> bool {
-        let (lines, table) = (self.lines as usize, &self.table);
-        let after = Index::of(&self.longer());
-        table.heads.len() < lines + 1
-            || table.own.len() < lines + 1
-            || table.spans.len() < 2 * lines + 2
-            || (table.tails.len() as u128) < self.end() + self.needed.len() as u128
+        let longer = self.longer();
+        let after = Index::of(&longer);
+        let taken = longer.columns().map(Vec::len);
+        let lent = self.table.columns().map(Vec::len);
+        taken.iter().zip(lent).any(|(&taken, lent)| taken > lent)
             || self.index.pairs.len() < after.pairs.len()
             || self.index.list.len() < after.list.len()
     }
@@ -180,6 +183,7 @@ impl Growth {
             n: longer.n,
             heads: over(&longer.heads, &self.table.heads),
             own: over(&longer.own, &self.table.own),
+            strikes: over(&longer.strikes, &self.table.strikes),
             spans: over(&longer.spans, &self.table.spans),
             tails: over(&longer.tails, &self.table.tails),
         };
@@ -198,7 +202,7 @@ impl Growth {
 
     pub fn describe(&self) -> String {
         let (table, answers) = (self.table.describe(), self.answers.describe());
-        let line = (self.head, self.figure, &self.needed);
+        let line = (self.head, self.figure, self.mark, &self.needed);
         let counts = (self.lines, self.listed);
         format!("measure {}, counts {counts:?}, line {line:?}, {answers}, {table}", self.measure)
     }

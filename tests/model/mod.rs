@@ -15,26 +15,31 @@ pub const LONGEST_TAIL: usize = 16;
 pub const MOST_TAILS: usize = 16_384;
 
 pub const GREATEST: u64 = 1_000_000_000;
-pub const STRUCK: u64 = 1_000_000_001;
 pub const CEILING: u64 = 1_000_000_000_000;
 pub const OVER: u64 = 1_000_000_000_001;
 
-/// The four columns as they are lent; they need not be an accepted table.
+/// The strike marks.
+pub const STANDS: u64 = 0;
+pub const STRUCK: u64 = 1;
+pub const MARKS: [u64; 2] = [STANDS, STRUCK];
+
+/// The five columns as they are lent; they need not be an accepted table.
 #[derive(Clone, PartialEq)]
 pub struct Table {
     pub n: u64,
     pub heads: Vec<u64>,
     pub own: Vec<u64>,
+    pub strikes: Vec<u64>,
     pub spans: Vec<u64>,
     pub tails: Vec<u64>,
 }
 
 impl Table {
     pub fn new(n: u64) -> Table {
-        Table { n, heads: vec![], own: vec![], spans: vec![], tails: vec![] }
+        Table { n, heads: vec![], own: vec![], strikes: vec![], spans: vec![], tails: vec![] }
     }
 
-    /// The hyperedges as head, own weight and tail, with no gaps.
+    /// The hyperedges as head, own weight and tail, with no gaps; all stand.
     pub fn of<Tail: AsRef<[u64]>>(n: u64, edges: &[(u64, u64, Tail)]) -> Table {
         let mut table = Table::new(n);
         for (head, own, tail) in edges {
@@ -44,17 +49,22 @@ impl Table {
     }
 
     /// Adds a hyperedge whose span follows `gap`, which belongs to no span.
-    pub fn push_after(&mut self, gap: &[u64], head: u64, own: u64, tail: &[u64]) {
+    pub fn push_after(&mut self, gap: &[u64], head: u64, own: u64, mark: u64, tail: &[u64]) {
         self.tails.extend_from_slice(gap);
         self.heads.push(head);
         self.own.push(own);
+        self.strikes.push(mark);
         self.spans.push(self.tails.len() as u64);
         self.spans.push(tail.len() as u64);
         self.tails.extend_from_slice(tail);
     }
 
+    pub fn push_marked(&mut self, head: u64, own: u64, mark: u64, tail: &[u64]) {
+        self.push_after(&[], head, own, mark, tail);
+    }
+
     pub fn push(&mut self, head: u64, own: u64, tail: &[u64]) {
-        self.push_after(&[], head, own, tail);
+        self.push_marked(head, own, STANDS, tail);
     }
 
     pub fn edges(&self) -> usize {
@@ -68,20 +78,28 @@ impl Table {
     }
 
     pub fn is_live(&self, edge: usize) -> bool {
-        self.own[edge] != STRUCK
+        self.strikes[edge] != STRUCK
     }
 
     /// The columns on one line. A long table is told by its sizes: seed and case make it again.
     pub fn describe(&self) -> String {
-        let (edges, words) = (self.heads.len(), self.tails.len());
-        if edges + self.own.len() + self.spans.len() + words > 1_000 {
-            let sizes = (edges, self.own.len(), self.spans.len(), words);
+        let sizes = self.columns().map(Vec::len);
+        if sizes.iter().sum::<usize>() > 1_000 {
             return format!("n={} and columns of {sizes:?} places", self.n);
         }
         format!(
-            "n={} heads={:?} own={:?} spans={:?} tails={:?}",
-            self.n, self.heads, self.own, self.spans, self.tails
+            "n={} heads={:?} own={:?} strikes={:?} spans={:?} tails={:?}",
+            self.n, self.heads, self.own, self.strikes, self.spans, self.tails
         )
+    }
+
+    pub fn columns(&self) -> [&Vec<u64>; 5] {
+        [&self.heads, &self.own, &self.strikes, &self.spans, &self.tails]
+    }
+
+    pub fn columns_mut(&mut self) -> [&mut Vec<u64>; 5] {
+        let Table { heads, own, strikes, spans, tails, .. } = self;
+        [heads, own, strikes, spans, tails]
     }
 }
 
@@ -91,20 +109,13 @@ pub enum Change {
     /// The hyperedge and its new own weight.
     Reprice(u64, u64),
     Strike(u64),
+    Restore(u64),
 }
 
 impl Change {
     pub fn edge(&self) -> u64 {
         match *self {
-            Change::Reprice(edge, _) | Change::Strike(edge) => edge,
-        }
-    }
-
-    /// What then stands in the column of own weights.
-    pub fn own(&self) -> u64 {
-        match *self {
-            Change::Reprice(_, own) => own,
-            Change::Strike(_) => STRUCK,
+            Change::Reprice(edge, _) | Change::Strike(edge) | Change::Restore(edge) => edge,
         }
     }
 }

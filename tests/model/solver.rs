@@ -95,13 +95,14 @@ pub fn refusal(number: u64, place: u64) -> u64 {
     number * 4_294_967_296 + place
 }
 
-/// What checking the table must return: 0, or the first of the refusals 1 to 6.
+/// What checking the table must return: 0, or the first of the refusals 1 to 6 and 21.
 pub fn table_result(table: &Table) -> u64 {
     let edges = table.heads.len();
     if table.n > MOST_VERTICES {
         return refusal(1, 0);
     }
-    let agree = table.own.len() == edges && table.spans.len() == 2 * edges;
+    let agree =
+        table.own.len() == edges && table.strikes.len() == edges && table.spans.len() == 2 * edges;
     if !agree || edges > MOST_EDGES || table.tails.len() > MOST_TAILS {
         return refusal(2, 0);
     }
@@ -117,13 +118,17 @@ pub fn table_result(table: &Table) -> u64 {
     0
 }
 
-/// The first of the refusals 3 to 6 that a hyperedge meets, where the span before ends at `end`.
+/// The first of the refusals 3, 4, 21, 5 and 6 that a hyperedge meets, where the span before ends at
+/// `end`.
 fn edge_fault(table: &Table, edge: usize, end: u128) -> Option<u64> {
     if table.heads[edge] >= table.n {
         return Some(3);
     }
-    if table.own[edge] > STRUCK {
+    if table.own[edge] > GREATEST {
         return Some(4);
+    }
+    if !MARKS.contains(&table.strikes[edge]) {
+        return Some(21);
     }
     // Wider than the columns' numbers, so that no sum can wrap.
     let offset = u128::from(table.spans[2 * edge]);
@@ -208,15 +213,18 @@ pub fn bill_outcome(
     (bill.len() as u64, left)
 }
 
-/// What repricing or striking must return: what any call does, then 9, 10 and 8.
+/// What repricing, striking or restoring must return: what any call does, then 9, 20, 10 and 8.
 pub fn change_result(measure: u64, table: &Table, answers: &Labelling, change: Change) -> u64 {
     let result = call_result(measure, table, answers);
     if result != 0 {
         return result;
     }
-    let live = |edge| edge < table.edges() && table.is_live(edge);
-    if !usize::try_from(change.edge()).map_or(false, live) {
-        return refusal(9, 0);
+    let edge = usize::try_from(change.edge()).ok().filter(|&edge| edge < table.edges());
+    match (edge.map(|edge| table.is_live(edge)), change) {
+        (None, _) => return refusal(9, 0),
+        (Some(true), Change::Restore(_)) => return refusal(20, 0),
+        (Some(false), Change::Reprice(..) | Change::Strike(_)) => return refusal(9, 0),
+        _ => {}
     }
     if matches!(change, Change::Reprice(_, own) if own > GREATEST) {
         return refusal(10, 0);
@@ -231,7 +239,12 @@ pub fn change_result(measure: u64, table: &Table, answers: &Labelling, change: C
 /// The table as an accepted change leaves it.
 pub fn changed(table: &Table, change: Change) -> Table {
     let mut table = table.clone();
-    table.own[change.edge() as usize] = change.own();
+    let edge = change.edge() as usize;
+    match change {
+        Change::Reprice(_, own) => table.own[edge] = own,
+        Change::Strike(_) => table.strikes[edge] = STRUCK,
+        Change::Restore(_) => table.strikes[edge] = STANDS,
+    }
     table
 }
 

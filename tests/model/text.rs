@@ -16,8 +16,8 @@ pub fn parse(text: &[u8]) -> Parsed {
     let mut table = Table::new(n);
     for (before, line) in lines.iter().enumerate().skip(1) {
         let text_line = before as u64 + 1;
-        let (head, own, tail) = table_line(line, n).ok_or(text_line)?;
-        table.push(head, own, &tail);
+        let (head, own, mark, tail) = table_line(line, n).ok_or(text_line)?;
+        table.push_marked(head, own, mark, &tail);
         if table.edges() > MOST_EDGES || table.tails.len() > MOST_TAILS {
             return Err(text_line);
         }
@@ -42,18 +42,22 @@ fn first_line(line: &[u8]) -> Option<(u64, u64)> {
     }
 }
 
-/// Head, own weight and tail.
-fn table_line(line: &[u8], n: u64) -> Option<(u64, u64, Vec<u64>)> {
+/// Head, own weight, mark and tail.
+fn table_line(line: &[u8], n: u64) -> Option<(u64, u64, u64, Vec<u64>)> {
     let words = words(line);
     let (head, own, tail) = match &words[..] {
         [head, own, tail @ ..] => (head, own, tail),
         _ => return None,
     };
     let vertex = |word: &[u8]| number(word, n.checked_sub(1)?);
-    let own = if own == b"-" { STRUCK } else { number(own, GREATEST)? };
+    // What is behind the dash is a number like any other, and must be there.
+    let (mark, figure) = match own.strip_prefix(b"-") {
+        Some(kept) => (STRUCK, kept),
+        None => (STANDS, *own),
+    };
     let tail: Option<Vec<u64>> = tail.iter().map(|word| vertex(word)).collect();
     let tail = tail.filter(|tail| tail.len() <= LONGEST_TAIL)?;
-    Some((vertex(head)?, own, tail))
+    Some((vertex(head)?, number(figure, GREATEST)?, mark, tail))
 }
 
 /// A number from 0 to `most`: the one that is spelt just like the word.
@@ -67,7 +71,8 @@ pub fn written(measure: u64, table: &Table) -> Vec<u8> {
     let days = if measure == DAYS { " days" } else { "" };
     let mut text = format!("parts {}{days}\n", table.n);
     for edge in 0..table.edges() {
-        let own = if table.is_live(edge) { table.own[edge].to_string() } else { "-".to_string() };
+        let dash = if table.is_live(edge) { "" } else { "-" };
+        let own = format!("{dash}{}", table.own[edge]);
         let mut words = vec![table.heads[edge].to_string(), own];
         words.extend(table.tail(edge).iter().map(u64::to_string));
         text += &words.join(" ");
@@ -78,20 +83,23 @@ pub fn written(measure: u64, table: &Table) -> Vec<u8> {
 
 /// The same hyperedges with no gaps between them.
 pub fn closed(table: &Table) -> Table {
-    let edge = |edge| (table.heads[edge], table.own[edge], table.tail(edge));
-    let edges: Vec<(u64, u64, &[u64])> = (0..table.edges()).map(edge).collect();
-    Table::of(table.n, &edges)
+    let mut closed = Table::new(table.n);
+    for edge in 0..table.edges() {
+        let (own, mark) = (table.own[edge], table.strikes[edge]);
+        closed.push_marked(table.heads[edge], own, mark, table.tail(edge));
+    }
+    closed
 }
 
-/// Places that a table without gaps takes in heads, own weights, spans and tails.
-pub fn places(table: &Table) -> [usize; 4] {
+/// Places that a table without gaps takes in heads, own weights, strikes, spans and tails.
+pub fn places(table: &Table) -> [usize; 5] {
     let edges = table.edges();
-    [edges, edges, 2 * edges, table.tails.len()]
+    [edges, edges, edges, 2 * edges, table.tails.len()]
 }
 
 /// What reading must return.
 pub fn read_result(parsed: &Parsed, room: &Table) -> u64 {
-    let lent = [&room.heads, &room.own, &room.spans, &room.tails].map(|column| column.len());
+    let lent = room.columns().map(Vec::len);
     match parsed {
         Err(line) => refusal(14, *line),
         Ok((_, table)) if places(table).iter().zip(lent).any(|(&taken, lent)| taken > lent) => {

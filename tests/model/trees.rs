@@ -145,24 +145,27 @@ fn ceiling(trial: &Trial) -> Outcome {
     })
 }
 
-/// Own weights 0, 1 and struck with every tail of up to 2 places, for both heads.
-pub fn small_edges() -> Vec<(u64, u64, Vec<u64>)> {
+/// Head, own weight, mark and tail.
+pub type Edge = (u64, u64, u64, Vec<u64>);
+
+/// Own weights 0, 1 and struck at 0 with every tail of up to 2 places, for both heads.
+pub fn small_edges() -> Vec<Edge> {
     let tails = [vec![], vec![0], vec![1], vec![0, 0], vec![0, 1], vec![1, 0], vec![1, 1]];
     let mut edges = Vec::new();
     for head in [0, 1] {
-        for own in [0, 1, STRUCK] {
-            edges.extend(tails.iter().map(|tail| (head, own, tail.clone())));
+        for (own, mark) in [(0, STANDS), (1, STANDS), (0, STRUCK)] {
+            edges.extend(tails.iter().map(|tail| (head, own, mark, tail.clone())));
         }
     }
     edges
 }
 
 /// The table of two vertices with the hyperedges that the digits of `number` name.
-pub fn small_table(kinds: &[(u64, u64, Vec<u64>)], edges: u32, mut number: usize) -> Table {
+pub fn small_table(kinds: &[Edge], edges: u32, mut number: usize) -> Table {
     let mut table = Table::new(2);
     for _ in 0..edges {
-        let (head, own, tail) = &kinds[number % kinds.len()];
-        table.push(*head, *own, tail);
+        let (head, own, mark, tail) = &kinds[number % kinds.len()];
+        table.push_marked(*head, *own, *mark, tail);
         number /= kinds.len();
     }
     table

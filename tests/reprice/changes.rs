@@ -1,6 +1,6 @@
 //! One change of a call: what it must return and leave, and the making of calls and changes.
 
-use crate::calls::{reprice, strike, Changed};
+use crate::calls::{reprice, restore, strike, Changed};
 use crate::model::solver::{change_result, changed};
 use crate::model::*;
 use crate::random::Rng;
@@ -17,6 +17,7 @@ pub fn returns(call: &Call, change: Change, wanted: u64) -> Result<Changed, Stri
         let left = match change {
             Change::Reprice(edge, own) => reprice(*measure, table, answers, edge, own),
             Change::Strike(edge) => strike(*measure, table, answers, edge),
+            Change::Restore(edge) => restore(*measure, table, answers, edge),
         }?;
         expect("the change", left.result, wanted)?;
         let then = (wanted == 0).then(|| Call::solved(*measure, changed(table, change)));
@@ -33,6 +34,9 @@ pub fn leaves(left: &Changed, wanted: &Call) -> Verdict {
     if left.own != wanted.table.own {
         return Err(format!("own weights {:?}, wanted {:?}", left.own, wanted.table.own));
     }
+    if left.strikes != wanted.table.strikes {
+        return Err(format!("strikes {:?}, wanted {:?}", left.strikes, wanted.table.strikes));
+    }
     same("the answers left", &left.answers, &wanted.answers)
 }
 
@@ -47,7 +51,7 @@ pub fn as_solver_says(call: &Call, change: Change) -> Result<Changed, String> {
 
 /// The columns as the call leaves them, for the next one.
 pub fn after(call: &Call, left: Changed) -> Call {
-    let table = Table { own: left.own, ..call.table.clone() };
+    let table = Table { own: left.own, strikes: left.strikes, ..call.table.clone() };
     Call { measure: call.measure, table, answers: left.answers }
 }
 
@@ -83,11 +87,22 @@ pub fn new_own(rng: &mut Rng, old: u64) -> u64 {
     }
 }
 
-/// A change of a live hyperedge, which is accepted; of hyperedge 0 if there is none.
+/// A struck hyperedge; none if all are live.
+pub fn struck_edge(rng: &mut Rng, table: &Table) -> Option<u64> {
+    let struck = (0..table.edges()).filter(|&edge| !table.is_live(edge));
+    let struck: Vec<u64> = struck.map(|edge| edge as u64).collect();
+    (!struck.is_empty()).then(|| rng.pick(&struck))
+}
+
+/// A change that is accepted: of a live hyperedge, or a struck one restored. Of hyperedge 0 if there
+/// is none at all.
 pub fn any_change(rng: &mut Rng, call: &Call) -> Change {
-    let edge = match live_edge(rng, call) {
-        Some(edge) => edge,
-        None => return Change::Strike(0),
+    let (live, struck) = (live_edge(rng, call), struck_edge(rng, &call.table));
+    let edge = match (live, struck) {
+        (Some(_), Some(edge)) if rng.chance(25) => return Change::Restore(edge),
+        (Some(edge), _) => edge,
+        (None, Some(edge)) => return Change::Restore(edge),
+        (None, None) => return Change::Strike(0),
     };
     let old = call.table.own[edge as usize];
     if rng.chance(35) {

@@ -1,5 +1,5 @@
-//! Repricing and striking in accepted tables: one own weight changes in its place, and the answers
-//! become those of the table as it then is.
+//! Repricing, striking and restoring in accepted tables: one own weight or one mark changes in its
+//! place, and the answers become those of the table as it then is.
 
 pub mod changes;
 pub mod counting;
@@ -14,7 +14,7 @@ use crate::reprice::changes::*;
 use crate::settle::{large, same, short_or_long_chain as chain};
 use crate::tables;
 use crate::tables::damage::Call;
-use crate::tables::examples::{changes, p1};
+use crate::tables::examples::{changes, p1, p10};
 use crate::tables::limits::limits;
 use crate::trial::{expect, Outcome, Test, Trial, Verdict};
 
@@ -28,6 +28,8 @@ pub const TESTS: &[Test] = &[
     Test { name: "repricing/up-and-back", run: up_and_back },
     Test { name: "repricing/same-weight", run: same_weight },
     Test { name: "repricing/least-and-greatest", run: least_and_greatest },
+    Test { name: "repricing/strike-and-restore", run: strike_and_restore },
+    Test { name: "repricing/kept-figure", run: kept_figure },
     Test { name: "repricing/all-struck", run: all_struck },
     Test { name: "repricing/all-of-two-vertices", run: all_small },
 ];
@@ -45,16 +47,24 @@ fn stated(_: &Trial) -> Outcome {
             .and_then(|left| leaves(&left, &wanted))
             .map_err(|wrong| format!("{}: {wrong}", then.name))?;
     }
-    Ok(cases.len() as u64)
+    let last = p10();
+    let struck =
+        Call { measure: last.measure, table: last.table, answers: Labelling::of(&last.labels) };
+    accepted(&struck, Change::Restore(0))
+        .and_then(|left| leaves(&left, &call))
+        .map_err(|wrong| format!("P10 taken back: {wrong}"))?;
+    Ok(cases.len() as u64 + 1)
 }
 
-/// Changes one after another, each with the columns that the one before left. A few name a struck
+/// Changes one after another, each with the columns that the one before left. A few name any
 /// hyperedge, or none.
 fn in_turn(rng: &mut Rng, mut call: Call, changes: u64) -> Verdict {
     for _ in 0..changes {
         let mut change = any_change(rng, &call);
-        if rng.chance(5) {
-            change = Change::Reprice(rng.below(2 + call.table.edges() as u64), 7);
+        if rng.chance(8) {
+            let edge = rng.below(2 + call.table.edges() as u64);
+            let any = [Change::Reprice(edge, 7), Change::Strike(edge), Change::Restore(edge)];
+            change = rng.pick(&any);
         }
         let left = as_solver_says(&call, change)?;
         call = after(&call, left);
@@ -135,14 +145,58 @@ fn least_and_greatest(trial: &Trial) -> Outcome {
     })
 }
 
-/// All live hyperedges struck in any order: in the end nothing is made and nothing can be changed.
+/// Each hyperedge struck and restored, or restored and struck again: all columns are as they were at
+/// first, byte for byte.
+fn strike_and_restore(trial: &Trial) -> Outcome {
+    trial.cases(trial.count, |rng| {
+        let measure = rng.pick(&MEASURES);
+        let first = Call::solved(measure, tables::any(rng));
+        for edge in 0..first.table.edges() as u64 {
+            let (there, back) = match first.table.is_live(edge as usize) {
+                true => (Change::Strike(edge), Change::Restore(edge)),
+                false => (Change::Restore(edge), Change::Strike(edge)),
+            };
+            let then = after(&first, accepted(&first, there)?);
+            leaves(&accepted(&then, back)?, &first).map_err(|wrong| format!("back: {wrong}"))?;
+        }
+        Ok(())
+    })
+}
+
+/// A hyperedge is struck, others change, and it is restored: at its own weight, which nothing has
+/// touched, in the table as it then is. Meanwhile it can't be repriced.
+fn kept_figure(trial: &Trial) -> Outcome {
+    trial.cases(4 * trial.count, |rng| {
+        let measure = rng.pick(&MEASURES);
+        let first = priced(rng, measure, tables::any);
+        let edge = live_edge(rng, &first).ok_or("no live hyperedge")?;
+        let kept = first.table.own[edge as usize];
+        let mut call = after(&first, accepted(&first, Change::Strike(edge))?);
+        for _ in 0..rng.below(6) {
+            returns(&call, Change::Reprice(edge, new_own(rng, kept)), refusal(9, 0))?;
+            let change = any_change(rng, &call);
+            if change.edge() != edge {
+                call = after(&call, accepted(&call, change)?);
+            }
+        }
+        let left = accepted(&call, Change::Restore(edge))?;
+        expect("the own weight", left.own[edge as usize], kept)?;
+        call.table.strikes[edge as usize] = STANDS;
+        leaves(&left, &Call::solved(measure, call.table))
+    })
+}
+
+/// All live hyperedges struck in any order: in the end nothing is made, and no change but a restoring
+/// is accepted. Restored in any order, they give the answers of before.
 fn all_struck(trial: &Trial) -> Outcome {
     trial.cases(trial.count / 8, |rng| {
         let measure = rng.pick(&MEASURES);
-        let mut call = priced(rng, measure, tables::any);
+        let first = priced(rng, measure, tables::any);
+        let (mut call, mut struck) = (first.clone(), Vec::new());
         while let Some(edge) = live_edge(rng, &call) {
             let left = accepted(&call, Change::Strike(edge))?;
-            expect("the own weight", left.own[edge as usize], STRUCK)?;
+            expect("the mark", left.strikes[edge as usize], STRUCK)?;
+            struck.push(edge);
             call = after(&call, left);
         }
         same("with all struck", &call.answers, &Labelling::unmade(call.table.n))?;
@@ -150,7 +204,14 @@ fn all_struck(trial: &Trial) -> Outcome {
             returns(&call, Change::Strike(edge), refusal(9, 0))?;
             returns(&call, Change::Reprice(edge, new_own(rng, 0)), refusal(9, 0))?;
         }
-        Ok(())
+        rng.shuffle(&mut struck);
+        for edge in struck {
+            call = after(&call, accepted(&call, Change::Restore(edge))?);
+        }
+        if call.table != first.table {
+            return Err("with all restored, another table".to_string());
+        }
+        same("with all restored", &call.answers, &first.answers)
     })
 }
 
@@ -164,6 +225,7 @@ fn all_small(_: &Trial) -> Outcome {
                 let call = Call::solved(measure, small_table(&kinds, edges, number));
                 for edge in 0..=u64::from(edges) {
                     as_solver_says(&call, Change::Strike(edge))?;
+                    as_solver_says(&call, Change::Restore(edge))?;
                     for own in 0..3 {
                         as_solver_says(&call, Change::Reprice(edge, own))?;
                     }

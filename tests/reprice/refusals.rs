@@ -1,7 +1,7 @@
 //! Changes that are turned away: number and place, the order among several faults, and that nothing
 //! lent is altered, which the wrappers see to.
 
-use crate::model::solver::{change_result, refusal};
+use crate::model::solver::{change_result, refusal, solve};
 use crate::model::*;
 use crate::random::Rng;
 use crate::reprice::changes::*;
@@ -20,6 +20,7 @@ pub const TESTS: &[Test] = &[
     Test { name: "repricing-refusals/many", run: many },
     Test { name: "repricing-refusals/limits", run: at_the_limits },
     Test { name: "repricing-refusals/hyperedges", run: hyperedges },
+    Test { name: "repricing-refusals/not-struck", run: not_struck },
     Test { name: "repricing-refusals/own-weights", run: own_weights },
     Test { name: "repricing-refusals/one-word", run: one_word },
     Test { name: "repricing-refusals/noise", run: noise },
@@ -41,10 +42,15 @@ fn stated(_: &Trial) -> Outcome {
     let call = Call::solved(COST, worked());
     let mut off = call.clone();
     off.answers.weights[3] += 1;
-    let no_line = [Change::Reprice(6, 500), Change::Strike(6)];
-    let mut cases = vec![(call.clone(), Change::Reprice(1, STRUCK), refusal(10, 0))];
+    let no_line = [Change::Reprice(6, 500), Change::Strike(6), Change::Restore(6)];
+    let mut cases = vec![
+        (call.clone(), Change::Reprice(1, GREATEST + 1), refusal(10, 0)),
+        (call.clone(), Change::Restore(0), refusal(20, 0)),
+        (off.clone(), Change::Restore(0), refusal(20, 0)),
+    ];
     cases.extend(no_line.map(|change| (call.clone(), change, refusal(9, 0))));
-    for change in [Change::Reprice(1, 500), Change::Strike(0)] {
+    off.table.strikes[5] = STRUCK;
+    for change in [Change::Reprice(1, 500), Change::Strike(0), Change::Restore(5)] {
         cases.push((off.clone(), change, refusal(8, 0)));
         let others = small_examples().into_iter();
         cases.extend(others.map(|(call, number, place)| (call, change, refusal(number, place))));
@@ -110,9 +116,15 @@ fn at_the_limits(_: &Trial) -> Outcome {
         for measure in MEASURES {
             let call = Call::solved(measure, sound.clone());
             let next = Call { table: turned_away.clone(), ..call.clone() };
-            for change in [Change::Reprice(0, 3), Change::Strike(0)] {
-                let none = sound.edges() == 0 || !sound.is_live(0);
-                returns(&call, change, if none { refusal(9, 0) } else { 0 })?;
+            let live = (sound.edges() > 0).then(|| sound.is_live(0));
+            for change in [Change::Reprice(0, 3), Change::Strike(0), Change::Restore(0)] {
+                let wanted = match (live, change) {
+                    (Some(true), Change::Restore(_)) => refusal(20, 0),
+                    (Some(false), Change::Restore(_)) => 0,
+                    (Some(true), _) => 0,
+                    _ => refusal(9, 0),
+                };
+                returns(&call, change, wanted)?;
                 returns(&next, change, refusal(*number, 0))?;
             }
         }
@@ -120,14 +132,40 @@ fn at_the_limits(_: &Trial) -> Outcome {
     Ok(steps.len() as u64)
 }
 
+/// A table in which half of the hyperedges are struck; its answers are at times anything.
+fn with_strikes(rng: &mut Rng) -> Call {
+    let table = tables::random(rng, &tables::STRIKES);
+    let mut call = Call::solved(rng.pick(&MEASURES), table);
+    if rng.chance(30) {
+        call.answers = rng.labelling(call.answers.lengths());
+    }
+    call
+}
+
+/// Restoring: 9 for hyperedges that do not exist, 20 for those that stand, whatever the answers are.
+fn not_struck(trial: &Trial) -> Outcome {
+    trial.cases(trial.count / 4, |rng| {
+        let call = with_strikes(rng);
+        for edge in outside(call.table.edges() as u64) {
+            returns(&call, Change::Restore(edge), refusal(9, 0))?;
+        }
+        let right = call.answers == solve(call.measure, &call.table);
+        for edge in 0..call.table.edges() {
+            let wanted = match (call.table.is_live(edge), right) {
+                (true, _) => refusal(20, 0),
+                (false, true) => 0,
+                (false, false) => refusal(8, 0),
+            };
+            returns(&call, Change::Restore(edge as u64), wanted)?;
+        }
+        Ok(())
+    })
+}
+
 /// Hyperedges that do not exist or are struck, whatever the new own weight and the answers are.
 fn hyperedges(trial: &Trial) -> Outcome {
     trial.cases(trial.count / 4, |rng| {
-        let table = tables::random(rng, &tables::STRIKES);
-        let mut call = Call::solved(rng.pick(&MEASURES), table);
-        if rng.chance(30) {
-            call.answers = rng.labelling(call.answers.lengths());
-        }
+        let call = with_strikes(rng);
         let table = &call.table;
         let struck = (0..table.edges()).filter(|&edge| !table.is_live(edge));
         let struck: Vec<u64> = struck.map(|edge| edge as u64).collect();
@@ -139,7 +177,7 @@ fn hyperedges(trial: &Trial) -> Outcome {
     })
 }
 
-/// Own weights above the greatest, whatever the answers are; struck is not reached by repricing.
+/// Own weights above the greatest, whatever the answers are.
 fn own_weights(trial: &Trial) -> Outcome {
     trial.cases(trial.count / 4, |rng| {
         let measure = rng.pick(&MEASURES);
@@ -149,7 +187,7 @@ fn own_weights(trial: &Trial) -> Outcome {
         if rng.chance(30) {
             call.answers = rng.labelling(call.answers.lengths());
         }
-        for own in [TOO_GREAT.to_vec(), vec![rng.between(STRUCK, u64::MAX - 1)]].concat() {
+        for own in [TOO_GREAT.to_vec(), vec![rng.between(GREATEST + 1, u64::MAX - 1)]].concat() {
             returns(&call, Change::Reprice(edge, own), refusal(10, 0))?;
         }
         Ok(())
@@ -160,7 +198,7 @@ fn any_wish(rng: &mut Rng, call: &Call) -> Change {
     let edges = call.table.edges() as u64;
     let edge = if rng.chance(90) { rng.below(edges + 1) } else { rng.any() };
     let own = if rng.chance(80) { tables::any_own(rng) } else { rng.any() };
-    rng.pick(&[Change::Reprice(edge, own), Change::Strike(edge)])
+    rng.pick(&[Change::Reprice(edge, own), Change::Strike(edge), Change::Restore(edge)])
 }
 
 /// One word or one length of the columns changed to anything; it may still be accepted.

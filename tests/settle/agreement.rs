@@ -1,7 +1,7 @@
 //! The calls of `libcounter.a` beside the library's own calls from the other archive: the same
 //! refusal where both refuse, and answers that the library's check accepts where a call is accepted.
 
-use crate::calls::{bill, check_answers, reprice, settle, strike};
+use crate::calls::{bill, check_answers, reprice, restore, settle, strike};
 use crate::model::solver::solve;
 use crate::model::*;
 use crate::random::Rng;
@@ -48,6 +48,20 @@ fn repricing(call: &Call, edge: u64, own: u64) -> Verdict {
     expect(
         "check_answers of what reprice left",
         check_answers(call.measure, &table, &changed.answers)?,
+        YES,
+    )?;
+    let table = Table { strikes: struck.strikes, ..call.table.clone() };
+    expect(
+        "check_answers of what strike left",
+        check_answers(call.measure, &table, &struck.answers)?,
+        YES,
+    )?;
+    let restored = restore(call.measure, &table, &struck.answers, edge)?;
+    expect("restore behind strike", restored.result, 0)?;
+    let table = Table { strikes: restored.strikes, ..call.table.clone() };
+    expect(
+        "check_answers of what restore left",
+        check_answers(call.measure, &table, &restored.answers)?,
         YES,
     )
 }

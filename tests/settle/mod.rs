@@ -28,6 +28,7 @@ pub const TESTS: &[Test] = &[
     Test { name: "settle/large", run: |trial| made(trial, trial.count / 50, large) },
     Test { name: "settle/limits", run: at_the_limits },
     Test { name: "settle/gaps-unread", run: gaps_unread },
+    Test { name: "settle/struck-idle", run: struck_idle },
 ];
 
 /// Holds if the library agrees with `wanted`: the table is accepted and settled to it over any
@@ -130,13 +131,27 @@ fn gaps_unread(trial: &Trial) -> Outcome {
         let mut refilled = Table::new(table.n);
         for edge in 0..table.edges() {
             let (head, own, tail) = (table.heads[edge], table.own[edge], table.tail(edge));
-            closed.push(head, own, tail);
-            refilled.push_after(&tables::gap(rng, 90), head, own, tail);
+            let mark = table.strikes[edge];
+            closed.push_marked(head, own, mark, tail);
+            refilled.push_after(&tables::gap(rng, 90), head, own, mark, tail);
         }
         let measure = rng.pick(&MEASURES);
         let wanted = solve(measure, &closed);
         settles_to(measure, &closed, &wanted, rng)?;
         settles_to(measure, &table, &wanted, rng)?;
         settles_to(measure, &refilled, &wanted, rng)
+    })
+}
+
+/// The answers do not depend on the own weights of struck hyperedges.
+fn struck_idle(trial: &Trial) -> Outcome {
+    trial.cases(trial.count, |rng| {
+        let mut table = tables::random(rng, &tables::STRIKES);
+        let measure = rng.pick(&MEASURES);
+        let wanted = solve(measure, &table);
+        for edge in (0..table.edges()).filter(|&edge| table.strikes[edge] == STRUCK) {
+            table.own[edge] = rng.pick(&[0, 1, GREATEST]);
+        }
+        settles_to(measure, &table, &wanted, rng)
     })
 }

@@ -18,6 +18,7 @@ pub const TESTS: &[Test] = &[
     Test { name: "refusals/pairs", run: pairs },
     Test { name: "refusals/many", run: many },
     Test { name: "refusals/struck", run: struck },
+    Test { name: "refusals/marks", run: marks },
     Test { name: "refusals/limits", run: at_the_limits },
     Test { name: "refusals/answer-lengths", run: answer_lengths },
     Test { name: "refusals/one-word", run: one_word },
@@ -72,11 +73,14 @@ pub fn small_examples() -> Vec<(Call, u64, u64)> {
         edit(&mut call);
         call
     };
-    let cases: [(Edit, u64, u64); 8] = [
+    let cases: [(Edit, u64, u64); 11] = [
         (&|call| call.table.n = 1_025, 1, 0),
         (&|call| call.table = Table { heads: vec![0, 1], own: vec![1], ..Table::new(5) }, 2, 0),
+        (&|call| call.table.strikes.truncate(5), 2, 0),
         (&|call| call.table.heads[3] = 5, 3, 3),
         (&|call| call.table.own[2] = 1_000_000_002, 4, 2),
+        (&|call| call.table.own[2] = 1_000_000_001, 4, 2),
+        (&|call| call.table.strikes[1] = 2, 21, 1),
         (&|call| call.table.spans[..4].copy_from_slice(&[0, 2, 1, 1]), 5, 1),
         (&|call| call.table.tails[4] = 9, 6, 4),
         (&|call| call.answers.depths.truncate(4), 7, 0),
@@ -90,7 +94,7 @@ fn stated(trial: &Trial) -> Outcome {
     let cases = small_examples();
     for (call, number, place) in &cases {
         let of_call = refusal(*number, *place);
-        let of_table = if *number < 7 { of_call } else { 0 };
+        let of_table = if [7, 16].contains(number) { 0 } else { of_call };
         returns(call, of_table, of_call, &mut rng)?;
     }
     Ok(cases.len() as u64)
@@ -135,18 +139,53 @@ fn many(trial: &Trial) -> Outcome {
     })
 }
 
-/// A struck hyperedge is held to 3, 5 and 6 like any other.
+/// A struck hyperedge is held to 3, 4, 21, 5 and 6 like any other.
 fn struck(trial: &Trial) -> Outcome {
     let faults = faults();
     let mut rng = trial.rng();
     let mut call = sound(&mut rng);
-    call.table.own.fill(STRUCK);
+    call.table.strikes.fill(STRUCK);
     call.answers = Labelling::unmade(call.table.n);
     returns(&call, 0, 0, &mut rng)?;
     for fault in &faults {
         refused(&call, &[*fault], &mut rng)?;
     }
     Ok(faults.len() as u64)
+}
+
+/// A mark that is none at any hyperedge, with a fault of 3, 4 or 5 in the same one or in an earlier
+/// one: 3 and 4 come before it, 5 behind it, and an earlier hyperedge before all.
+fn marks(trial: &Trial) -> Outcome {
+    trial.cases(trial.count / 20, |rng| {
+        let sound = Call::solved(rng.pick(&MEASURES), tables::any(rng));
+        for edge in 0..sound.table.edges() {
+            for mark in [2, u64::MAX] {
+                let mut call = sound.clone();
+                call.table.strikes[edge] = mark;
+                let wanted = refusal(21, edge as u64);
+                returns(&call, wanted, wanted, rng)?;
+                for (number, place) in [3, 4, 5].map(|number| (number, rng.index(edge + 1))) {
+                    for place in [edge, place] {
+                        let first = if place == edge && number == 5 { 21 } else { number };
+                        let wanted = refusal(first, place as u64);
+                        returns(&with_fault(&call, number, place), wanted, wanted, rng)?;
+                    }
+                }
+            }
+        }
+        Ok(())
+    })
+}
+
+/// A fault of one hyperedge: another head, own weight or span.
+fn with_fault(call: &Call, number: u64, edge: usize) -> Call {
+    let mut call = call.clone();
+    match number {
+        3 => call.table.heads[edge] = call.table.n,
+        4 => call.table.own[edge] = GREATEST + 1,
+        _ => call.table.spans[2 * edge + 1] = 17,
+    }
+    call
 }
 
 fn at_the_limits(trial: &Trial) -> Outcome {
@@ -187,10 +226,10 @@ fn answer_lengths(trial: &Trial) -> Outcome {
 pub fn with_one_word(rng: &mut Rng) -> Call {
     let table = tables::any(rng);
     let mut call = Call::solved(rng.pick(&MEASURES), table);
-    let Table { n, heads, own, spans, tails } = &mut call.table;
+    let Table { n, heads, own, strikes, spans, tails } = &mut call.table;
     let [weights, depths, edges] = call.answers.columns_mut();
-    let columns = [heads, own, spans, tails, weights, depths, edges];
-    let column = rng.index(9);
+    let columns = [heads, own, strikes, spans, tails, weights, depths, edges];
+    let column = rng.index(10);
     match columns.into_iter().nth(column) {
         Some(words) if !words.is_empty() && rng.chance(80) => {
             let place = rng.index(words.len());
@@ -198,7 +237,7 @@ pub fn with_one_word(rng: &mut Rng) -> Call {
         }
         Some(words) if rng.chance(50) => words.truncate(words.len().saturating_sub(1)),
         Some(words) => words.push(rng.any()),
-        None if column == 7 => *n = rng.any(),
+        None if column == 8 => *n = rng.any(),
         None => call.measure = rng.any(),
     }
     call
@@ -218,6 +257,7 @@ pub fn of_noise(rng: &mut Rng) -> Call {
         n: rng.below(6),
         heads: (0..edges).map(|_| rng.below(6)).collect(),
         own: rng.noise(edges),
+        strikes: (0..edges).map(|_| rng.pick(&[0, 0, 1, 1, 2])).collect(),
         spans: (0..2 * edges).map(|_| rng.below(5)).collect(),
         tails: (0..rng.below(8)).map(|_| rng.below(6)).collect(),
     };

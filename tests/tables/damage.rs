@@ -29,6 +29,7 @@ pub enum Fault {
     Columns(usize),
     Head(usize, u64),
     Own(usize, u64),
+    Mark(usize, u64),
     /// A hyperedge, and one of the ways of `SPAN_WAYS`.
     Span(usize, usize),
     /// A hyperedge, a place in its tail, and the vertex to stand there.
@@ -37,7 +38,7 @@ pub enum Fault {
     Answers(usize, usize),
 }
 
-const COLUMN_WAYS: usize = 17;
+const COLUMN_WAYS: usize = 21;
 const SPAN_WAYS: usize = 15;
 const ANSWER_WAYS: usize = 4;
 
@@ -54,10 +55,10 @@ pub fn sound(rng: &mut Rng) -> Call {
         let length = 2 + rng.index(3);
         let tail: Vec<u64> = (0..length).map(|_| rng.below(N)).collect();
         let gap = rng.noise(2);
-        table.push_after(&gap, rng.below(N), rng.below(50), &tail);
+        table.push_after(&gap, rng.below(N), rng.below(50), STANDS, &tail);
     }
     // Empty, but the next span must not start before it.
-    table.push_after(&[1, 2], 0, 7, &[]);
+    table.push_after(&[1, 2], 0, 7, STANDS, &[]);
     table.push(1, GREATEST, &[]);
     table.tails.extend((0..20).map(|_| rng.below(N)));
     Call::solved(rng.pick(&MEASURES), table)
@@ -66,7 +67,7 @@ pub fn sound(rng: &mut Rng) -> Call {
 /// Every fault that is tried.
 pub fn faults() -> Vec<Fault> {
     let outside = [N, N + 1, 1 << 32, (1 << 32) + 1, 1 << 63, u64::MAX];
-    let above = [STRUCK + 1, 1 << 32, (1 << 32) + 1, 1 << 63, u64::MAX];
+    let above = [GREATEST + 1, GREATEST + 2, 1 << 32, (1 << 32) + 1, 1 << 63, u64::MAX];
     let mut all = Vec::new();
     all.extend([2, 3, 1 << 32, (1 << 32) + 1, 1 << 63, u64::MAX].map(Fault::Measure));
     all.extend([1_025, 1_026, 1 << 32, (1 << 32) + N, 1 << 63, u64::MAX].map(Fault::Vertices));
@@ -81,6 +82,8 @@ pub fn faults() -> Vec<Fault> {
         let ways = if edge == 0 { SPAN_WAYS - 3 } else { SPAN_WAYS };
         all.extend((0..ways).map(|way| Fault::Span(edge, way)));
     }
+    all.extend((0..=LAST).flat_map(|edge| [2, u64::MAX].map(|mark| Fault::Mark(edge, mark))));
+    all.extend([GREATEST + 1, 1 << 32, (1 << 32) + 1, 1 << 63].map(|mark| Fault::Mark(1, mark)));
     all.extend([Fault::Head(LAST, N), Fault::Own(LAST, u64::MAX)]);
     all.extend((0..SPAN_WAYS).map(|way| Fault::Span(LAST, way)));
     for column in 0..4 {
@@ -89,18 +92,42 @@ pub fn faults() -> Vec<Fault> {
     all
 }
 
+/// Where in the order a fault is found, and what is then returned.
+#[derive(Clone, Copy, PartialEq, Eq, PartialOrd, Ord)]
+pub struct Rank {
+    stage: u64,
+    place: u64,
+    step: u64,
+    number: u64,
+}
+
+impl Rank {
+    /// A stage that is not of a hyperedge.
+    pub fn at(stage: u64, number: u64) -> Rank {
+        Rank { stage, place: 0, step: 0, number }
+    }
+
+    /// What is returned of several.
+    pub fn reported(ranks: impl Iterator<Item = Rank>) -> u64 {
+        ranks.min().map_or(0, |first| refusal(first.number, first.place))
+    }
+}
+
 impl Fault {
-    /// The lowest is reported: 16, 1, 2, then hyperedge by hyperedge 3 to 6, then 7.
-    pub fn rank(&self) -> (u64, u64, u64) {
+    /// The lowest is reported: 16, 1, 2, then hyperedge by hyperedge 3, 4, 21, 5 and 6, then 7.
+    pub fn rank(&self) -> Rank {
+        let of_edge =
+            |edge: usize, step, number| Rank { stage: 3, place: edge as u64, step, number };
         match *self {
-            Fault::Measure(_) => (0, 0, 16),
-            Fault::Vertices(_) => (1, 0, 1),
-            Fault::Columns(_) => (2, 0, 2),
-            Fault::Head(edge, _) => (3, edge as u64, 3),
-            Fault::Own(edge, _) => (3, edge as u64, 4),
-            Fault::Span(edge, _) => (3, edge as u64, 5),
-            Fault::Tail(edge, _, _) => (3, edge as u64, 6),
-            Fault::Answers(_, _) => (4, 0, 7),
+            Fault::Measure(_) => Rank::at(0, 16),
+            Fault::Vertices(_) => Rank::at(1, 1),
+            Fault::Columns(_) => Rank::at(2, 2),
+            Fault::Head(edge, _) => of_edge(edge, 0, 3),
+            Fault::Own(edge, _) => of_edge(edge, 1, 4),
+            Fault::Mark(edge, _) => of_edge(edge, 2, 21),
+            Fault::Span(edge, _) => of_edge(edge, 3, 5),
+            Fault::Tail(edge, _, _) => of_edge(edge, 4, 6),
+            Fault::Answers(_, _) => Rank::at(4, 7),
         }
     }
 
@@ -115,6 +142,7 @@ impl Fault {
             Fault::Columns(way) => damage_columns(&mut call.table, way),
             Fault::Head(edge, value) => call.table.heads[edge] = value,
             Fault::Own(edge, value) => call.table.own[edge] = value,
+            Fault::Mark(edge, value) => call.table.strikes[edge] = value,
             Fault::Span(edge, way) => damage_span(&mut call.table, edge, way),
             Fault::Tail(edge, place, value) => {
                 let offset = call.table.spans[2 * edge] as usize;
@@ -142,8 +170,7 @@ pub fn damaged(call: &Call, faults: &[Fault]) -> Call {
 
 /// What a call returns that looks for the given faults; 0 if there are none.
 pub fn reported<'a>(faults: impl Iterator<Item = &'a Fault>) -> u64 {
-    let first = faults.map(Fault::rank).min();
-    first.map_or(0, |(_, place, number)| refusal(number, place))
+    Rank::reported(faults.map(Fault::rank))
 }
 
 fn damage_columns(table: &mut Table, way: usize) {
@@ -165,6 +192,10 @@ fn damage_columns(table: &mut Table, way: usize) {
         13 => fill_edges(table, MOST_EDGES + 1),
         14 => fill_edges(table, 2 * MOST_EDGES),
         15 => table.tails.resize(MOST_TAILS + 1, 0),
+        16 => table.strikes.push(STANDS),
+        17 => table.strikes.truncate(edges - 1),
+        18 => table.strikes.clear(),
+        19 => table.strikes.extend(vec![STRUCK; edges]),
         _ => table.tails.resize(3 * MOST_TAILS, 0),
     }
 }

@@ -21,10 +21,16 @@ pub fn worked() -> Table {
     Table::of(5, &edges)
 }
 
-/// The worked table with another own weight, as a change of that hyperedge leaves it.
+/// The worked table as a change of a hyperedge leaves it: with another own weight, or struck.
 fn worked_with(edge: usize, own: u64) -> Table {
     let mut table = worked();
     table.own[edge] = own;
+    table
+}
+
+fn worked_without(edge: usize) -> Table {
+    let mut table = worked();
+    table.strikes[edge] = STRUCK;
     table
 }
 
@@ -57,9 +63,9 @@ fn p3() -> Example {
     example("P3, settled anew", COST, worked_with(1, 500), &labels)
 }
 
-fn p10() -> Example {
+pub fn p10() -> Example {
     let labels = [NONE, ONE, (2_100, 1, 3), (2_700, 2, 4), NONE];
-    example("P10, settled anew", COST, worked_with(0, STRUCK), &labels)
+    example("P10, settled anew", COST, worked_without(0), &labels)
 }
 
 /// What is asked of the worked table, and what it is then.

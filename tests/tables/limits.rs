@@ -47,14 +47,14 @@ fn last_span(rng: &mut Rng) -> Table {
     let mut table = Table::new(MOST_VERTICES);
     table.push(0, 7, &[]);
     let gap = rng.noise(MOST_TAILS - LONGEST_TAIL);
-    table.push_after(&gap, MOST_VERTICES - 1, GREATEST, &[0; LONGEST_TAIL]);
+    table.push_after(&gap, MOST_VERTICES - 1, GREATEST, STANDS, &[0; LONGEST_TAIL]);
     table
 }
 
 fn empty_spans(rng: &mut Rng) -> Table {
     let mut table = Table::new(3);
     let gap = rng.noise(MOST_TAILS);
-    table.push_after(&gap, 0, 7, &[]);
+    table.push_after(&gap, 0, 7, STANDS, &[]);
     table.push(1, 6, &[]);
     table.push(2, 0, &[]);
     table
@@ -75,8 +75,8 @@ fn full(rng: &mut Rng, deep: u64) -> Table {
         let wished = if rng.chance(30) { 0 } else { rng.index(LONGEST_TAIL + 1) };
         let length = wished.max(least).min(left);
         let tail: Vec<u64> = (0..length).map(|_| rng.below(MOST_VERTICES)).collect();
-        let own = if rng.chance(5) { STRUCK } else { rng.below(5_000) };
-        table.push(rng.below(MOST_VERTICES), own, &tail);
+        let mark = if rng.chance(5) { STRUCK } else { STANDS };
+        table.push_marked(rng.below(MOST_VERTICES), rng.below(5_000), mark, &tail);
     }
     table
 }
@@ -102,9 +102,14 @@ fn backwards() -> Table {
     table
 }
 
-/// A hyperedge over 3 vertices and a column of 20 places.
+/// A hyperedge over 3 vertices and a column of 20 places; it stands.
 fn single(head: u64, own: u64, span: [u64; 2]) -> Table {
-    Table { n: 3, heads: vec![head], own: vec![own], spans: span.to_vec(), tails: vec![2; 20] }
+    let [heads, own, strikes] = [head, own, STANDS].map(|place| vec![place]);
+    Table { n: 3, heads, own, strikes, spans: span.to_vec(), tails: vec![2; 20] }
+}
+
+fn marked(own: u64, mark: u64) -> Table {
+    Table { strikes: vec![mark], ..single(0, own, [0, 0]) }
 }
 
 /// The last accepted table and the first refused one, with the refusal's number; its place is 0.
@@ -112,6 +117,7 @@ pub fn steps() -> Vec<(Table, Table, u64)> {
     let many = |edges: usize| Table {
         heads: vec![0; edges],
         own: vec![1; edges],
+        strikes: vec![STANDS; edges],
         spans: vec![0; 2 * edges],
         ..Table::new(3)
     };
@@ -124,7 +130,9 @@ pub fn steps() -> Vec<(Table, Table, u64)> {
         (long(16_384), long(16_385), 2),
         (single(2, 0, [0, 0]), single(3, 0, [0, 0]), 3),
         (Table::new(0), Table { n: 0, ..source }, 3),
-        (single(0, STRUCK, [0, 0]), single(0, STRUCK + 1, [0, 0]), 4),
+        (single(0, GREATEST, [0, 0]), single(0, GREATEST + 1, [0, 0]), 4),
+        (marked(GREATEST, STRUCK), marked(GREATEST + 1, STRUCK), 4),
+        (marked(0, STRUCK), marked(0, STRUCK + 1), 21),
         (single(0, GREATEST, [4, 16]), single(0, GREATEST, [5, 16]), 5),
         (single(0, 0, [0, 16]), single(0, 0, [0, 17]), 5),
         (single(0, 0, [20, 0]), single(0, 0, [21, 0]), 5),

@@ -102,11 +102,12 @@ pub fn random(rng: &mut Rng, shape: &Shape) -> Table {
     let n = rng.between(shape.vertices.0, shape.vertices.1);
     let mut table = Table::new(n);
     for _ in 0..rng.between(shape.edges.0, shape.edges.1) {
-        let own = if rng.chance(shape.struck) { STRUCK } else { (shape.own)(rng) };
+        let mark = if rng.chance(shape.struck) { STRUCK } else { STANDS };
+        let own = (shape.own)(rng);
         let gap = gap(rng, shape.gaps);
         let tail = tail(rng, shape, n);
         let head = rng.below(n);
-        table.push_after(&gap, head, own, &tail);
+        table.push_after(&gap, head, own, mark, &tail);
     }
     // Behind the last span is a gap too.
     table.tails.extend(gap(rng, shape.gaps));
@@ -179,7 +180,7 @@ pub fn over(rng: &mut Rng) -> Table {
     rng.shuffle(&mut edges);
     let mut table = Table::new(n);
     for (head, own, tail) in edges {
-        table.push_after(&gap(rng, 10), head, own, &tail);
+        table.push_after(&gap(rng, 10), head, own, STANDS, &tail);
     }
     table
 }

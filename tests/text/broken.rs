@@ -15,6 +15,7 @@ pub const TESTS: &[Test] = &[
     Test { name: "broken/earlier-wins", run: earlier_wins },
     Test { name: "broken/end", run: ends },
     Test { name: "broken/bounds", run: bounds },
+    Test { name: "broken/struck", run: struck },
     Test { name: "broken/long-words", run: long_words },
     Test { name: "broken/tail-length", run: tail_length },
     Test { name: "broken/too-many-lines", run: too_many_lines },
@@ -73,7 +74,7 @@ fn whole(trial: &Trial) -> Outcome {
 fn first_lines(trial: &Trial) -> Outcome {
     let mut rng = trial.rng();
     for line in FIRST {
-        for behind in ["", "\n", "\n0 1\n", "\n0 1\n1 - 0\n", "\n5 5 5\n"] {
+        for behind in ["", "\n", "\n0 1\n", "\n0 1\n1 -3 0\n", "\n5 5 5\n"] {
             breaks_at(&format!("{line}{behind}"), 1, &mut rng)?;
         }
     }
@@ -142,15 +143,47 @@ fn bounds(trial: &Trial) -> Outcome {
         let above = [n, n + 1, 10 * n, n + (1 << 32)];
         for vertex in above {
             breaks_at(&format!("parts {n}\n{vertex} 0\n"), 2, &mut rng)?;
-            breaks_at(&format!("parts {n}\n0 - {}\n0 0 {vertex}\n", n - 1), 3, &mut rng)?;
+            breaks_at(&format!("parts {n}\n0 -7 {}\n0 0 {vertex}\n", n - 1), 3, &mut rng)?;
         }
         breaks_at(&format!("parts {n}\n{} 0 {}\n", n - 1, n - 1), 0, &mut rng)?;
         breaks_at(&format!("parts {}\n", n + MOST_VERTICES), 1, &mut rng)?;
     }
     for own in (0..2_000).map(|above| GREATEST + 1 + above) {
         breaks_at(&format!("parts 1\n0 {own}\n"), 2, &mut rng)?;
+        breaks_at(&format!("parts 1\n0 -{own}\n"), 2, &mut rng)?;
     }
     Ok(MOST_VERTICES)
+}
+
+/// The own field of a struck line, at any line: a dash and the kept figure.
+fn struck(trial: &Trial) -> Outcome {
+    let fields = [
+        ("-500", true),
+        ("-0", true),
+        ("-1000000000", true),
+        ("-", false),
+        ("- 5", false),
+        ("--5", false),
+        ("-05", false),
+        ("-1000000001", false),
+        ("1000000001", false),
+    ];
+    let mut rng = trial.rng();
+    let mut cases = 0;
+    for before in 0..5 {
+        for (field, is_permitted) in fields {
+            for listed in ["", " 4", " 0 0"] {
+                let line = format!("3 {field}{listed}");
+                let mut lines = sound(before, &mut rng);
+                lines.push(&line);
+                lines.extend(sound(2, &mut rng));
+                let place = if is_permitted { 0 } else { before as u64 + 2 };
+                breaks_at(&text_of(&lines, &mut rng), place, &mut rng)?;
+                cases += 1;
+            }
+        }
+    }
+    Ok(cases)
 }
 
 /// 64 KiB of digits or of other bytes where a number must stand.
@@ -176,7 +209,7 @@ fn long_words(trial: &Trial) -> Outcome {
 fn tail_length(trial: &Trial) -> Outcome {
     let mut cases = Vec::new();
     for length in 0..=40 {
-        for own in ["0", "1000000000", "-"] {
+        for own in ["0", "1000000000", "-0", "-1000000000"] {
             let text = format!("parts 12\n0 1\n3 {own}{}\n0 1\n", " 11".repeat(length));
             cases.push((text, if length <= LONGEST_TAIL { 0 } else { 3 }));
         }
@@ -207,9 +240,9 @@ fn too_many_listed(trial: &Trial) -> Outcome {
     let mut cases = vec![];
     for (behind, line) in [
         ("", 0),
-        ("0 0\n1 -\n", 0),
+        ("0 0\n1 -8\n", 0),
         ("0 0 1\n", 1_026),
-        ("0 - 1\n0 1\n", 1_026),
+        ("0 -8 1\n0 1\n", 1_026),
         ("0 0\n0 0\n0 0 1\n0 0\n", 1_028),
         ("0 0\n0 0 2\n", 1_027),
         ("0 0 0\n0 0 0\n2 0\n", 1_026),

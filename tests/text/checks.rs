@@ -8,9 +8,9 @@ use crate::random::Rng;
 use crate::trial::{expect, Verdict};
 
 /// Columns of these lengths in which every write shows: no number of a text has the highest bit.
-pub fn room(rng: &mut Rng, lengths: [usize; 4]) -> Table {
-    let [heads, own, spans, tails] = lengths.map(|length| foreign(rng, length));
-    Table { n: 0, heads, own, spans, tails }
+pub fn room(rng: &mut Rng, lengths: [usize; 5]) -> Table {
+    let [heads, own, strikes, spans, tails] = lengths.map(|length| foreign(rng, length));
+    Table { n: 0, heads, own, strikes, spans, tails }
 }
 
 pub fn header(rng: &mut Rng) -> Vec<u64> {
@@ -32,8 +32,8 @@ pub fn reads(text: &[u8], rng: &mut Rng) -> Verdict {
     let lines = text.iter().filter(|&&byte| byte == b'\n').count();
     let lengths = match parse(text) {
         Ok((_, table)) => places(&table).map(|taken| taken + rng.index(4)),
-        Err(_) if rng.chance(20) => [(); 4].map(|()| rng.index(lines + 1)),
-        Err(_) => [lines, lines, 2 * lines, MOST_TAILS.min(LONGEST_TAIL * lines)],
+        Err(_) if rng.chance(20) => [(); 5].map(|()| rng.index(lines + 1)),
+        Err(_) => [lines, lines, lines, 2 * lines, MOST_TAILS.min(LONGEST_TAIL * lines)],
     };
     let (room, header) = (room(rng, lengths), header(rng));
     reads_into(text, &room, &header)
@@ -52,10 +52,11 @@ pub fn reads_into(text: &[u8], room: &Table, header: &[u64]) -> Verdict {
         };
         filled("heads", &reading.columns.heads, &table.heads, &room.heads)?;
         filled("own", &reading.columns.own, &table.own, &room.own)?;
+        filled("strikes", &reading.columns.strikes, &table.strikes, &room.strikes)?;
         filled("spans", &reading.columns.spans, &table.spans, &room.spans)?;
         filled("tails", &reading.columns.tails, &table.tails, &room.tails)?;
         if header.len() == HEADER {
-            let [edges, _, _, tails] = places(&table).map(|taken| taken as u64);
+            let [edges, .., tails] = places(&table).map(|taken| taken as u64);
             filled("header", &reading.header, &[table.n, measure, edges, tails], header)?;
         }
         gives_back(measure, &table, text)

@@ -58,21 +58,29 @@ fn says(text: &[u8], measure: u64, table: &Table) -> Verdict {
 
 fn stated(trial: &Trial) -> Outcome {
     let none = Table::new;
-    let sixteen = format!("parts 7\n6 - 6{}\n", " 0".repeat(15));
+    let sixteen = format!("parts 7\n6 -0 6{}\n", " 0".repeat(15));
     let long: Vec<u64> = (0..16).map(|place| if place == 0 { 6 } else { 0 }).collect();
-    let limits = [(1, GREATEST, vec![]), (0, STRUCK, vec![]), (1, 0, vec![1, 0, 1])];
-    let struck = Table { own: vec![STRUCK, 300, 500, 2_100, 0, 10], ..worked() };
+    let edges = [(1, GREATEST, vec![]), (0, GREATEST, vec![]), (1, 0, vec![1, 0, 1])];
+    let limits = Table { strikes: vec![STANDS, STRUCK, STANDS], ..Table::of(2, &edges) };
+    let long = Table { strikes: vec![STRUCK], ..Table::of(7, &[(6, 0, long)]) };
+    let struck = |edge: usize| {
+        let mut table = worked();
+        table.strikes[edge] = STRUCK;
+        table
+    };
     let cases = [
         (WORKED.to_string(), COST, worked()),
         (WORKED.replace("parts 5", "parts 5 days"), DAYS, worked()),
-        (WORKED.replace("0 1200", "0 -"), COST, struck),
+        (WORKED.replace("0 1200", "0 -1200"), COST, struck(0)),
+        (WORKED.replace("2 500 0 1", "2 -500 0 1"), COST, struck(2)),
+        (WORKED.replace("3 0 2", "3 -0 2"), COST, struck(4)),
         ("parts 0\n".to_string(), COST, none(0)),
         ("parts 0 days\n".to_string(), DAYS, none(0)),
         ("parts 1024\n".to_string(), COST, none(1_024)),
         ("parts 1000 days\n".to_string(), DAYS, none(1_000)),
         ("parts 2\n0 0 1\n1 0 0\n".to_string(), COST, circle()),
-        ("parts 2 days\n1 1000000000\n0 -\n1 0 1 0 1\n".to_string(), DAYS, Table::of(2, &limits)),
-        (sixteen, COST, Table::of(7, &[(6, STRUCK, long)])),
+        ("parts 2 days\n1 1000000000\n0 -1000000000\n1 0 1 0 1\n".to_string(), DAYS, limits),
+        (sixteen, COST, long),
     ];
     let mut rng = trial.rng();
     for (text, measure, table) in &cases {
@@ -108,14 +116,15 @@ fn made(trial: &Trial, cases: u64, make: impl Fn(&mut Rng) -> Table) -> Outcome 
     })
 }
 
-/// Every vertex number as n, as head and in a tail, and own weights of every length.
+/// Every vertex number as n, as head and in a tail, and own weights of every length, struck and not.
 fn numbers(trial: &Trial) -> Outcome {
     let mut rng = trial.rng();
     for n in 1..=MOST_VERTICES {
         let mut table = Table::new(n);
         let power = 10u64.pow(rng.index(10) as u32);
         for own in [power - 1, power, 2 * power, power + rng.below(9 * power)] {
-            table.push(n - 1, own.min(GREATEST), &[n - 1, 0, n / 2, n - 1]);
+            let mark = rng.pick(&MARKS);
+            table.push_marked(n - 1, own.min(GREATEST), mark, &[n - 1, 0, n / 2, n - 1]);
         }
         round_trip(rng.pick(&MEASURES), &table, &mut rng)?;
     }
@@ -134,21 +143,23 @@ fn at_the_limits(trial: &Trial) -> Outcome {
     Ok(cases)
 }
 
-/// The longest text there is: all columns full, and every number of as many digits as it may have.
+/// The longest text there is: all columns full, every hyperedge struck, and every number of as many
+/// digits as it may have.
 pub fn longest_table() -> Table {
+    let last = MOST_VERTICES - 1;
     let mut table = Table::new(MOST_VERTICES);
     for _ in 0..MOST_EDGES {
-        table.push(MOST_VERTICES - 1, GREATEST, &[MOST_VERTICES - 1; MOST_TAILS / MOST_EDGES]);
+        table.push_marked(last, GREATEST, STRUCK, &[last; MOST_TAILS / MOST_EDGES]);
     }
     table
 }
 
-/// Its length is 16 in the first line, 16 in each of 4,096 others and 5 for each of 16,384 vertices.
+/// Its length is 16 in the first line, 17 in each of 4,096 others and 5 for each of 16,384 vertices.
 fn longest(trial: &Trial) -> Outcome {
     let mut rng = trial.rng();
     let table = longest_table();
     let length = written(DAYS, &table).len();
-    expect("the longest text's length", length as u64, 16 + 16 * 4_096 + 5 * 16_384)?;
+    expect("the longest text's length", length as u64, 16 + 17 * 4_096 + 5 * 16_384)?;
     for measure in MEASURES {
         round_trip(measure, &table, &mut rng)?;
     }

@@ -51,7 +51,7 @@ fn small() -> Vec<Vec<u8>> {
         WORKED,
         "parts 0\n",
         "parts 0 days\n",
-        "parts 3 days\n0 0\n2 1000000000 0 1\n1 - 2 2\n0 -\n",
+        "parts 3 days\n0 0\n2 1000000000 0 1\n1 -40 2 2\n0 -0\n0 -1000000000\n",
         "parts 1024\n1023 999999999 1023 102 0\n",
         "parts 10 days\n9 10 9\n0 100 0\n",
         &sixteen,
@@ -141,8 +141,25 @@ fn random(trial: &Trial) -> Outcome {
     tried.outcome()
 }
 
-const WORDS: &[&str] =
-    &["0", "1", "2", "3", "10", "00", "-", "1000000000", "1000000001", "parts", "days"];
+const WORDS: &[&str] = &[
+    "0",
+    "1",
+    "2",
+    "-1",
+    "3",
+    "10",
+    "00",
+    "-",
+    "-0",
+    "-00",
+    "--1",
+    "1000000000",
+    "-1000000000",
+    "1000000001",
+    "-1000000001",
+    "parts",
+    "days",
+];
 
 /// Words at random, mostly with single spaces between.
 fn of_words(trial: &Trial) -> Outcome {
@@ -151,7 +168,7 @@ fn of_words(trial: &Trial) -> Outcome {
         let mut text = rng.pick(&["parts 3\n", "parts 3 days\n", "parts 11\n"]).to_string();
         for _ in 0..rng.below(8) {
             // The first words are right more often than not, so that long texts get far.
-            let most = if rng.chance(90) { 3 } else { WORDS.len() };
+            let most = if rng.chance(90) { 4 } else { WORDS.len() };
             text += WORDS[rng.index(most)];
             text += if rng.chance(97) { rng.pick(&[" ", " ", " ", "\n"]) } else { "  " };
         }

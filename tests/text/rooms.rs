@@ -22,7 +22,7 @@ pub const TESTS: &[Test] = &[
 ];
 
 /// Reads into columns of these lengths with a result that is stated.
-fn reads_to(text: &[u8], lengths: [usize; 4], wanted: u64, rng: &mut Rng) -> Verdict {
+fn reads_to(text: &[u8], lengths: [usize; 5], wanted: u64, rng: &mut Rng) -> Verdict {
     let (room, header) = (room(rng, lengths), header(rng));
     expect("the tests' own reader", read_result(&parse(text), &room), wanted)?;
     reads_into(text, &room, &header)
@@ -49,11 +49,11 @@ fn writes_at_the_end(measure: u64, table: &Table, rng: &mut Rng) -> Verdict {
 fn stated(trial: &Trial) -> Outcome {
     let mut rng = trial.rng();
     let text = WORKED.as_bytes();
-    let just = [6, 6, 12, 6];
+    let just = [6, 6, 6, 12, 6];
     reads_to(text, just, 0, &mut rng)?;
-    reads_to(text, [0; 4], refusal(15, 0), &mut rng)?;
+    reads_to(text, [0; 5], refusal(15, 0), &mut rng)?;
     let mut cases = 2;
-    for column in 0..4 {
+    for column in 0..just.len() {
         for short in 0..just[column] {
             let mut lengths = just.map(|length| length + rng.index(3));
             lengths[column] = short;
@@ -62,7 +62,7 @@ fn stated(trial: &Trial) -> Outcome {
         }
     }
     for text in ["parts 0\n", "parts 9 days\n"] {
-        reads_to(text.as_bytes(), [0; 4], 0, &mut rng)?;
+        reads_to(text.as_bytes(), [0; 5], 0, &mut rng)?;
         cases += 1;
     }
     Ok(cases)
@@ -70,14 +70,14 @@ fn stated(trial: &Trial) -> Outcome {
 
 /// Each column one place short, just long enough or longer, in every combination.
 fn columns(trial: &Trial) -> Outcome {
-    trial.cases(trial.count / 4, |rng| {
+    trial.cases(trial.count / 10, |rng| {
         let table = closed(&tables::any(rng));
         let text = written(rng.pick(&MEASURES), &table);
-        for code in 0..3usize.pow(4) {
-            let ways = [code % 3, code / 3 % 3, code / 9 % 3, code / 27];
+        for code in 0..3usize.pow(5) {
+            let ways = [code % 3, code / 3 % 3, code / 9 % 3, code / 27 % 3, code / 81];
             let taken = places(&table);
             let length = |column: usize| (taken[column] + ways[column]).saturating_sub(1);
-            let lengths = [0, 1, 2, 3].map(length);
+            let lengths = [0, 1, 2, 3, 4].map(length);
             let is_short = lengths.iter().zip(taken).any(|(&lent, taken)| lent < taken);
             let wanted = if is_short { refusal(15, 0) } else { 0 };
             reads_to(&text, lengths, wanted, rng)?;
@@ -96,7 +96,7 @@ fn at_the_limits(trial: &Trial) -> Outcome {
         let taken = places(&table);
         let mut verdict = || {
             reads_to(&text, taken, 0, &mut rng)?;
-            for column in (0..4).filter(|&column| taken[column] > 0) {
+            for column in (0..taken.len()).filter(|&column| taken[column] > 0) {
                 let mut lengths = taken.map(|length| length + 1);
                 lengths[column] = taken[column] - 1;
                 reads_to(&text, lengths, refusal(15, 0), &mut rng)?;
@@ -111,7 +111,8 @@ fn at_the_limits(trial: &Trial) -> Outcome {
 /// A lent column may be longer than any table's.
 fn longer_than_limits(trial: &Trial) -> Outcome {
     let mut rng = trial.rng();
-    let longer = [MOST_EDGES + 1, 2 * MOST_EDGES, 3 * MOST_EDGES, 2 * MOST_TAILS];
+    let lines = MOST_EDGES;
+    let longer = [lines + 1, 2 * lines, lines + 3, 3 * lines, 2 * MOST_TAILS];
     let full = written(DAYS, &longest_table());
     for text in ["parts 0\n".as_bytes(), WORKED.as_bytes(), &full] {
         reads_to(text, longer, 0, &mut rng)?;
@@ -129,7 +130,7 @@ fn broken_first(trial: &Trial) -> Outcome {
         text.pop();
         let taken = places(&table);
         let wanted = refusal(14, table.edges() as u64 + 1);
-        for lengths in [taken, [0; 4], taken.map(|length| rng.index(length + 1))] {
+        for lengths in [taken, [0; 5], taken.map(|length| rng.index(length + 1))] {
             reads_to(&text, lengths, wanted, rng)?;
         }
         Ok(())
@@ -139,11 +140,11 @@ fn broken_first(trial: &Trial) -> Outcome {
 /// Headers of other lengths than 4 are left alone, and every header on a refusal.
 fn header_lengths(trial: &Trial) -> Outcome {
     let mut rng = trial.rng();
-    let texts = [WORKED, "parts 7 days\n3 - 6\n", "parts 0\n", "parts 5\n0 0\n5 0\n", ""];
+    let texts = [WORKED, "parts 7 days\n3 -9 6\n", "parts 0\n", "parts 5\n0 0\n5 0\n", ""];
     let mut cases = 0;
     for text in texts {
         for length in 0..10 {
-            for lengths in [[20; 4], [0; 4]] {
+            for lengths in [[20; 5], [0; 5]] {
                 let (room, header) = (room(&mut rng, lengths), foreign(&mut rng, length));
                 reads_into(text.as_bytes(), &room, &header)?;
                 cases += 1;

@@ -1,4 +1,4 @@
-//! Writing what is turned away: 16, then 1 to 6, then 15, and nothing lent is altered, which the
+//! Writing what is turned away: 16, then 1 to 6 and 21, then 15, and nothing lent is altered, which the
 //! wrapper sees to.
 
 use crate::model::solver::refusal;
@@ -62,11 +62,14 @@ type Change<'a> = &'a dyn Fn(&mut Table);
 /// The small examples of the specification's list.
 fn stated(trial: &Trial) -> Outcome {
     let mut rng = trial.rng();
-    let cases: [(Change, u64, u64); 6] = [
+    let cases: [(Change, u64, u64); 9] = [
         (&|table| table.n = 1_025, 1, 0),
         (&|table| *table = Table { heads: vec![0, 1], own: vec![1], ..Table::new(5) }, 2, 0),
+        (&|table| table.strikes.truncate(5), 2, 0),
         (&|table| table.heads[3] = 5, 3, 3),
         (&|table| table.own[2] = 1_000_000_002, 4, 2),
+        (&|table| table.own[2] = 1_000_000_001, 4, 2),
+        (&|table| table.strikes[3] = 2, 21, 3),
         (&|table| table.spans[..4].copy_from_slice(&[0, 2, 1, 1]), 5, 1),
         (&|table| table.tails[4] = 9, 6, 4),
     ];
@@ -121,12 +124,12 @@ fn many(trial: &Trial) -> Outcome {
     })
 }
 
-/// A struck hyperedge is held to 3, 5 and 6 like any other.
+/// A struck hyperedge is held to 3, 4, 21, 5 and 6 like any other.
 fn struck(trial: &Trial) -> Outcome {
     let faults = table_faults();
     let mut rng = trial.rng();
     let mut call = sound(&mut rng);
-    call.table.own.fill(STRUCK);
+    call.table.strikes.fill(STRUCK);
     accepts(call.measure, &call.table, &mut rng)?;
     for fault in &faults {
         refused(&call, &[*fault], &mut rng)?;
@@ -152,16 +155,16 @@ fn one_word(trial: &Trial) -> Outcome {
         let mut table = tables::any(rng);
         let mut measure = rng.pick(&MEASURES);
         let length = written(measure, &table).len();
-        let Table { n, heads, own, spans, tails } = &mut table;
-        let column = rng.index(6);
-        match [heads, own, spans, tails].into_iter().nth(column) {
+        let Table { n, heads, own, strikes, spans, tails } = &mut table;
+        let column = rng.index(7);
+        match [heads, own, strikes, spans, tails].into_iter().nth(column) {
             Some(words) if !words.is_empty() && rng.chance(80) => {
                 let place = rng.index(words.len());
                 words[place] = rng.any();
             }
             Some(words) if rng.chance(50) => words.truncate(words.len().saturating_sub(1)),
             Some(words) => words.push(rng.any()),
-            None if column == 4 => *n = rng.any(),
+            None if column == 5 => *n = rng.any(),
             None => measure = rng.any(),
         }
         let room = length + rng.index(20);
@@ -177,6 +180,7 @@ fn noise(trial: &Trial) -> Outcome {
             n: rng.below(6),
             heads: (0..edges).map(|_| rng.below(6)).collect(),
             own: rng.noise(edges),
+            strikes: (0..edges).map(|_| rng.pick(&[0, 0, 1, 1, 2])).collect(),
             spans: (0..2 * edges).map(|_| rng.below(5)).collect(),
             tails: (0..rng.below(8)).map(|_| rng.below(6)).collect(),
         };
