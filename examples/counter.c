@@ -1,6 +1,6 @@
 /*
- * A small counter program: prices a table of five parts, reprices a line, prints a bill, and
- * explains what is turned away.
+ * A small counter program: prices a table of five parts, reprices a line, strikes one and brings it
+ * back, prints bills, and explains what is turned away.
  *
  *     gcc -std=c99 -Iinclude examples/counter.c target/staticlib/libcounter.a
  */
@@ -13,9 +13,10 @@
 
 enum { PARTS = 5 };
 
-/* line:                      0     1    2     3  4   5 */
-static uint64_t heads[] =  {  0,    1,   2,    2, 3,  4 };
-static uint64_t own[] =    { 1200, 300, 500, 2100, 0, 10 };
+/* line:                        0     1    2     3  4   5 */
+static uint64_t heads[] =   {   0,    1,   2,    2, 3,  4 };
+static uint64_t own[] =     { 1200, 300, 500, 2100, 0, 10 };
+static uint64_t strikes[] = {   0,    0,   0,    0, 0,  0 };
 
 /* offset and length of each line's needed parts, and these parts: 2 of line 2, 3 of line 4, 1 of
    line 5 */
@@ -24,7 +25,9 @@ static uint64_t tails[] = { 0, 1, 2, 1, 1, 4 };
 
 static uint64_t figures[PARTS], depths[PARTS], lines[PARTS];
 
-#define TABLE heads, COUNT(heads), own, COUNT(own), spans, COUNT(spans), tails, COUNT(tails)
+#define TABLE \
+    heads, COUNT(heads), own, COUNT(own), strikes, COUNT(strikes), spans, COUNT(spans), tails, \
+        COUNT(tails)
 #define ANSWERS figures, PARTS, depths, PARTS, lines, PARTS
 
 static const char *state(size_t part)
@@ -61,6 +64,7 @@ static const char *reason(uint64_t number)
     case TOZBIERDU_REFUSED_UNMADE: return "the part cannot be made";
     case TOZBIERDU_REFUSED_ROOM: return "the bill is longer than the room";
     case TOZBIERDU_REFUSED_MEASURE: return "the measure is neither cost nor days";
+    case TOZBIERDU_REFUSED_STRIKE_MARK: return "the line's strike mark is neither 0 nor 1";
     default: return "unknown";
     }
 }
@@ -100,8 +104,20 @@ int main(void)
     list();
     print_bill(3);
 
+    /* from C a mark is set in its column, and the table settled */
+    strikes[3] = TOZBIERDU_STRIKE;
+    accepted("settle", settle(TOZBIERDU_COST, PARTS, TABLE, ANSWERS));
+    printf("line 3 struck\n");
+    print_bill(3);
+    strikes[3] = TOZBIERDU_STANDS;
+    accepted("settle", settle(TOZBIERDU_COST, PARTS, TABLE, ANSWERS));
+    printf("line 3 back at %" PRIu64 "\n", own[3]);
+    print_bill(3);
+
     print_bill(4);
-    heads[5] = PARTS;
+    strikes[2] = 2;
+    accepted("settle", settle(TOZBIERDU_COST, PARTS, TABLE, ANSWERS));
+    heads[2] = PARTS;
     accepted("settle", settle(TOZBIERDU_COST, PARTS, TABLE, ANSWERS));
     return 0;
 }

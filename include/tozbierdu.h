@@ -4,8 +4,9 @@
  * input that meets the caller's duties; the stack was measured.
  *
  * THE TABLE. n parts, numbered from 0, and lines, numbered from 0. Line i yields the part heads[i],
- * adds the own figure own[i] (or is struck: TOZBIERDU_STRUCK), and needs the parts
- * tails[spans[2 * i]] and on, spans[2 * i + 1] of them. Spans are sorted by their offset and do not
+ * adds the own figure own[i], stands or is struck as strikes[i] says (TOZBIERDU_STANDS,
+ * TOZBIERDU_STRIKE), and needs the parts tails[spans[2 * i]] and on, spans[2 * i + 1] of them. A
+ * struck line makes nothing and keeps its figure. Spans are sorted by their offset and do not
  * overlap; places of tails between them are not looked at.
  *
  * THE ANSWERS. Three columns of exactly n places: a part's best figure, the depth of its chosen
@@ -42,9 +43,12 @@ extern "C" {
 #define TOZBIERDU_COST UINT64_C(0)
 #define TOZBIERDU_DAYS UINT64_C(1)
 
-/* The greatest own figure, and the mark of a struck line in its place. */
+/* The greatest own figure, of struck lines too. */
 #define TOZBIERDU_GREATEST UINT64_C(1000000000)
-#define TOZBIERDU_STRUCK UINT64_C(1000000001)
+
+/* Strike marks: the line stands, or is struck. */
+#define TOZBIERDU_STANDS UINT64_C(0)
+#define TOZBIERDU_STRIKE UINT64_C(1)
 
 /* The greatest figure of a part that is made, and the figure of one that is over. */
 #define TOZBIERDU_CEILING UINT64_C(1000000000000)
@@ -58,16 +62,16 @@ extern "C" {
 #define TOZBIERDU_MOST_ROOM UINT64_C(4294967295)
 
 /*
- * The refusals. The first that applies is returned, tried in the order 16, 1, 2, then 3, 4, 5 and 6
- * of line 0, of line 1 and on, then 7, 9, 10, 11, 8, 12, 13. The place is the line for 3 to 6 and
- * otherwise 0. Numbers 14, 15 and 17 are of texts, 18 and 19 of an index and of appending a line; no
- * call here returns them.
+ * The refusals. The first that applies is returned, tried in the order 16, 1, 2, then 3, 4, 21, 5 and
+ * 6 of line 0, of line 1 and on, then 7, 9, 10, 11, 8, 12, 13. The place is the line for 3 to 6 and 21
+ * and otherwise 0. Numbers 14, 15 and 17 are of texts, 18 and 19 of an index and of appending a line,
+ * 20 of restoring one; no call here returns them.
  */
 enum tozbierdu_refusal {
     TOZBIERDU_REFUSED_PARTS = 1,           /* n is above 1024 */
     TOZBIERDU_REFUSED_LENGTHS = 2,         /* columns disagree in length or are too long */
     TOZBIERDU_REFUSED_HEAD = 3,            /* a head is not below n */
-    TOZBIERDU_REFUSED_OWN = 4,             /* an own figure is above the struck mark */
+    TOZBIERDU_REFUSED_OWN = 4,             /* an own figure is above the greatest */
     TOZBIERDU_REFUSED_SPAN = 5,            /* a span starts early, is above 16, passes the end */
     TOZBIERDU_REFUSED_TAIL = 6,            /* a needed part is not below n */
     TOZBIERDU_REFUSED_ANSWER_LENGTHS = 7,  /* an answer column is not n long */
@@ -82,7 +86,9 @@ enum tozbierdu_refusal {
     TOZBIERDU_REFUSED_MEASURE = 16,        /* the measure is neither cost nor days */
     TOZBIERDU_REFUSED_INPUT = 17,          /* a program's input is too long */
     TOZBIERDU_REFUSED_COLUMN_ROOM = 18,    /* a column has no room */
-    TOZBIERDU_REFUSED_INDEX = 19           /* the lent index is not this table's */
+    TOZBIERDU_REFUSED_INDEX = 19,          /* the lent index is not this table's */
+    TOZBIERDU_REFUSED_NOT_STRUCK = 20,     /* the line to restore is not struck */
+    TOZBIERDU_REFUSED_STRIKE_MARK = 21     /* a strike mark is neither 0 nor 1 */
 };
 
 /* Whether a result is a refusal's. */
@@ -105,11 +111,12 @@ static inline uint64_t tozbierdu_place(uint64_t result)
 
 /*
  * Settles a table: fills weights, depths and edges with its answers, whatever they held.
- * Returns 0. Refusals: 16, 1 to 7.
+ * Returns 0. Refusals: 16, 1 to 7 and 21.
  */
 uint64_t settle(uint64_t measure, uint64_t n,
                 const uint64_t *heads, size_t heads_count,
                 const uint64_t *own, size_t own_count,
+                const uint64_t *strikes, size_t strikes_count,
                 const uint64_t *spans, size_t spans_count,
                 const uint64_t *tails, size_t tails_count,
                 uint64_t *weights, size_t weights_count,
@@ -119,11 +126,12 @@ uint64_t settle(uint64_t measure, uint64_t n,
 /*
  * Gives a line that is not struck another own figure: writes own[line], and fills weights, depths
  * and edges, which must hold the answers of the table as it was, with those of the table as it is
- * then. Returns 0. Refusals: 16, 1 to 7, 9, 10, 8.
+ * then. Returns 0. Refusals: 16, 1 to 7 and 21, 9, 10, 8.
  */
 uint64_t reprice(uint64_t measure, uint64_t n,
                  const uint64_t *heads, size_t heads_count,
                  uint64_t *own, size_t own_count,
+                 const uint64_t *strikes, size_t strikes_count,
                  const uint64_t *spans, size_t spans_count,
                  const uint64_t *tails, size_t tails_count,
                  uint64_t *weights, size_t weights_count,
@@ -135,11 +143,12 @@ uint64_t reprice(uint64_t measure, uint64_t n,
  * Prints the bill of a part that is made or over, from the table and its answers: the lines of its
  * chosen make-up, the root first, then the bill of each part that it needs, in the order listed.
  * Returns the bill's length, and writes as many places of the room. Places beyond 4294967295 count
- * as absent. Refusals: 16, 1 to 7, 11, 8, 12, 13.
+ * as absent. Refusals: 16, 1 to 7 and 21, 11, 8, 12, 13.
  */
 uint64_t bill(uint64_t measure, uint64_t n,
               const uint64_t *heads, size_t heads_count,
               const uint64_t *own, size_t own_count,
+              const uint64_t *strikes, size_t strikes_count,
               const uint64_t *spans, size_t spans_count,
               const uint64_t *tails, size_t tails_count,
               const uint64_t *weights, size_t weights_count,

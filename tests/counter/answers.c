@@ -35,6 +35,27 @@ static void test_worked_repriced(void)
     bill_is(t, 3, 4, listed);
 }
 
+/* Line 0 is struck and keeps its figure; taken back, the answers of before. */
+static void test_worked_struck(void)
+{
+    static const uint64_t own[] = { 1200, 300, 500, 2100, 0, 10 }, depths[] = { 0, 1, 1, 2, 0 },
+        figures[] = { 0, 300, 2100, 2700, 0 }, lines[] = { 0, 1, 3, 4, 0 }, listed[] = { 4, 3, 1, 1 };
+    struct table *t = priced(TOZBIERDU_COST), *before = copy(t);
+
+    t->at[STRIKES][0] = TOZBIERDU_STRIKE;
+    expect(SETTLE, "line 0 struck", run(SETTLE, t), 0, 0);
+    check(holds(t, OWN, own), "own figures");
+    check(holds(t, FIGURES, figures) && holds(t, DEPTHS, depths) && holds(t, LINES, lines), "answers");
+    bill_is(t, 3, 4, listed);
+    t->line = 1;
+    t->figure = 300;
+    expect(REPRICE, "a line beside a struck one", run(REPRICE, t), 0, 0);
+    t->at[STRIKES][0] = TOZBIERDU_STANDS;
+    expect(SETTLE, "line 0 taken back", run(SETTLE, t), 0, 0);
+    check(holds(t, OWN, own) && holds(t, FIGURES, before->at[FIGURES]) && holds(t, DEPTHS, before->at[DEPTHS])
+          && holds(t, LINES, before->at[LINES]), "the answers of before");
+}
+
 /* A part at the ceiling, and one over it; both have a bill. */
 static void test_ceiling(void)
 {
@@ -76,7 +97,9 @@ static struct table *chance(void)
         needs = below(4);
         for (i = 0; i < needs; i++)
             parts[i] = below(t->n);
-        add(t, below(t->n), below(10) == 0 ? TOZBIERDU_STRUCK : below(20), needs, parts);
+        add(t, below(t->n), below(20), needs, parts);
+        if (below(10) == 0)
+            t->at[STRIKES][t->count[STRIKES] - 1] = TOZBIERDU_STRIKE;
     }
     t->measure = below(2);
     return t;
@@ -147,7 +170,7 @@ static void test_demand_3(void)
     for (i = 0; i < 3000 && failures == 0; i++) {
         struct table *t = chance();
         uint64_t e = below(t->count[HEADS]);
-        if (t->at[OWN][e] != TOZBIERDU_STRUCK)
+        if (t->at[STRIKES][e] == TOZBIERDU_STANDS)
             compare(t, e, below(25));
         drop(t);
     }
@@ -157,6 +180,7 @@ const struct test answer_tests[] = {
     { "worked_cost", test_worked_cost, 0 },
     { "worked_days", test_worked_days, 0 },
     { "worked_repriced", test_worked_repriced, 0 },
+    { "worked_struck", test_worked_struck, 0 },
     { "ceiling", test_ceiling, 0 },
     { "demand_3", test_demand_3, 0 },
     { NULL, NULL, 0 },

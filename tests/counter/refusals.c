@@ -67,8 +67,37 @@ static void test_refusal_3(void)
 
 static void test_refusal_4(void)
 {
-    fault(OWN, 0, TOZBIERDU_STRUCK + 1, "a figure above the mark", 4);
+    struct table *t = priced(0);
+
+    fault(OWN, 0, TOZBIERDU_GREATEST + 1, "a figure above the greatest", 4);
     fault(OWN, 0, UINT64_MAX, "a figure of 2^64 - 1", 4);
+    t->at[STRIKES][3] = TOZBIERDU_STRIKE;
+    t->at[OWN][3] = TOZBIERDU_GREATEST + 1;
+    all_refuse(t, "a struck line above the greatest", 4, 3);
+}
+
+/* What once struck a line. */
+static void test_old_mark(void)
+{
+    fault(OWN, 0, UINT64_C(1000000001), "1,000,000,001 for a figure", 4);
+}
+
+static void test_refusal_21(void)
+{
+    struct table *t = priced(0);
+
+    fault(STRIKES, 0, 2, "a mark of 2", 21);
+    fault(STRIKES, 0, UINT64_C(1000000001), "a mark of 1,000,000,001", 21);
+    fault(STRIKES, 0, UINT64_MAX, "a mark of 2^64 - 1", 21);
+    t->at[STRIKES][2] = 2;
+    t->at[SPANS][5] = 17;
+    all_refuse(t, "a mark before a span", 21, 2);
+    t->at[OWN][2] = UINT64_MAX;
+    all_refuse(t, "a figure before a mark", 4, 2);
+    t->at[HEADS][2] = 5;
+    all_refuse(t, "a head before a mark", 3, 2);
+    t->at[SPANS][3] = 17;
+    all_refuse(t, "an earlier line before a mark", 5, 1);
 }
 
 static void test_refusal_5(void)
@@ -132,16 +161,17 @@ static void test_refusal_9(void)
     t->line = UINT64_MAX;
     expect(REPRICE, "line 2^64 - 1", run(REPRICE, t), 9, 0);
     t->line = 3;
-    t->at[OWN][3] = TOZBIERDU_STRUCK;
+    t->at[STRIKES][3] = TOZBIERDU_STRIKE;
     expect(REPRICE, "a struck line", run(REPRICE, t), 9, 0);
+    check(t->at[OWN][3] == 2100, "a struck line keeps its figure");
 }
 
 static void test_refusal_10(void)
 {
     struct table *t = priced(0);
 
-    t->figure = TOZBIERDU_STRUCK;
-    expect(REPRICE, "to the mark", run(REPRICE, t), 10, 0);
+    t->figure = TOZBIERDU_GREATEST + 1;
+    expect(REPRICE, "to one above the greatest", run(REPRICE, t), 10, 0);
     t->figure = UINT64_MAX;
     expect(REPRICE, "to 2^64 - 1", run(REPRICE, t), 10, 0);
     t->figure = TOZBIERDU_GREATEST;
@@ -197,6 +227,8 @@ static void test_past_32_bits_tables(void)
     all_refuse(t, "2^32 + 5 parts", 1, 0);
     fault(HEADS, 0, PAST(0), "a head of 2^32", 3);
     fault(OWN, 0, PAST(7), "a figure of 2^32 + 7", 4);
+    fault(STRIKES, 0, PAST(0), "a mark of 2^32", 21);
+    fault(STRIKES, 0, PAST(1), "a mark of 2^32 + 1", 21);
     fault(SPANS, 1, PAST(1), "a span of 2^32 + 1", 5);
     fault(TAILS, 0, PAST(0), "a needed part of 2^32", 6);
     t = priced(0);
@@ -238,7 +270,7 @@ static void test_order_of_the_table(void)
 
     t->n = 1025;
     t->count[SPANS]--;
-    t->at[HEADS][2] = t->at[OWN][2] = t->at[SPANS][5] = t->at[TAILS][2] = UINT64_MAX;
+    t->at[HEADS][2] = t->at[OWN][2] = t->at[STRIKES][2] = t->at[SPANS][5] = t->at[TAILS][2] = UINT64_MAX;
     t->at[HEADS][5] = UINT64_MAX;
     t->count[FIGURES] = 0;
     all_refuse(t, "all faults", 16, 0);
@@ -251,7 +283,9 @@ static void test_order_of_the_table(void)
     t->at[HEADS][2] = 2;
     all_refuse(t, "but the head", 4, 2);
     t->at[OWN][2] = 500;
-    all_refuse(t, "but the figure", 5, 2);
+    all_refuse(t, "but the figure", 21, 2);
+    t->at[STRIKES][2] = 0;
+    all_refuse(t, "but the mark", 5, 2);
     t->at[SPANS][5] = 2;
     all_refuse(t, "but the span", 6, 4);
     t->at[TAILS][2] = 2;
@@ -296,6 +330,8 @@ const struct test refusal_tests[] = {
     { "refusals_11_and_12", test_refusals_11_and_12, 0 },
     { "refusal_13", test_refusal_13, 0 },
     { "refusal_16", test_refusal_16, 0 },
+    { "refusal_21", test_refusal_21, 0 },
+    { "old_mark", test_old_mark, 0 },
     { "past_32_bits_tables", test_past_32_bits_tables, 0 },
     { "past_32_bits_calls", test_past_32_bits_calls, 0 },
     { "order_of_the_table", test_order_of_the_table, 0 },

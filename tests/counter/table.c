@@ -59,7 +59,7 @@ uint64_t invoke(enum call call, const struct table *t, uint64_t *const block[COL
                 uint64_t *room)
 {
 #define COLUMN(c) block[c] + GUARD, t->count[c]
-#define TABLE COLUMN(HEADS), COLUMN(OWN), COLUMN(SPANS), COLUMN(TAILS)
+#define TABLE COLUMN(HEADS), COLUMN(OWN), COLUMN(STRIKES), COLUMN(SPANS), COLUMN(TAILS)
 #define ANSWERS COLUMN(FIGURES), COLUMN(DEPTHS), COLUMN(LINES)
     switch (call) {
     case SETTLE: return settle(t->measure, t->n, TABLE, ANSWERS);
@@ -124,7 +124,7 @@ uint64_t run(enum call call, struct table *t)
 struct table *blank(uint64_t n)
 {
     static const size_t most[COLUMNS] = { TOZBIERDU_MOST_LINES + 1, TOZBIERDU_MOST_LINES + 1,
-        2 * TOZBIERDU_MOST_LINES + 2, TOZBIERDU_MOST_TAILS + 1, TOZBIERDU_MOST_PARTS + 1,
+        TOZBIERDU_MOST_LINES + 1, 2 * TOZBIERDU_MOST_LINES + 2, TOZBIERDU_MOST_TAILS + 1, TOZBIERDU_MOST_PARTS + 1,
         TOZBIERDU_MOST_PARTS + 1, TOZBIERDU_MOST_PARTS + 1 };
     struct table *t = calloc(1, sizeof *t);
     int c;
@@ -169,12 +169,14 @@ void add(struct table *t, uint64_t head, uint64_t own, size_t needs, const uint6
 
     t->at[HEADS][line] = head;
     t->at[OWN][line] = own;
+    t->at[STRIKES][line] = TOZBIERDU_STANDS;
     t->at[SPANS][2 * line] = t->count[TAILS];
     t->at[SPANS][2 * line + 1] = needs;
     for (i = 0; i < needs; i++)
         t->at[TAILS][t->count[TAILS] + i] = parts[i];
     t->count[HEADS]++;
     t->count[OWN]++;
+    t->count[STRIKES]++;
     t->count[SPANS] += 2;
     t->count[TAILS] += needs;
 }

@@ -4,7 +4,7 @@
 
 #include "tozbierdu.h"
 
-enum { HEADS, OWN, SPANS, TAILS, FIGURES, DEPTHS, LINES, COLUMNS };
+enum { HEADS, OWN, STRIKES, SPANS, TAILS, FIGURES, DEPTHS, LINES, COLUMNS };
 enum call { SETTLE, REPRICE, BILL, CALLS };
 enum { GUARD = 4, ROOM = 20000 };
 
@@ -43,7 +43,7 @@ struct table *blank(uint64_t n);
 struct table *copy(const struct table *t);
 void drop(struct table *t);
 
-/* One more line, whose parts stand behind those of the line before. */
+/* One more line, whose parts stand behind those of the line before; it is not struck. */
 void add(struct table *t, uint64_t head, uint64_t own, size_t needs, const uint64_t *parts);
 
 /* The table that the specification prices whole; the same, settled; and one as deep as can be. */

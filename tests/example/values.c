@@ -11,6 +11,7 @@
 uint64_t bill(uint64_t measure, uint64_t n,
               const uint64_t *heads, size_t heads_count,
               const uint64_t *own, size_t own_count,
+              const uint64_t *strikes, size_t strikes_count,
               const uint64_t *spans, size_t spans_count,
               const uint64_t *tails, size_t tails_count,
               const uint64_t *weights, size_t weights_count,

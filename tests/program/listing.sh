@@ -28,7 +28,7 @@ part state figure depth line
 4 unmade 0 0 0
 END
 
-sed '2s/.*/0 -/' "$work/worked" >"$work/struck"
+sed '2s/.*/0 -1200/' "$work/worked" >"$work/struck"
 prints 'a struck line' "$work/struck" <<'END'
 part state figure depth line
 0 unmade 0 0 0
@@ -36,6 +36,14 @@ part state figure depth line
 2 made 2100 1 3
 3 made 2700 2 4
 4 unmade 0 0 0
+END
+
+printf 'parts 3\n0 -0\n0 5\n1 -1000000000 0\n1 7 0\n2 -3\n' >"$work/kept"
+prints 'struck lines with every kept figure' "$work/kept" <<'END'
+part state figure depth line
+0 made 5 1 1
+1 made 12 2 3
+2 unmade 0 0 0
 END
 
 echo 'parts 0' >"$work/none"
@@ -63,6 +71,12 @@ refuses 'a head that is no part, in text line 2' 14 2 'parts 1\n1 0\n'
 refuses 'a leading zero in text line 3' 14 3 'parts 2\n0 5\n1 05\n1 9\n'
 refuses 'a last line without its LF' 14 3 'parts 5\n0 1200\n1 300'
 refuses 'an LF too many' 14 3 'parts 1\n0 5\n\n'
+refuses 'a dash without a figure' 14 3 'parts 2\n0 5\n1 -\n1 9\n'
+refuses 'a dash and a space' 14 2 'parts 9\n0 - 5\n'
+refuses 'two dashes' 14 2 'parts 1\n0 --5\n'
+refuses 'a leading zero behind a dash' 14 2 'parts 1\n0 -05\n'
+refuses 'a figure above the greatest behind a dash' 14 2 'parts 1\n0 -1000000001\n'
+refuses 'a figure above the greatest' 14 2 'parts 1\n0 1000000001\n'
 
 # the mistakes of docs/FORMAT.md, with the refusal that each is said to get
 tried=0
