@@ -8,13 +8,15 @@
 /* The columns of a table, and its answers, as parameters: lent to be read, or to be written. */
 #define TABLE_COLUMNS \
     const uint64_t *heads, size_t heads_count, const uint64_t *own, size_t own_count, \
-        const uint64_t *spans, size_t spans_count, const uint64_t *tails, size_t tails_count
+        const uint64_t *strikes, size_t strikes_count, const uint64_t *spans, size_t spans_count, \
+        const uint64_t *tails, size_t tails_count
 #define ANSWER_COLUMNS \
     const uint64_t *figures, size_t figures_count, const uint64_t *depths, size_t depths_count, \
         const uint64_t *lines, size_t lines_count
 #define CHANGED_COLUMNS \
     const uint64_t *heads, size_t heads_count, uint64_t *own, size_t own_count, \
-        const uint64_t *spans, size_t spans_count, const uint64_t *tails, size_t tails_count
+        const uint64_t *strikes, size_t strikes_count, const uint64_t *spans, size_t spans_count, \
+        const uint64_t *tails, size_t tails_count
 #define WRITTEN_COLUMNS \
     uint64_t *figures, size_t figures_count, uint64_t *depths, size_t depths_count, \
         uint64_t *lines, size_t lines_count

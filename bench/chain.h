@@ -1,16 +1,17 @@
 /*
  * The four calls of a yardstick, with the refusals in their order. A yardstick names them by CALL, and
  * includes this behind its own
- *   check_lines(t)                                     refusals 3 to 6, or 0
+ *   check_lines(t)                                     refusals 3, 4, 21, 5 and 6, or 0
  *   fill(t, measure, figures, depths, lines)           writes the answers
  *   right(t, measure, figures, depths, lines)          whether these are its answers
  *   print(t, lines, part, room, most)                  a bill's length, or 0 if that is above `most`
  */
 
-#define GIVEN_TABLE heads, heads_count, own, own_count, spans, spans_count, tails, tails_count
+#define GIVEN_TABLE \
+    heads, heads_count, own, own_count, strikes, strikes_count, spans, spans_count, tails, tails_count
 #define GIVEN_ANSWERS figures, figures_count, depths, depths_count, lines, lines_count
 
-/* Refusals 16 and 1 to 7. */
+/* Refusals 16, 1 to 7 and 21. */
 static uint64_t check(struct view *t, uint64_t measure, uint64_t n, TABLE_COLUMNS, ANSWER_COLUMNS)
 {
     uint64_t result;
@@ -20,10 +21,10 @@ static uint64_t check(struct view *t, uint64_t measure, uint64_t n, TABLE_COLUMN
         return REFUSED(TOZBIERDU_REFUSED_MEASURE, 0);
     if (n > TOZBIERDU_MOST_PARTS)
         return REFUSED(TOZBIERDU_REFUSED_PARTS, 0);
-    if (own_count != heads_count || heads_count > TOZBIERDU_MOST_LINES || spans_count != 2 * heads_count
-        || tails_count > TOZBIERDU_MOST_TAILS)
+    if (own_count != heads_count || strikes_count != heads_count || heads_count > TOZBIERDU_MOST_LINES
+        || spans_count != 2 * heads_count || tails_count > TOZBIERDU_MOST_TAILS)
         return REFUSED(TOZBIERDU_REFUSED_LENGTHS, 0);
-    *t = (struct view){ n, heads_count, tails_count, heads, own, spans, tails };
+    *t = (struct view){ n, heads_count, tails_count, heads, own, strikes, spans, tails };
     if ((result = check_lines(t)) != 0)
         return result;
     if (figures_count != n || depths_count != n || lines_count != n)
@@ -57,7 +58,7 @@ uint64_t CALL(reprice)(uint64_t measure, uint64_t n, CHANGED_COLUMNS, WRITTEN_CO
 
     if (result != 0)
         return result;
-    if (line >= t.lines || own[line] == TOZBIERDU_STRUCK)
+    if (line >= t.lines || strikes[line] == TOZBIERDU_STRIKE)
         return REFUSED(TOZBIERDU_REFUSED_LINE, 0);
     if (figure > TOZBIERDU_GREATEST)
         return REFUSED(TOZBIERDU_REFUSED_FIGURE, 0);

@@ -10,7 +10,7 @@
 /* A table whose columns have agreeing lengths. */
 struct view {
     uint64_t n, lines, listed;
-    const uint64_t *heads, *own, *spans, *tails;
+    const uint64_t *heads, *own, *strikes, *spans, *tails;
 };
 
 static inline uint64_t greater(uint64_t a, uint64_t b)
@@ -23,7 +23,7 @@ static inline uint64_t lesser(uint64_t a, uint64_t b)
     return a < b ? a : b;
 }
 
-/* Refusals 3 to 6: the first in the order of the lines, or 0. */
+/* Refusals 3, 4, 21, 5 and 6: the first in the order of the lines, or 0. */
 static inline uint64_t first_refusal(const struct view *t)
 {
     uint64_t line, i, end = 0;
@@ -32,8 +32,10 @@ static inline uint64_t first_refusal(const struct view *t)
         uint64_t offset = t->spans[2 * line], size = t->spans[2 * line + 1];
         if (t->heads[line] >= t->n)
             return REFUSED(TOZBIERDU_REFUSED_HEAD, line);
-        if (t->own[line] > TOZBIERDU_STRUCK)
+        if (t->own[line] > TOZBIERDU_GREATEST)
             return REFUSED(TOZBIERDU_REFUSED_OWN, line);
+        if (t->strikes[line] > TOZBIERDU_STRIKE)
+            return REFUSED(TOZBIERDU_REFUSED_STRIKE_MARK, line);
         /* offset + size could wrap */
         if (offset < end || size > TOZBIERDU_LONGEST_TAIL || offset > t->listed
             || size > t->listed - offset)

@@ -28,7 +28,8 @@ struct job {
 };
 
 #define TABLE(j) \
-    (j)->t.heads, (j)->t.lines, (j)->t.own, (j)->t.lines, (j)->t.spans, 2 * (j)->t.lines, (j)->t.tails, (j)->t.listed
+    (j)->t.heads, (j)->t.lines, (j)->t.own, (j)->t.lines, (j)->t.strikes, (j)->t.lines, (j)->t.spans, \
+        2 * (j)->t.lines, (j)->t.tails, (j)->t.listed
 #define ANSWERS(j) (j)->figures, (j)->t.n, (j)->depths, (j)->t.n, (j)->lines, (j)->t.n
 
 static uint64_t call(const struct maker *m, int which, struct job *j)

@@ -89,7 +89,7 @@ static void start(struct search *s, const struct view *t)
     clear_queue(&s->queue, t->n);
     for (line = 0; line < t->lines; line++) {
         uint64_t own = t->own[line];
-        if (own == TOZBIERDU_STRUCK)
+        if (t->strikes[line] == TOZBIERDU_STRIKE)
             continue;
         if (t->spans[2 * line + 1] == 0)
             lower(&s->queue, t->heads[line], key(own, 1, line));
@@ -159,7 +159,7 @@ static inline uint64_t offer(const struct view *t, uint64_t measure, uint64_t li
     uint64_t joined = t->own[line], deepest = 0;
     uint64_t at = t->spans[2 * line], end = at + t->spans[2 * line + 1];
 
-    if (joined == TOZBIERDU_STRUCK)
+    if (t->strikes[line] == TOZBIERDU_STRIKE)
         return NO_KEY;
     for (; at < end; at++) {
         uint64_t part = t->tails[at];

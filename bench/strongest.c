@@ -48,8 +48,9 @@ static uint64_t any_misplaced(const uint64_t *spans, size_t lines, uint64_t tail
  */
 static inline uint64_t check_lines(const struct view *t)
 {
-    uint64_t off = any_above(t->heads, t->lines, t->n - 1) | any_above(t->own, t->lines, TOZBIERDU_STRUCK)
-        | any_misplaced(t->spans, t->lines, t->listed) | any_above(t->tails, t->listed, t->n - 1);
+    uint64_t off = any_above(t->heads, t->lines, t->n - 1) | any_above(t->own, t->lines, TOZBIERDU_GREATEST)
+        | any_above(t->strikes, t->lines, TOZBIERDU_STRIKE) | any_misplaced(t->spans, t->lines, t->listed)
+        | any_above(t->tails, t->listed, t->n - 1);
 
     return off >> 63 != 0 ? first_refusal(t) : 0;
 }
@@ -134,7 +135,7 @@ static inline void start(struct search *s, struct view t)
     clear_queue(&s->queue, t.n);
     for (line = 0; line < t.lines; line++) {
         uint64_t own = t.own[line], offset = t.spans[2 * line], size = t.spans[2 * line + 1];
-        if (own == TOZBIERDU_STRUCK)
+        if (t.strikes[line] == TOZBIERDU_STRIKE)
             continue;
         if (size == 0) {
             uint64_t *leaf = &s->queue.keys[s->queue.leaves + t.heads[line]];
@@ -213,7 +214,7 @@ FOR_MEASURE int gives(struct view t, uint64_t measure, uint64_t line, const uint
 {
     uint64_t joined = t.own[line], deepest = 0, at = t.spans[2 * line], end = at + t.spans[2 * line + 1];
 
-    if (joined == TOZBIERDU_STRUCK)
+    if (t.strikes[line] == TOZBIERDU_STRIKE)
         return 0;
     for (; at != end; at++) {
         uint64_t part = t.tails[at];

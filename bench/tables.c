@@ -19,6 +19,7 @@ static void begin(struct table *t, uint64_t head, uint64_t own)
 {
     t->heads[t->lines] = head;
     t->own[t->lines] = own;
+    t->strikes[t->lines] = TOZBIERDU_STANDS;
     t->spans[2 * t->lines] = t->listed;
     t->spans[2 * t->lines + 1] = 0;
     t->lines++;

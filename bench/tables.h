@@ -7,7 +7,7 @@
 struct table {
     uint64_t n;
     size_t lines, listed;
-    uint64_t heads[TOZBIERDU_MOST_LINES], own[TOZBIERDU_MOST_LINES];
+    uint64_t heads[TOZBIERDU_MOST_LINES], own[TOZBIERDU_MOST_LINES], strikes[TOZBIERDU_MOST_LINES];
     uint64_t spans[2 * TOZBIERDU_MOST_LINES], tails[TOZBIERDU_MOST_TAILS];
 };
 

@@ -13,11 +13,11 @@
 uint64_t harness_index_table(uint64_t n, TABLE_COLUMNS, uint64_t *index, size_t index_count, uint64_t *list,
                              size_t list_count);
 uint64_t harness_append(uint64_t measure, uint64_t n, uint64_t *heads, size_t heads_count, uint64_t *own,
-                        size_t own_count, uint64_t *spans, size_t spans_count, uint64_t *tails,
-                        size_t tails_count, uint64_t in_use, uint64_t listed, WRITTEN_COLUMNS,
-                        uint64_t *index, size_t index_count, uint64_t *list, size_t list_count, uint64_t head,
-                        uint64_t figure, const uint64_t *needed, size_t needed_count, uint64_t *counts,
-                        size_t counts_count);
+                        size_t own_count, uint64_t *strikes, size_t strikes_count, uint64_t *spans,
+                        size_t spans_count, uint64_t *tails, size_t tails_count, uint64_t in_use,
+                        uint64_t listed, WRITTEN_COLUMNS, uint64_t *index, size_t index_count, uint64_t *list,
+                        size_t list_count, uint64_t head, uint64_t figure, uint64_t mark,
+                        const uint64_t *needed, size_t needed_count, uint64_t *counts, size_t counts_count);
 
 enum { SAMPLES = 61 };
 
@@ -34,9 +34,10 @@ static uint64_t append_by(int maker, struct growth *g)
     if (maker != 0)
         return plain_append(g);
     result = harness_append(g->measure, g->n, g->heads, TOZBIERDU_MOST_LINES, g->own, TOZBIERDU_MOST_LINES,
-                            g->spans, 2 * TOZBIERDU_MOST_LINES, g->tails, TOZBIERDU_MOST_TAILS, g->lines,
-                            g->listed, ANSWERS_OF(g), g->index, g->index_count, g->list, g->list_count,
-                            g->head, g->figure, g->needed, g->needed_count, counts, 2);
+                            g->strikes, TOZBIERDU_MOST_LINES, g->spans, 2 * TOZBIERDU_MOST_LINES, g->tails,
+                            TOZBIERDU_MOST_TAILS, g->lines, g->listed, ANSWERS_OF(g), g->index, g->index_count,
+                            g->list, g->list_count, g->head, g->figure, g->mark, g->needed, g->needed_count,
+                            counts, 2);
     if (result == 0) {
         g->lines = counts[0];
         g->listed = counts[1];
@@ -57,10 +58,12 @@ static void prepare(struct growth *g, uint64_t measure, int kind, uint64_t n)
     g->n = n;
     memcpy(g->heads, t.heads, sizeof g->heads);
     memcpy(g->own, t.own, sizeof g->own);
+    memcpy(g->strikes, t.strikes, sizeof g->strikes);
     memcpy(g->spans, t.spans, sizeof g->spans);
     memcpy(g->tails, t.tails, sizeof g->tails);
     g->head = t.heads[last];
     g->figure = t.own[last];
+    g->mark = t.strikes[last];
     g->needed_count = t.spans[2 * last + 1];
     memcpy(g->needed, t.tails + t.spans[2 * last], g->needed_count * sizeof *g->needed);
     g->lines = last;

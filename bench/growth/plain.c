@@ -43,12 +43,12 @@ uint64_t plain_index_table(uint64_t n, TABLE_COLUMNS, uint64_t *index, size_t in
                            size_t list_count)
 {
     uint64_t pairs[2 * TOZBIERDU_MOST_PARTS], lines[TOZBIERDU_MOST_TAILS], total, result;
-    struct view t = { n, heads_count, tails_count, heads, own, spans, tails };
+    struct view t = { n, heads_count, tails_count, heads, own, strikes, spans, tails };
 
     if (n > TOZBIERDU_MOST_PARTS)
         return REFUSED(TOZBIERDU_REFUSED_PARTS, 0);
-    if (own_count != heads_count || heads_count > TOZBIERDU_MOST_LINES || spans_count != 2 * heads_count
-        || tails_count > TOZBIERDU_MOST_TAILS)
+    if (own_count != heads_count || strikes_count != heads_count || heads_count > TOZBIERDU_MOST_LINES
+        || spans_count != 2 * heads_count || tails_count > TOZBIERDU_MOST_TAILS)
         return REFUSED(TOZBIERDU_REFUSED_LENGTHS, 0);
     if ((result = first_refusal(&t)) != 0)
         return result;
@@ -79,8 +79,10 @@ static uint64_t new_line_refusal(const struct growth *g)
 
     if (g->head >= g->n)
         return REFUSED(TOZBIERDU_REFUSED_HEAD, g->lines);
-    if (g->figure > TOZBIERDU_STRUCK)
+    if (g->figure > TOZBIERDU_GREATEST)
         return REFUSED(TOZBIERDU_REFUSED_OWN, g->lines);
+    if (g->mark > TOZBIERDU_STRIKE)
+        return REFUSED(TOZBIERDU_REFUSED_STRIKE_MARK, g->lines);
     if (g->needed_count > TOZBIERDU_LONGEST_TAIL)
         return REFUSED(TOZBIERDU_REFUSED_SPAN, g->lines);
     for (i = 0; i < g->needed_count; i++)
@@ -93,7 +95,7 @@ static uint64_t new_line_refusal(const struct growth *g)
 static uint64_t check_growth(const struct growth *g, uint64_t end)
 {
     uint64_t pairs[2 * TOZBIERDU_MOST_PARTS], list[TOZBIERDU_MOST_TAILS], total, result;
-    struct view t = { g->n, g->lines, g->listed, g->heads, g->own, g->spans, g->tails };
+    struct view t = { g->n, g->lines, g->listed, g->heads, g->own, g->strikes, g->spans, g->tails };
 
     if (g->n > TOZBIERDU_MOST_PARTS)
         return REFUSED(TOZBIERDU_REFUSED_PARTS, 0);
@@ -113,7 +115,7 @@ static uint64_t check_growth(const struct growth *g, uint64_t end)
 uint64_t plain_append(struct growth *g)
 {
     uint64_t end = g->lines == 0 ? 0 : g->spans[2 * g->lines - 2] + g->spans[2 * g->lines - 1], result;
-    struct view t = { g->n, g->lines, g->listed, g->heads, g->own, g->spans, g->tails };
+    struct view t = { g->n, g->lines, g->listed, g->heads, g->own, g->strikes, g->spans, g->tails };
 
     if ((result = check_growth(g, end)) != 0)
         return result;
@@ -121,6 +123,7 @@ uint64_t plain_append(struct growth *g)
         return REFUSED(TOZBIERDU_REFUSED_ANSWERS, 0);
     g->heads[g->lines] = g->head;
     g->own[g->lines] = g->figure;
+    g->strikes[g->lines] = g->mark;
     g->spans[2 * g->lines] = end;
     g->spans[2 * g->lines + 1] = g->needed_count;
     memcpy(g->tails + end, g->needed, g->needed_count * sizeof *g->tails);
