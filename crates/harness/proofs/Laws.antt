@@ -22,19 +22,21 @@ use Rattle.refusal.specs.declared.MeasureChoice.the-variants as choice
 use Rattle.refusal.specs.Refusals.{codeOf, resultOf, acceptanceResult, verdictResult, extentResult}
 use Rattle.columns.specs.Columns.{Answers, Columns}
 use Rattle.settle.specs.Checking.{checked}
-use Rattle.reprice.specs.Repricing.{stricken}
+use Rattle.reprice.specs.Repricing.{stricken, restored}
 use Rattle.columns.specs.Longer.{NewLine}
 use Rattle.indextable.specs.Index.{IndexOutcome}
 use Rattle.append.specs.Appending.{leaves, appended}
-use Rattle.readtable.specs.Read.{ReadOutcome}
+use Rattle.readtable.specs.Read.{ReadOutcome, readOutcome}
 use Rattle.writetable.specs.Write.{writeTable}
-use Rattle.counter.specs.Results.{changeResult}
 use Rattle.harness.specs.Results.{
   checkedResult,
+  markResult,
   strickenResult,
+  restoredResult,
   entryWritten,
   measureNumber,
   headerWritten,
+  readLeft,
   readResult,
   writeResult,
   writtenResult,
@@ -53,12 +55,19 @@ module _ {o : MeasureChoice} (c : Columns) (a : Answers) {n : ℕ} where
 
   -- the same of a change of line e
   module _ (e : ℕ) where
-    pub stricken-refused : {r : Refusal} → o ≡ choice.Refused r → n ≡ resultOf (codeOf r) → record { result = n; own = c .own; left = a } ≡ strickenResult o c a e
+    pub stricken-refused : {r : Refusal} → o ≡ choice.Refused r → n ≡ resultOf (codeOf r) → record { result = n; strikes = c .strikes; left = a } ≡ strickenResult o c a e
     stricken-refused p q = rw (p, q)
 
-    pub stricken-measure : {m : Measure} {x : Acceptance} {os : List ℕ} {b : Answers} → o ≡ choice.Measure m → n ≡ acceptanceResult x
-        → record { result = x; own = os; left = b } ≡ stricken m c a e → record { result = n; own = os; left = b } ≡ strickenResult o c a e
-    stricken-measure p q k = rw (p, q) (ap changeResult k)
+    pub stricken-measure : {m : Measure} {x : Acceptance} {ks : List ℕ} {b : Answers} → o ≡ choice.Measure m → n ≡ acceptanceResult x
+        → record { result = x; strikes = ks; left = b } ≡ stricken m c a e → record { result = n; strikes = ks; left = b } ≡ strickenResult o c a e
+    stricken-measure p q k = rw (p, q) (ap markResult k)
+
+    pub restored-refused : {r : Refusal} → o ≡ choice.Refused r → n ≡ resultOf (codeOf r) → record { result = n; strikes = c .strikes; left = a } ≡ restoredResult o c a e
+    restored-refused p q = rw (p, q)
+
+    pub restored-measure : {m : Measure} {x : Acceptance} {ks : List ℕ} {b : Answers} → o ≡ choice.Measure m → n ≡ acceptanceResult x
+        → record { result = x; strikes = ks; left = b } ≡ restored m c a e → record { result = n; strikes = ks; left = b } ≡ restoredResult o c a e
+    restored-measure p q k = rw (p, q) (ap markResult k)
 
 three : (xs : List ℕ) (w d e : ℕ) → length xs ≡ 3 → set (set (set xs 0 w) 1 d) 2 e ≡ w ∷ d ∷ e ∷ []
 three [] w d e h = absurd (omega arith)
@@ -90,12 +99,11 @@ module _ (h : Header) (room : List ℕ) where
   header-unwritten n = rw (ne-eqb (length room) 4 n)
 
 -- reading, by its answer
-module _ {x : ReadOutcome} (room : List ℕ) {h o s t : List ℕ} {a : Reading} (e : record { answer = a; heads = h; own = o; spans = s; tails = t } ≡ x) where
-  pub read-refused : {r : Refusal} {n : ℕ} → a ≡ reading.Refused r → n ≡ resultOf (codeOf r) → record { result = n; heads = h; own = o; spans = s; tails = t; header = room } ≡ readResult x room
+module _ {x : ReadOutcome} (room : List ℕ) {h o m s t : List ℕ} {a : Reading} (e : readOutcome a h o m s t ≡ x) where
+  pub read-refused : {r : Refusal} {n : ℕ} → a ≡ reading.Refused r → n ≡ resultOf (codeOf r) → readLeft n h o m s t room ≡ readResult x room
   read-refused p q = rw (← e, p, q)
 
-  pub read-table : {u : Header} {room′ : List ℕ} → a ≡ reading.Table u → room′ ≡ headerWritten u room
-      → record { result = 0; heads = h; own = o; spans = s; tails = t; header = room′ } ≡ readResult x room
+  pub read-table : {u : Header} {room′ : List ℕ} → a ≡ reading.Table u → room′ ≡ headerWritten u room → readLeft 0 h o m s t room′ ≡ readResult x room
   read-table p q = rw (← e, p, q)
 
 module _ {o : MeasureChoice} (c : Columns) (room : List ℕ) {n : ℕ} where

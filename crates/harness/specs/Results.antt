@@ -17,11 +17,11 @@ use Rattle.refusal.specs.declared.Reading.{Reading}
 use Rattle.refusal.specs.declared.Reading.the-variants as reading
 use Rattle.refusal.specs.declared.MeasureChoice.{MeasureChoice}
 use Rattle.refusal.specs.declared.MeasureChoice.the-variants.{Measure, Refused}
-use Rattle.refusal.specs.Refusals.{codeOf, resultOf, verdictResult, extentResult, readingResult}
+use Rattle.refusal.specs.Refusals.{codeOf, resultOf, acceptanceResult, verdictResult, extentResult, readingResult}
 use Rattle.columns.specs.Columns.{Answers, Columns}
 use Rattle.settle.specs.Checking.{checked}
-use Rattle.reprice.specs.Repricing.{stricken}
-use Rattle.counter.specs.Results.{LeftOwn, changeResult, LeftRoom}
+use Rattle.reprice.specs.Repricing.{MarkOutcome, stricken, restored}
+use Rattle.counter.specs.Results.{LeftRoom}
 use Rattle.columns.specs.Longer.{NewLine}
 use Rattle.indextable.specs.Index.{IndexOutcome}
 use Rattle.append.specs.Appending.{Grown, appended}
@@ -33,9 +33,22 @@ abbrev pub checkedResult : MeasureChoice → Columns → Answers → ℕ
 checkedResult (Refused r) c a = resultOf (codeOf r)
 checkedResult (Measure m) c a = verdictResult (checked m c a)
 
-abbrev pub strickenResult : MeasureChoice → Columns → Answers → ℕ → LeftOwn
-strickenResult (Refused r) c a e = record { result = resultOf (codeOf r); own = c .own; left = a }
-strickenResult (Measure m) c a e = changeResult (stricken m c a e)
+-- a number, the strike marks, and the answer columns
+pub record LeftMarks : Type 0 where
+  pub result : ℕ
+  pub strikes : List ℕ
+  pub left : Answers
+
+abbrev pub markResult : MarkOutcome → LeftMarks
+markResult x = record { result = acceptanceResult (x .result); strikes = x .strikes; left = x .left }
+
+abbrev pub strickenResult : MeasureChoice → Columns → Answers → ℕ → LeftMarks
+strickenResult (Refused r) c a e = record { result = resultOf (codeOf r); strikes = c .strikes; left = a }
+strickenResult (Measure m) c a e = markResult (stricken m c a e)
+
+abbrev pub restoredResult : MeasureChoice → Columns → Answers → ℕ → LeftMarks
+restoredResult (Refused r) c a e = record { result = resultOf (codeOf r); strikes = c .strikes; left = a }
+restoredResult (Measure m) c a e = markResult (restored m c a e)
 
 abbrev pub stateNumber : State → ℕ
 stateNumber Made = 0
@@ -59,16 +72,20 @@ pub record ReadLeft : Type 0 where
   pub result : ℕ
   pub heads : List ℕ
   pub own : List ℕ
+  pub strikes : List ℕ
   pub spans : List ℕ
   pub tails : List ℕ
   pub header : List ℕ
+
+abbrev pub readLeft : ℕ → (heads own strikes spans tails header : List ℕ) → ReadLeft
+readLeft n h o m s t header = record { result = n; heads = h; own = o; strikes = m; spans = s; tails = t; header = header }
 
 abbrev pub readingHeader : Reading → List ℕ → List ℕ
 readingHeader (reading.Table h) room = headerWritten h room
 readingHeader (reading.Refused r) room = room
 
 abbrev pub readResult : ReadOutcome → List ℕ → ReadLeft
-readResult x room = record { result = readingResult (x .answer); heads = x .heads; own = x .own; spans = x .spans; tails = x .tails; header = readingHeader (x .answer) room }
+readResult x room = readLeft (readingResult (x .answer)) (x .heads) (x .own) (x .strikes) (x .spans) (x .tails) (readingHeader (x .answer) room)
 
 abbrev pub writeResult : WriteOutcome → LeftRoom
 writeResult x = record { result = extentResult (x .answer); left = x .room }

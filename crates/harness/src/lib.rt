@@ -6,6 +6,7 @@ use refusal::Header;
 use refusal::MeasureChoice;
 use refusal::Reading;
 use weights::Hyperedge;
+use weights::Mark;
 use weights::Measure;
 use weights::State;
 use weights::Vertex;
@@ -19,21 +20,22 @@ ghost use Rattle.columns.specs.Acceptance.{acceptance};
 ghost use Rattle.columns.specs.Longer.{newLine};
 ghost use Rattle.indextable.specs.Index.{tableIndexed};
 ghost use Rattle.readtable.specs.Read.{readTable};
-ghost use Rattle.harness.specs.Results.{checkedResult, strickenResult, stateNumber, entryWritten, measureNumber, headerWritten, readResult, writtenResult, indexedResult, countsWritten, usedCounts, leftGrown, appendedResult};
+ghost use Rattle.harness.specs.Results.{checkedResult, strickenResult, restoredResult, stateNumber, entryWritten, measureNumber, headerWritten, readLeft, readResult, writtenResult, indexedResult, countsWritten, usedCounts, leftGrown, appendedResult};
 
 #[no_mangle]
 pub extern "C" fn harness_check_table(
     n: u64,
     heads: &[u64],
     own: &[u64],
+    strikes: &[u64],
     spans: &[u64],
     tails: &[u64],
 ) -> u64
     ensures { λ r.
-        let c = columns n (now (heads .entry)) (now (own .entry)) (now (spans .entry)) (now (tails .entry)) in
+        let c = columns n (now (heads .entry)) (now (own .entry)) (now (strikes .entry)) (now (spans .entry)) (now (tails .entry)) in
         ⌜ r ≡ acceptanceResult (acceptance c) ⌝ }
 {
-    let a = columns::check_table(n, heads, own, spans, tails);
+    let a = columns::check_table(n, heads, own, strikes, spans, tails);
     a.result()
 }
 
@@ -43,6 +45,7 @@ pub extern "C" fn harness_check_answers(
     n: u64,
     heads: &[u64],
     own: &[u64],
+    strikes: &[u64],
     spans: &[u64],
     tails: &[u64],
     weights: &[u64],
@@ -50,7 +53,7 @@ pub extern "C" fn harness_check_answers(
     edges: &[u64],
 ) -> u64
     ensures { λ r.
-        let c = columns n (now (heads .entry)) (now (own .entry)) (now (spans .entry)) (now (tails .entry)) in
+        let c = columns n (now (heads .entry)) (now (own .entry)) (now (strikes .entry)) (now (spans .entry)) (now (tails .entry)) in
         let a = answers (now (weights .entry)) (now (depths .entry)) (now (edges .entry)) in
         ⌜ r ≡ checkedResult (measureOf measure) c a ⌝ }
 {
@@ -58,7 +61,18 @@ pub extern "C" fn harness_check_answers(
     match choice {
         MeasureChoice::Refused(r) => return r.result(),
         MeasureChoice::Measure(m) => {
-            let v = settle::check_answers(m, n, heads, own, spans, tails, weights, depths, edges);
+            let v = settle::check_answers(
+                m,
+                n,
+                heads,
+                own,
+                strikes,
+                spans,
+                tails,
+                weights,
+                depths,
+                edges,
+            );
             return v.result();
         }
     }
@@ -69,7 +83,8 @@ pub extern "C" fn harness_strike(
     measure: u64,
     n: u64,
     heads: &[u64],
-    own: &mut [u64],
+    own: &[u64],
+    strikes: &mut [u64],
     spans: &[u64],
     tails: &[u64],
     weights: &mut [u64],
@@ -78,10 +93,10 @@ pub extern "C" fn harness_strike(
     line: u64,
 ) -> u64
     ensures { λ r.
-        let c = columns n (now (heads .entry)) (now (own .entry)) (now (spans .entry)) (now (tails .entry)) in
+        let c = columns n (now (heads .entry)) (now (own .entry)) (now (strikes .entry)) (now (spans .entry)) (now (tails .entry)) in
         let a = answers (now (weights .entry)) (now (depths .entry)) (now (edges .entry)) in
         let a′ = answers (now (weights .exit)) (now (depths .exit)) (now (edges .exit)) in
-        ⌜ record { result = r; own = now (own .exit); left = a′ } ≡ strickenResult (measureOf measure) c a line ⌝ }
+        ⌜ record { result = r; strikes = now (strikes .exit); left = a′ } ≡ strickenResult (measureOf measure) c a line ⌝ }
 {
     let choice = refusal::measure_numbered(measure);
     match choice {
@@ -92,6 +107,49 @@ pub extern "C" fn harness_strike(
                 n,
                 heads,
                 own,
+                strikes,
+                spans,
+                tails,
+                weights,
+                depths,
+                edges,
+                Hyperedge(line),
+            );
+            return a.result();
+        }
+    }
+}
+
+#[no_mangle]
+pub extern "C" fn harness_restore(
+    measure: u64,
+    n: u64,
+    heads: &[u64],
+    own: &[u64],
+    strikes: &mut [u64],
+    spans: &[u64],
+    tails: &[u64],
+    weights: &mut [u64],
+    depths: &mut [u64],
+    edges: &mut [u64],
+    line: u64,
+) -> u64
+    ensures { λ r.
+        let c = columns n (now (heads .entry)) (now (own .entry)) (now (strikes .entry)) (now (spans .entry)) (now (tails .entry)) in
+        let a = answers (now (weights .entry)) (now (depths .entry)) (now (edges .entry)) in
+        let a′ = answers (now (weights .exit)) (now (depths .exit)) (now (edges .exit)) in
+        ⌜ record { result = r; strikes = now (strikes .exit); left = a′ } ≡ restoredResult (measureOf measure) c a line ⌝ }
+{
+    let choice = refusal::measure_numbered(measure);
+    match choice {
+        MeasureChoice::Refused(r) => return r.result(),
+        MeasureChoice::Measure(m) => {
+            let a = reprice::restore(
+                m,
+                n,
+                heads,
+                own,
+                strikes,
                 spans,
                 tails,
                 weights,
@@ -175,13 +233,17 @@ pub extern "C" fn harness_read_table(
     text: &[u8],
     heads: &mut [u64],
     own: &mut [u64],
+    strikes: &mut [u64],
     spans: &mut [u64],
     tails: &mut [u64],
     header: &mut [u64],
 ) -> u64
-    ensures { λ r. ⌜ record { result = r; heads = now (heads .exit); own = now (own .exit); spans = now (spans .exit); tails = now (tails .exit); header = now (header .exit) } ≡ readResult (readTable (now (text .entry)) (now (heads .entry)) (now (own .entry)) (now (spans .entry)) (now (tails .entry))) (now (header .entry)) ⌝ }
+    ensures { λ r.
+        let read = readTable (now (text .entry)) (now (heads .entry)) (now (own .entry)) (now (strikes .entry)) (now (spans .entry)) (now (tails .entry)) in
+        let left = readLeft r (now (heads .exit)) (now (own .exit)) (now (strikes .exit)) (now (spans .exit)) (now (tails .exit)) (now (header .exit)) in
+        ⌜ left ≡ readResult read (now (header .entry)) ⌝ }
 {
-    let reading = readtable::read_table(text, heads, own, spans, tails);
+    let reading = readtable::read_table(text, heads, own, strikes, spans, tails);
     match reading {
         Reading::Refused(r) => return r.result(),
         Reading::Table(h) => {
@@ -197,19 +259,20 @@ pub extern "C" fn harness_write_table(
     n: u64,
     heads: &[u64],
     own: &[u64],
+    strikes: &[u64],
     spans: &[u64],
     tails: &[u64],
     room: &mut [u8],
 ) -> u64
     ensures { λ r.
-        let c = columns n (now (heads .entry)) (now (own .entry)) (now (spans .entry)) (now (tails .entry)) in
+        let c = columns n (now (heads .entry)) (now (own .entry)) (now (strikes .entry)) (now (spans .entry)) (now (tails .entry)) in
         ⌜ record { result = r; left = now (room .exit) } ≡ writtenResult (measureOf measure) c (now (room .entry)) ⌝ }
 {
     let choice = refusal::measure_numbered(measure);
     match choice {
         MeasureChoice::Refused(r) => return r.result(),
         MeasureChoice::Measure(m) => {
-            let x = writetable::write_table(m, n, heads, own, spans, tails, room);
+            let x = writetable::write_table(m, n, heads, own, strikes, spans, tails, room);
             return x.result();
         }
     }
@@ -220,17 +283,18 @@ pub extern "C" fn harness_index_table(
     n: u64,
     heads: &[u64],
     own: &[u64],
+    strikes: &[u64],
     spans: &[u64],
     tails: &[u64],
     index: &mut [u64],
     list: &mut [u64],
 ) -> u64
     ensures { λ r.
-        let c = columns n (now (heads .entry)) (now (own .entry)) (now (spans .entry)) (now (tails .entry)) in
+        let c = columns n (now (heads .entry)) (now (own .entry)) (now (strikes .entry)) (now (spans .entry)) (now (tails .entry)) in
         let x = tableIndexed c (now (index .entry)) (now (list .entry)) in
         ⌜ record { result = r; index = now (index .exit); list = now (list .exit) } ≡ indexedResult x ⌝ }
 {
-    let x = indextable::index_table(n, heads, own, spans, tails, index, list);
+    let x = indextable::index_table(n, heads, own, strikes, spans, tails, index, list);
     x.result()
 }
 
@@ -251,6 +315,7 @@ pub extern "C" fn harness_append(
     n: u64,
     heads: &mut [u64],
     own: &mut [u64],
+    strikes: &mut [u64],
     spans: &mut [u64],
     tails: &mut [u64],
     lines: u64,
@@ -262,16 +327,17 @@ pub extern "C" fn harness_append(
     list: &mut [u64],
     head: u64,
     figure: u64,
+    mark: u64,
     needed: &[u64],
     counts: &mut [u64],
 ) -> u64
     ensures { λ r.
-        let c = columns n (now (heads .entry)) (now (own .entry)) (now (spans .entry)) (now (tails .entry)) in
-        let c′ = columns n (now (heads .exit)) (now (own .exit)) (now (spans .exit)) (now (tails .exit)) in
+        let c = columns n (now (heads .entry)) (now (own .entry)) (now (strikes .entry)) (now (spans .entry)) (now (tails .entry)) in
+        let c′ = columns n (now (heads .exit)) (now (own .exit)) (now (strikes .exit)) (now (spans .exit)) (now (tails .exit)) in
         let a = answers (now (weights .entry)) (now (depths .entry)) (now (edges .entry)) in
         let a′ = answers (now (weights .exit)) (now (depths .exit)) (now (edges .exit)) in
         let k = usedCounts lines listed in
-        let l = newLine head figure (now (needed .entry)) in
+        let l = newLine head figure mark (now (needed .entry)) in
         let o = leftGrown r c′ a′ (now (index .exit)) (now (list .exit)) (now (counts .exit)) in
         ⌜ o ≡ appendedResult (measureOf measure) c k a (now (index .entry)) (now (list .entry)) l (now (counts .entry)) ⌝ }
 {
@@ -284,6 +350,7 @@ pub extern "C" fn harness_append(
                 n,
                 heads,
                 own,
+                strikes,
                 spans,
                 tails,
                 Counts {
@@ -297,6 +364,7 @@ pub extern "C" fn harness_append(
                 list,
                 Vertex(head),
                 Weight(figure),
+                Mark(mark),
                 needed,
             );
             match a {

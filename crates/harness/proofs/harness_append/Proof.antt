@@ -9,40 +9,41 @@ use Rattle.harness.proofs.harness_append.Tie as tie
 
 -- all that was lent
 abbrev tableOf : tie.Start → Columns
-tableOf c = let a = c .args in columns (a .n) (a .heads .now) (a .own .now) (a .spans .now) (a .tails .now)
+tableOf c = let a = c .args in columns (a .n) (a .heads .now) (a .own .now) (a .strikes .now) (a .spans .now) (a .tails .now)
 
 abbrev came : tie.Start → Answers
 came c = let a = c .args in answers (a .weights .now) (a .depths .now) (a .edges .now)
 
 abbrev lineOf : tie.Start → NewLine
-lineOf c = let a = c .args in newLine (a .head) (a .figure) (a .needed .now)
+lineOf c = let a = c .args in newLine (a .head) (a .figure) (a .mark) (a .needed .now)
 
 returns : tie.Need-returns
 returns c =
     let m = c .before .before .before .before in
-    let s = m .before .before .before .before .before .before .before .before .before .before .before .before in
+    let s = m .before .before .before .before .before .before .before .before .before .before .before .before .before in
     let a = s .args in
     append-measure (tableOf s) (usedCounts (a .lines) (a .listed)) (came s) (a .index .now) (a .list .now) (lineOf s) (a .counts .now)
     (sym (m .measure-numbered .ensures) ∙ c .before .before .choice .given .1) (c .result .ensures)
 
 returns-2 : tie.Need-returns-2
 returns-2 c =
-    let p = c .before .before .before .before .before .before .before .before .before .before .before .before .before .before .before .before .before .before .before .before .before .before in
-    let q = p .before .before .before .before .before .before .before .before .before .before .before in
+    let o = c .before .before in
+    let p = o .before .before .before .before .before .before .before .before .before .before .before .before .before .before .before .before .before .before .before .before .before .before in
+    let q = p .before .before .before .before .before .before .before .before .before .before .before .before in
     let m = q .before .before in
-    let s = m .before .before .before .before .before .before .before .before .before .before .before .before in
+    let s = m .before .before .before .before .before .before .before .before .before .before .before .before .before in
     let a = s .args in
     let measured = sym (m .measure-numbered .ensures) ∙ q .choice2 .given .1 in
     append-refused (tableOf s) (usedCounts (a .lines) (a .listed)) (came s) (a .index .now) (a .list .now) (lineOf s) (a .counts .now) measured
-    (p .append .ensures) (c .before .before .a .given .1) (c .result2 .ensures)
+    (p .append .ensures) (o .a .given .1) (c .result2 .ensures)
 
 returns-3 : tie.Need-returns-3
 returns-3 c =
     let o = c .before .before .before .before .before in
-    let p = o .before .before .before .before .before .before .before .before .before .before .before .before .before .before .before .before .before .before .before .before in
-    let q = p .before .before .before .before .before .before .before .before .before .before .before in
+    let p = o .before .before .before .before .before .before .before .before .before .before .before .before .before .before .before .before .before .before .before .before .before .before in
+    let q = p .before .before .before .before .before .before .before .before .before .before .before .before in
     let m = q .before .before in
-    let s = m .before .before .before .before .before .before .before .before .before .before .before .before in
+    let s = m .before .before .before .before .before .before .before .before .before .before .before .before .before in
     let a = s .args in
     let measured = sym (m .measure-numbered .ensures) ∙ q .choice2 .given .1 in
     append-counts (tableOf s) (usedCounts (a .lines) (a .listed)) (came s) (a .index .now) (a .list .now) (lineOf s) (a .counts .now) measured
@@ -96,14 +97,14 @@ same-length-8 c = search needs
 same-length-9 : tie.Need-same-length-9
 same-length-9 c = search needs
 
+same-length-10 : tie.Need-same-length-10
+same-length-10 c = search needs
+
 enum-known-a-2 : tie.Need-enum-known-a-2
 enum-known-a-2 c = search needs
 
 write-counts-requires : tie.Need-write-counts-requires
 write-counts-requires c κs = search needs
-
-same-length-10 : tie.Need-same-length-10
-same-length-10 c = search needs
 
 same-length-11 : tie.Need-same-length-11
 same-length-11 c = search needs
@@ -132,6 +133,12 @@ same-length-18 c = search needs
 same-length-19 : tie.Need-same-length-19
 same-length-19 c = search needs
 
+same-length-20 : tie.Need-same-length-20
+same-length-20 c = search needs
+
+same-length-21 : tie.Need-same-length-21
+same-length-21 c = search needs
+
 pub harness-append-spec : {M : Type 1} → statement M
 harness-append-spec =
     tie.close
@@ -153,10 +160,10 @@ harness-append-spec =
     same-length-7
     same-length-8
     same-length-9
+    same-length-10
     returns-2
     enum-known-a-2
     write-counts-requires
-    same-length-10
     same-length-11
     same-length-12
     same-length-13
@@ -166,4 +173,6 @@ harness-append-spec =
     same-length-17
     same-length-18
     same-length-19
+    same-length-20
+    same-length-21
     returns-3)

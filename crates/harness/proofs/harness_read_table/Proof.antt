@@ -5,13 +5,13 @@ use Rattle.harness.proofs.harness_read_table.Tie as tie
 
 returns : tie.Need-returns
 returns c =
-    read-refused _ (c .before .before .before .before .before .before .before .before .before .before .before .before .read-table .ensures)
+    read-refused _ (c .before .before .before .before .before .before .before .before .before .before .before .before .before .before .read-table .ensures)
     (c .before .before .reading .given .1) (c .result .ensures)
 
 returns-2 : tie.Need-returns-2
 returns-2 c =
     let p = c .before .before .before .before .before in
-    let q = p .before .before .before .before .before .before .before .before .before .before in
+    let q = p .before .before .before .before .before .before .before .before .before .before .before .before in
     read-table _ (q .read-table .ensures) (p .reading2 .given .1) (c .before .before .write-header .ensures)
 
 pub harness-read-table-spec : {M : Type 1} → statement M
@@ -25,9 +25,11 @@ harness-read-table-spec =
     (λ c. search needs)
     (λ c. search needs)
     (λ c. search needs)
+    (λ c. search needs)
     returns
     (λ c. search needs)
     (λ c κs. search needs)
+    (λ c. search needs)
     (λ c. search needs)
     (λ c. search needs)
     (λ c. search needs)
