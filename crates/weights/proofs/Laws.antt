@@ -1,6 +1,4 @@
--- The laws of a measure: its order is total; joining is monotone; within range it makes no weight better (document 000: superior), and it stays in range.
--- They are one record, and each measure is an instance of it: whatever stands on the record holds of every measure. Assumes nothing.
-use mathlib.Core.Path.{refl}
+-- The laws of a measure, of each measure. Assumes nothing.
 use Prim.Native.Nat.{ℕ, _≤_}
 use native.Mathlib.Omega.{arith}
 use lib.Dec.{leb}
@@ -26,36 +24,35 @@ upward = record {
   total = λ a b e. least (omega (arith, leb-false a b e));
 }
 
-pub below-over : {a : ℕ} → InRange cost a → a ≤ over
-below-over {a} p = leb-true a over (p .holds)
+-- in both measures a weight in range is at most "over"
+pub below-over : (m : Measure) {a : ℕ} → InRange (algebra m) a → a ≤ over
+below-over Cost {a} p = leb-true a over (p .holds)
+below-over Days {a} p = leb-true a over (p .holds)
 
-within-cost : {a : ℕ} → a ≤ over → InRange cost a
-within-cost {a} h = record { holds = le-leb a over h }
+within-over : (m : Measure) {a : ℕ} → a ≤ over → InRange (algebra m) a
+within-over Cost {a} h = record { holds = le-leb a over h }
+within-over Days {a} h = record { holds = le-leb a over h }
 
 pub cost-lawful : Lawful cost
 cost-lawful = record {
   ordered = upward;
   join-mono = λ p q. least (omega (arith, at-most p, at-most q));
-  join-left = λ b p. least (omega (arith, below-over p));
-  join-right = λ a p. least (omega (arith, below-over p));
-  join-within = λ a b. within-cost (omega arith);
-  unit-within = within-cost (omega arith);
+  join-left = λ b p q. least (omega (arith, below-over Cost p, at-most q));
+  join-right = λ a p. least (omega (arith, below-over Cost p));
   finish-mono = λ p q. least (omega (arith, at-most p, at-most q));
-  finish-superior = λ own p. least (omega (arith, below-over p));
-  finish-within = λ own a. within-cost (omega arith);
+  finish-superior = λ own p q. least (omega (arith, below-over Cost p, at-most q));
+  finish-within = λ own ws. within-over Cost (omega arith);
 }
 
 pub days-lawful : Lawful days
 days-lawful = record {
   ordered = upward;
   join-mono = λ p q. least (omega (arith, at-most p, at-most q));
-  join-left = λ b p. least (omega arith);
+  join-left = λ b p q. least (omega (arith, at-most q));
   join-right = λ a p. least (omega arith);
-  join-within = λ a b. record { holds = refl };
-  unit-within = record { holds = refl };
   finish-mono = λ p q. least (omega (arith, at-most p, at-most q));
-  finish-superior = λ own p. least (omega arith);
-  finish-within = λ own a. record { holds = refl };
+  finish-superior = λ own p q. least (omega (arith, below-over Days p, at-most q));
+  finish-within = λ own ws. within-over Days (omega arith);
 }
 
 pub lawful : (m : Measure) → Lawful (algebra m)

@@ -21,20 +21,15 @@ module _ {A : Algebra} (L : Lawful A) where
   fold-mono o Pointwise.none = o
   fold-mono o (Pointwise.more p ps) = fold-mono (L .join-mono o p) ps
 
-  fold-within : {a : ℕ} (xs : List ℕ) → InRange A a → InRange A (fold (A .join) a xs)
+  -- what is no worse than where the joining starts is no worse than the whole
+  fold-keeps : {x a : ℕ} (xs : List ℕ) → InRange A x → NoWorse (A .leq) x a → NoWorse (A .leq) x (fold (A .join) a xs)
   unfolding fold
-  fold-within [] h = h
-  fold-within {a} (x ∷ xs) h = fold-within xs (L .join-within a x)
-
-  -- where the joining starts is no worse than the whole, and so is each weight on the way
-  fold-from : {a : ℕ} (xs : List ℕ) → InRange A a → NoWorse (A .leq) a (fold (A .join) a xs)
-  unfolding fold
-  fold-from [] h = L .ordered .reflexive
-  fold-from {a} (x ∷ xs) h = L .ordered .transitive (L .join-left x h) (fold-from xs (L .join-within a x))
+  fold-keeps [] h p = p
+  fold-keeps (y ∷ xs) h p = fold-keeps xs h (L .join-left y h p)
 
   fold-superior : (a : ℕ) {x : ℕ} {xs : List ℕ} → List·Memᴰ x xs → InRange A x → NoWorse (A .leq) x (fold (A .join) a xs)
   unfolding fold
-  fold-superior a (List·Memᴰ·head {x = y} {xs = ys} e) h = rw e (L .ordered .transitive (L .join-right a (rw e at h)) (fold-from ys (L .join-within a y)))
+  fold-superior a (List·Memᴰ·head {x = y} {xs = ys} e) h = rw e (fold-keeps ys (rw e at h) (L .join-right a (rw e at h)))
   fold-superior a (List·Memᴰ·tail {x = y} i) h = fold-superior (A .join a y) i h
 
   pub weigh-mono : {own own′ : ℕ} {xs ys : List ℕ} → NoWorse (A .leq) own own′ → Pointwise A xs ys → NoWorse (A .leq) (weigh A own xs) (weigh A own′ ys)
@@ -43,9 +38,9 @@ module _ {A : Algebra} (L : Lawful A) where
 
   pub weigh-within : (own : ℕ) (xs : List ℕ) → InRange A (weigh A own xs)
   unfolding weigh
-  weigh-within own xs = L .finish-within own (fold (A .join) (A .unit) xs)
+  weigh-within own xs = L .finish-within own xs
 
   -- superiority (document 000, before Lemma 2)
   pub superior : (own : ℕ) {x : ℕ} {xs : List ℕ} → List·Memᴰ x xs → InRange A x → NoWorse (A .leq) x (weigh A own xs)
   unfolding weigh
-  superior own {x} {xs} i h = L .ordered .transitive (fold-superior (A .unit) i h) (L .finish-superior own (fold-within xs (L .unit-within)))
+  superior own i h = L .finish-superior own h (fold-superior (A .unit) i h)

@@ -1,9 +1,11 @@
--- The laws of a measure: its order is total; joining is monotone; within range it makes no weight better (document 000: superior), and it stays in range.
+-- The laws of a measure: its order is total; joining and finishing are monotone; what is in range and no worse than a weight is no worse than that weight joined or
+-- finished (document 000: superior); and a finished weight is in range.
 -- They are one record, and each measure is an instance of it: whatever stands on the record holds of every measure. Assumes nothing: these are definitions.
 use mathlib.Core.Path.{_≡_}
 use mathlib.Core.Bool.{Bool, true, false}
+use mathlib.Core.List.{List}
 use Prim.Native.Nat.{ℕ}
-use Rattle.weights.specs.Measures.{Algebra}
+use Rattle.weights.specs.Measures.{Algebra, fold}
 
 -- a is no worse than b, by the order's test
 pub record NoWorse (leq : ℕ → ℕ → Bool) (a b : ℕ) : Type 0 where
@@ -22,10 +24,8 @@ pub record Ordered (leq : ℕ → ℕ → Bool) : Type 0 where
 pub record Lawful (A : Algebra) : Type 0 where
   pub ordered : Ordered (A .leq)
   pub join-mono : {a b c d : ℕ} → NoWorse (A .leq) a b → NoWorse (A .leq) c d → NoWorse (A .leq) (A .join a c) (A .join b d)
-  pub join-left : {a : ℕ} (b : ℕ) → InRange A a → NoWorse (A .leq) a (A .join a b)
-  pub join-right : (a : ℕ) {b : ℕ} → InRange A b → NoWorse (A .leq) b (A .join a b)
-  pub join-within : (a b : ℕ) → InRange A (A .join a b)
-  pub unit-within : InRange A (A .unit)
+  pub join-left : {x a : ℕ} (b : ℕ) → InRange A x → NoWorse (A .leq) x a → NoWorse (A .leq) x (A .join a b)
+  pub join-right : (a : ℕ) {x : ℕ} → InRange A x → NoWorse (A .leq) x (A .join a x)
   pub finish-mono : {a b c d : ℕ} → NoWorse (A .leq) a b → NoWorse (A .leq) c d → NoWorse (A .leq) (A .finish a c) (A .finish b d)
-  pub finish-superior : (own : ℕ) {a : ℕ} → InRange A a → NoWorse (A .leq) a (A .finish own a)
-  pub finish-within : (own a : ℕ) → InRange A (A .finish own a)
+  pub finish-superior : (own : ℕ) {x a : ℕ} → InRange A x → NoWorse (A .leq) x a → NoWorse (A .leq) x (A .finish own a)
+  pub finish-within : (own : ℕ) (ws : List ℕ) → InRange A (A .finish own (fold (A .join) (A .unit) ws))

@@ -21,9 +21,9 @@ pub record Algebra : Type 0 where
 abbrev pub cost : Algebra
 cost = record { unit = 0; join = λ a b. capped (a + b); finish = λ own a. capped (own + a); leq = leb; within = λ a. leb a over }
 
--- days: the greatest of the own figure and the figures of the parts; the least is the best
+-- days: the own figure plus the greatest of the figures of the parts, capped; the least is the best
 abbrev pub days : Algebra
-days = record { unit = 0; join = max; finish = max; leq = leb; within = λ a. true }
+days = record { unit = 0; join = max; finish = λ own a. capped (own + a); leq = leb; within = λ a. leb a over }
 
 abbrev pub algebra : Measure → Algebra
 algebra Cost = cost

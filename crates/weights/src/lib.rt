@@ -11,7 +11,8 @@ pub struct Vertex(pub u64);
 
 pub struct Hyperedge(pub u64);
 
-// The paper's measure: by cost the figures of a make-up are added, by days the greatest counts.
+// The paper's measure: by cost a line's own figure and the figures of its parts are added, by days
+// its own figure and the greatest of its parts'.
 pub enum Measure {
     Cost,
     Days,
@@ -86,7 +87,7 @@ impl Weight {
     {
         match measure {
             Measure::Cost => self.plus(joined),
-            Measure::Days => self.greater(joined),
+            Measure::Days => self.plus(joined),
         }
     }
 

@@ -12,8 +12,8 @@ plus-requires c κs = search needs
 enum-told-2 : tie.Need-enum-told-2
 enum-told-2 c = search needs
 
-greater-requires : tie.Need-greater-requires
-greater-requires c κs = search needs
+plus-requires-2 : tie.Need-plus-requires-2
+plus-requires-2 c κs = search needs
 
 returns : tie.Need-returns
 returns c = rw (c .before .enum-told .given .1) (omega arith)
@@ -23,4 +23,4 @@ returns-2 c = rw (c .before .enum-told2 .given .1) (omega arith)
 
 pub finish-spec : {M : Type 1} → statement M
 finish-spec =
-    tie.close (tie.spec enum-told plus-requires enum-told-2 greater-requires returns returns-2)
+    tie.close (tie.spec enum-told plus-requires enum-told-2 plus-requires-2 returns returns-2)
