@@ -17,10 +17,10 @@ pub below-append : {n : ℕ} {xs ys : List ℕ} → AllBelow n xs → AllBelow n
 below-append AllBelow.none q = q
 below-append (AllBelow.more h p) q = AllBelow.more h (below-append p q)
 
-once-same : {e x : ℕ} → x ≡ e → once e x ≡ 1
+pub once-same : {e x : ℕ} → x ≡ e → once e x ≡ 1
 once-same {e} {x} q = rw (eq-eqb x e q)
 
-once-other : {e x : ℕ} → ¬ (x ≡ e) → once e x ≡ 0
+pub once-other : {e x : ℕ} → ¬ (x ≡ e) → once e x ≡ 0
 once-other {e} {x} n = rw (ne-eqb x e n)
 
 sum-zero : (n : ℕ) → sum-below (λ e. 0) n ≡ 0
@@ -73,13 +73,6 @@ module _ {own own′ : ℕ → ℕ} {e d : ℕ} (r : Raised own own′ e d) wher
 
   pub raised-more : (x : ℕ) → own x ≤ own′ x
   raised-more x = omega (arith, raised-once x)
-
-  pub raised-most : (x : ℕ) → own′ x ≤ own x + d
-  raised-most x = go (ℕ-discrete x e)
-    where
-      go : Dec (x ≡ e) → own′ x ≤ own x + d
-      go (yes q) = omega (arith, ap own q, ap own′ q, r .here)
-      go (no n) = omega (arith, r .elsewhere x n)
 
   -- a bill rises by d for each time that it has the line
   pub raised-total : (es : List ℕ) → total own′ es ≡ total own es + d * count e es

@@ -1,9 +1,12 @@
 pub mod BestFirst
+pub mod BestWeight
 pub mod Counting
+pub mod Exact
 pub mod Existence
 pub mod Local
 pub mod LowerBound
 pub mod Meaning
+pub mod Paths
 pub mod Program
 pub mod Provenance
 pub mod Semirings

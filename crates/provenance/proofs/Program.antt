@@ -46,7 +46,7 @@ module _ {A : Algebra} (C : Computes A) (H : Hypergraph) (own : ℕ → ℕ) whe
   unfolding leaves listing
   draw-node e s h ds a = record {
     tree = rule (record { edge = e; numbered = s .numbered }) (ap part h) (Proofs.more (fact (record { edge = e; stands = s }) refl) (a .trees));
-    same = ap (λ (xs : List (C .semiring .Carrier)). C .element (own e) ∷ xs) (a .same);
+    same = ap (λ (xs : List (C .base .semiring .Carrier)). C .base .element (own e) ∷ xs) (a .same);
   }
 
   mutual
@@ -86,7 +86,7 @@ module _ {A : Algebra} (C : Computes A) (H : Hypergraph) (own : ℕ → ℕ) whe
   read-rule e fs h b = record { derivation = node e (b .stands) h (b .derivations); same = b .same }
 
   read-fact : (f : Fact H) (e : ℕ) → f .edge ≡ e → Figure e (f ∷ [])
-  read-fact f e p = record { stands = subst (Stands H) p (f .stands); same = ap (λ (x : ℕ). C .element (own x) ∷ []) p }
+  read-fact f e p = record { stands = subst (Stands H) p (f .stands); same = ap (λ (x : ℕ). C .base .element (own x) ∷ []) p }
 
   mutual
     unfolding leaves listing

@@ -1,10 +1,12 @@
 -- Sensitivity: what becomes of the labels where own figures change. The same parts are unmade. In cost each part within the ceiling keeps to the bounds that its two
 -- bills set, the sums over all lines of figure × count; for one line raised by d, it rises by at least d × its count in the new bill and at most d × its count
--- in the old. In days it rises by 0 to d. The paper's demand 3. Assumes nothing.
+-- in the old. In days it rises by 0 to d, since a line stands at most once on a downward path. The paper's demand 3. Assumes nothing.
 use mathlib.Core.Path.{_≡_, refl, _∙_, ap}
 use mathlib.Core.List.{List, [], _∷_}
-use Prim.Native.Nat.{ℕ, _+_, _*_, _≤_, max}
+use Prim.Native.Nat.{ℕ, _+_, _*_, _≤_}
 use native.Mathlib.Omega.{arith}
+use native.Mathlib.Nat.{mul-zero, mul-one}
+use native.Mathlib.Decide.{ℕ-discrete}
 use Rattle.weights.specs.declared.Label.{Label}
 use Rattle.weights.specs.Figures.{capped}
 use Rattle.weights.specs.Measures.{Algebra, cost, days, fold, weigh}
@@ -12,14 +14,17 @@ use Rattle.weights.specs.Laws.{NoWorse, Lawful}
 use Rattle.weights.proofs.Laws.{least, at-most, cost-lawful, days-lawful}
 use Rattle.weights.proofs.Weighing.{no-worse-eq, Pointwise, weigh-mono}
 use Rattle.provenance.specs.Hypergraph.{Hypergraph, Derivation, Derivations, node, none, more, weight, weights, listing, listings}
-use Rattle.provenance.specs.Labelling.{Made, greatestDepth, Fixpoint}
+use Rattle.provenance.specs.Labelling.{Made, Fixpoint}
 use Rattle.provenance.specs.Means.{Follows}
 use Rattle.provenance.proofs.LowerBound.{bound}
 use Rattle.provenance.proofs.Support.{chosen, supports}
-use Rattle.provenance.proofs.Semirings.{joined, cost-computes}
-use Rattle.provenance.proofs.Provenance.{weight-capped}
+use Rattle.provenance.specs.Semirings.{long-cost, long-days}
+use Rattle.provenance.proofs.Semirings.{cost-weighs, days-weighs}
+use Rattle.provenance.proofs.Exact.{weight-capped}
+use Rattle.provenance.specs.Paths.{Greatest}
+use Rattle.provenance.proofs.Paths.{line-once, days-path}
 use Rattle.provenance.specs.Counting.{count, charge, total, Raised}
-use Rattle.provenance.proofs.Counting.{total-charge, total-append, AllBelow, below-append, raised-more, raised-most, raised-total}
+use Rattle.provenance.proofs.Counting.{total-charge, total-append, AllBelow, below-append, raised-more, raised-total}
 use Rattle.provenance.specs.Sensitivity.{MadeWithin, Exchange, CostRise, DaysRise}
 
 -- whether a part is made does not look at figures
@@ -47,16 +52,16 @@ module _ {H : Hypergraph} (own : ℕ → ℕ) where
   mutual
     unfolding weight listing total weigh
 
-    exact-total : {v : ℕ} (t : Derivation H v) → weight (joined _+_) own t ≡ total own (listing t)
-    exact-total (node e s h ds) = omega (arith, fold-total 0 (weights (joined _+_) own ds), exact-totals ds)
+    exact-total : {v : ℕ} (t : Derivation H v) → weight long-cost own t ≡ total own (listing t)
+    exact-total (node e s h ds) = omega (arith, fold-total 0 (weights long-cost own ds), exact-totals ds)
 
-    exact-totals : {vs : List ℕ} (ds : Derivations H vs) → total (λ w. w) (weights (joined _+_) own ds) ≡ total own (listings ds)
+    exact-totals : {vs : List ℕ} (ds : Derivations H vs) → total (λ w. w) (weights long-cost own ds) ≡ total own (listings ds)
     exact-totals none = refl
     exact-totals (more d ds) = omega (arith, exact-total d, exact-totals ds, total-append own (listing d) (listings ds))
 
   -- a cost is what its bill costs, capped
   pub cost-total : {v : ℕ} (t : Derivation H v) → weight cost own t ≡ capped (total own (listing t))
-  cost-total t = weight-capped cost-computes H own t ∙ ap capped (exact-total t)
+  cost-total t = weight-capped cost-weighs H own t ∙ ap capped (exact-total t)
 
 module _ {H : Hypergraph} {own : ℕ → ℕ} {ls : ℕ → Label} (fix : Fixpoint cost H own ls) {v : ℕ} where
   -- a figure within the ceiling is what the bill costs
@@ -105,28 +110,39 @@ module _ {A : Algebra} (L : Lawful A) {H : Hypergraph} (own own′ : ℕ → ℕ
       let t = chosen L fix′ v a in
       L .ordered .transitive (bound L fix (t .tree) .low) (L .ordered .transitive (weight-mono (t .tree)) (no-worse-eq L (supports L fix′ (t .tree) (t .follows) .weighs)))
 
--- in days no weight rises by more than d
-fold-greatest : (a : ℕ) (xs : List ℕ) → fold max a xs ≡ max a (greatestDepth (λ x. x) xs)
-unfolding fold greatestDepth
-fold-greatest a [] = omega arith
-fold-greatest a (x ∷ xs) = omega (arith, fold-greatest (max a x) xs)
+-- a figure in days is the exact one, capped
+pub days-total : {H : Hypergraph} (own : ℕ → ℕ) {v : ℕ} (t : Derivation H v) → weight days own t ≡ capped (weight long-days own t)
+days-total {H} own t = weight-capped days-weighs H own t
+
+-- and so the greatest that the own figures along a path come to, capped
+pub days-along : {H : Hypergraph} (own : ℕ → ℕ) {v : ℕ} (t : Derivation H v) → Greatest (λ es. capped (total own es)) t (weight days own t)
+days-along own t =
+    let p = days-path own t in
+    let e = days-total own t in
+    record { lines = p .lines; path = p .path; reached = omega (arith, p .reached, e); most = λ es q. omega (arith, p .most es q, e) }
+
+times-once : (d k : ℕ) → k ≤ 1 → d * k ≤ d
+times-once d k h = go (ℕ-discrete k 0)
+  where
+    go : Dec (k ≡ 0) → d * k ≤ d
+    go (yes z) = omega (arith, ap (λ (x : ℕ). d * x) z ∙ mul-zero d)
+    go (no n) = let z : k ≡ 1 = omega arith in omega (arith, ap (λ (x : ℕ). d * x) z ∙ mul-one d)
 
 module _ {H : Hypergraph} {own own′ : ℕ → ℕ} {e d : ℕ} (r : Raised own own′ e d) where
-  mutual
-    unfolding weight weigh greatestDepth
+  -- in days a make-up rises along each path by d for each time that the line stands there: at most once in a chosen one
+  days-most : {ls : ℕ → Label} → Fixpoint days H own ls → {v : ℕ} (t : Derivation H v) → Follows ls t → weight long-days own′ t ≤ weight long-days own t + d
+  days-most fix t f =
+      let p = days-path own′ t in
+      let c = line-once days-lawful fix t f (p .lines) (p .path) e in
+      omega (arith, p .reached, days-path own t .most (p .lines) (p .path), raised-total r (p .lines), times-once d (count e (p .lines)) c)
 
-    days-most : {v : ℕ} (t : Derivation H v) → weight days own′ t ≤ weight days own t + d
-    days-most (node e s h ds) = omega (arith, raised-most r e, fold-greatest 0 (weights days own ds), fold-greatest 0 (weights days own′ ds), all-days-most ds)
-
-    all-days-most : {vs : List ℕ} (ds : Derivations H vs) → greatestDepth (λ x. x) (weights days own′ ds) ≤ greatestDepth (λ x. x) (weights days own ds) + d
-    all-days-most none = omega arith
-    all-days-most (more t ds) = omega (arith, days-most t, all-days-most ds)
-
-  pub days-rise : {ls ls′ : ℕ → Label} → Fixpoint days H own ls → Fixpoint days H own′ ls′ → (v : ℕ) → Made (ls v) → DaysRise d (ls v .weight .0) (ls′ v .weight .0)
-  days-rise {ls} {ls′} fix fix′ v a =
-      let t = chosen days-lawful fix v a in
-      let b = bound days-lawful fix′ (t .tree) in
+  pub days-rise : {ls ls′ : ℕ → Label} → Fixpoint days H own ls → Fixpoint days H own′ ls′ → (v : ℕ) → MadeWithin (ls v) → MadeWithin (ls′ v)
+      → DaysRise d (ls v .weight .0) (ls′ v .weight .0)
+  days-rise {ls} {ls′} fix fix′ v a a′ =
+      let t = chosen days-lawful fix v (a .made) in
+      let s = supports days-lawful fix (t .tree) (t .follows) .weighs in
+      let b = bound days-lawful fix′ (t .tree) .low in
       record {
-        least = at-most (label-mono days-lawful own own′ (λ x. least (raised-more r x)) fix fix′ v (b .made));
-        most = omega (arith, at-most (b .low), days-most (t .tree), supports days-lawful fix (t .tree) (t .follows) .weighs);
+        least = at-most (label-mono days-lawful own own′ (λ x. least (raised-more r x)) fix fix′ v (a′ .made));
+        most = omega (arith, a .low, s, at-most b, days-most fix (t .tree) (t .follows), days-total own (t .tree), days-total own′ (t .tree));
       }

@@ -6,6 +6,8 @@ pub mod BestFirst
 pub mod Semirings
 pub mod Program
 pub mod Provenance
+pub mod BestWeight
 pub mod Counting
+pub mod Paths
 pub mod Sensitivity
 pub mod Local

@@ -25,20 +25,20 @@ pub record Rule (H : Hypergraph) : Type 0 where
 
 module _ {A : Algebra} (C : Computes A) (H : Hypergraph) (own : ℕ → ℕ) where
   -- the program that a table is
-  abbrev pub program : Program (C .semiring)
+  abbrev pub program : Program (C .base .semiring)
   program = record {
     Atom = Atom;
     Fact = Fact H;
     states = λ f. figure (f .edge);
-    annotation = λ f. C .element (own (f .edge));
+    annotation = λ f. C .base .element (own (f .edge));
     Rule = Rule H;
     head = λ r. part (H .head (r .edge));
     body = λ r. figure (r .edge) ∷ map part (H .tail (r .edge));
   }
 
   -- the annotations of the leaves, and the own weights of a listing
-  abbrev pub Annotations : List (Fact H) → List (C .semiring .Carrier)
-  Annotations fs = map (λ (f : Fact H). C .element (own (f .edge))) fs
+  abbrev pub Annotations : List (Fact H) → List (C .base .semiring .Carrier)
+  Annotations fs = map (λ (f : Fact H). C .base .element (own (f .edge))) fs
 
-  abbrev pub Owns : List ℕ → List (C .semiring .Carrier)
-  Owns es = map (λ (e : ℕ). C .element (own e)) es
+  abbrev pub Owns : List ℕ → List (C .base .semiring .Carrier)
+  Owns es = map (λ (e : ℕ). C .base .element (own e)) es

@@ -1,6 +1,6 @@
--- Provenance: the figure of a part is Definition 5's provenance, the sum over derivations of the product over leaves, of the program that the table is, in the
--- tropical semiring for cost and in the bottleneck semiring for days (document 000, Definitions 5 and 8, Theorems 13 and 14). In cost a provenance above the
--- ceiling becomes "over". A part is unmade exactly if the sum is empty. Assumes nothing: these are definitions.
+-- Provenance: the cost of a part is Definition 5's provenance, the sum over derivations of the product over leaves, of the program that the table is, in the
+-- tropical semiring (document 000, Definitions 5 and 8, Theorems 13 and 14). A provenance above the ceiling becomes "over". A part is unmade exactly if the sum is
+-- empty. Assumes nothing: these are definitions.
 use mathlib.Core.Path.{_≡_}
 use Prim.Native.Nat.{ℕ}
 use Rattle.semiring.specs.Datalog.{Provenance}
@@ -15,5 +15,5 @@ use Rattle.provenance.specs.Program.{part, program}
 module _ {A : Algebra} (C : Computes A) (H : Hypergraph) (own : ℕ → ℕ) (l : Label) (v : ℕ) where
   -- the label of v is unmade and the sum is empty, or its figure is the provenance of v, up to the ceiling
   pub data HasProvenance : Type 0 where
-    empty : l ≡ unmade → ¬ Derivation H v → Provenance (program C H own) (part v) (C .semiring .nought) → HasProvenance
-    worth : (x : ℕ) → Made l → Provenance (program C H own) (part v) (C .element x) → l .weight .0 ≡ C .cap x → HasProvenance
+    empty : l ≡ unmade → ¬ Derivation H v → Provenance (program C H own) (part v) (C .base .semiring .nought) → HasProvenance
+    worth : (x : ℕ) → Made l → Provenance (program C H own) (part v) (C .base .element x) → l .weight .0 ≡ C .base .cap x → HasProvenance

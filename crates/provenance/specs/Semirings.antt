@@ -1,14 +1,23 @@
--- The semiring in which a measure computes: cost in the tropical semiring, up to the ceiling, and days in the bottleneck semiring. A measure's exact algebra is
+-- The semiring in which a measure weighs: cost in the tropical semiring and days in the bottleneck semiring, both up to the ceiling. A measure's exact algebra is
 -- the one without a ceiling. Assumes nothing: these are definitions.
 use mathlib.Core.Path.{_≡_}
+use mathlib.Core.Bool.{true}
 use mathlib.Core.List.{List, map}
-use Prim.Native.Nat.{ℕ}
+use Prim.Native.Nat.{ℕ, _+_, max}
+use lib.Dec.{leb}
 use Rattle.semiring.specs.Semiring.{Semiring, Below, product}
 use Rattle.weights.specs.Measures.{Algebra, weigh}
 use Rattle.weights.specs.Laws.{NoWorse, Lawful}
 
--- A computes in a semiring: a weight of A is the capped weight of the exact algebra, whose weights are products in the semiring
-pub record Computes (A : Algebra) : Type 1 where
+-- the exact algebras: cost and days without a ceiling
+abbrev pub long-cost : Algebra
+long-cost = record { unit = 0; join = _+_; finish = _+_; leq = leb; within = λ a. true }
+
+abbrev pub long-days : Algebra
+long-days = record { unit = 0; join = max; finish = _+_; leq = leb; within = λ a. true }
+
+-- how A weighs: a weight of A is the capped weight of the exact algebra, and that is, in a semiring, Definition 7's weight function of a line of this own weight
+pub record Weighs (A : Algebra) : Type 1 where
   pub exact : Algebra
   pub lawful : Lawful exact
   pub cap : ℕ → ℕ
@@ -17,4 +26,10 @@ pub record Computes (A : Algebra) : Type 1 where
   pub semiring : Semiring
   pub element : ℕ → semiring .Carrier
   pub element-below : {a b : ℕ} → NoWorse (exact .leq) a b → Below semiring (element a) (element b)
-  pub times : (own : ℕ) (ws : List ℕ) → element (weigh exact own ws) ≡ semiring .times (element own) (product semiring (map element ws))
+  pub function : ℕ → List (semiring .Carrier) → semiring .Carrier
+  pub weighs : (own : ℕ) (ws : List ℕ) → element (weigh exact own ws) ≡ function own (map element ws)
+
+-- A computes in the semiring: the weight function is the product
+pub record Computes (A : Algebra) : Type 1 where
+  pub base : Weighs A
+  pub times : (own : ℕ) (xs : List (base .semiring .Carrier)) → base .function own xs ≡ base .semiring .times (base .element own) (product (base .semiring) xs)

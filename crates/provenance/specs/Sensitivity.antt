@@ -1,6 +1,6 @@
 -- Sensitivity: what becomes of the labels where own figures change. The same parts are unmade. In cost each part within the ceiling keeps to the bounds that its two
 -- bills set, the sums over all lines of figure × count; for one line raised by d, it rises by at least d × its count in the new bill and at most d × its count
--- in the old. In days it rises by 0 to d. The paper's demand 3. Assumes nothing: these are definitions.
+-- in the old. In days it rises by 0 to d, since a line stands at most once on a downward path. The paper's demand 3. Assumes nothing: these are definitions.
 use mathlib.Core.Path.{_≡_}
 use mathlib.Core.List.{List}
 use Prim.Native.Nat.{ℕ, _+_, _*_, _≤_}
