@@ -11,11 +11,12 @@ use lib.Dec.{eqb}
 use borrow.Author.Tests.{eq-eqb, ne-eqb, eqb-true, eqb-false}
 use Rattle.weights.specs.Lists.{member}
 use Rattle.weights.specs.declared.Measure.{Measure}
-use Rattle.weights.specs.declared.Measure.the-variants.{Cost, Days}
 use Rattle.weights.specs.declared.Offer.{Offer}
 use Rattle.weights.specs.declared.Offer.the-variants.{Nothing, Found}
 use Rattle.weights.specs.Choice.{pick}
-use Rattle.weights.specs.Measures.{Algebra, algebra, fold, weigh}
+use Rattle.weights.specs.Measures.{Algebra, algebra, weigh}
+use Rattle.weights.proofs.Laws.{lawful, below-over}
+use Rattle.weights.proofs.Weighing.{weigh-within}
 use Rattle.provenance.specs.Hypergraph.{Hypergraph}
 use Rattle.provenance.specs.Labelling.{each, greatestDepth, noneZero, yield, offerOf}
 use Rattle.provenance.specs.BestFirst.{opening, next}
@@ -199,23 +200,15 @@ open-made A H own w d e n = rw (ne-eqb _ _ n)
 
 -- Numbers that fit ----------------------------------------------------------------------------------------------------------------------------------
 
-fold-below : (m : Measure) (w : ℕ → ℕ) → ((v : ℕ) → w v < heavy) → (j : ℕ) (vs : List ℕ) → j < heavy → fold (algebra m .join) j (each w vs) < heavy
-unfolding fold each
-fold-below m w f j [] h = h
-fold-below Cost w f j (v ∷ vs) h = fold-below Cost w f _ vs (omega arith)
-fold-below Days w f j (v ∷ vs) h = fold-below Days w f _ vs (omega (arith, f v))
+weigh-below : (m : Measure) (own : ℕ) (ws : List ℕ) → weigh (algebra m) own ws < heavy
+weigh-below m own ws = omega (arith, below-over m (weigh-within (lawful m) own ws))
 
-weigh-below : (m : Measure) (w : ℕ → ℕ) → ((v : ℕ) → w v < heavy) → (own : ℕ) (vs : List ℕ) → own < heavy → weigh (algebra m) own (each w vs) < heavy
-unfolding weigh
-weigh-below Cost w f own vs h = omega (arith, fold-below Cost w f 0 vs (omega arith))
-weigh-below Days w f own vs h = omega (arith, fold-below Days w f 0 vs (omega arith))
-
-pub open-fits : (m : Measure) (H : Hypergraph) (own w d : ℕ → ℕ) (e : ℕ) → Fitted w d → own e < heavy → e < 4096 → Fitting (opening (algebra m) H own w d e)
+pub open-fits : (m : Measure) (H : Hypergraph) (own w d : ℕ → ℕ) (e : ℕ) → Fitted w d → e < 4096 → Fitting (opening (algebra m) H own w d e)
 unfolding opening offerOf
-open-fits m H own w d e f o h = go (eqb (d (H .head e)) 0) (H .live e) (noneZero d (H .tail e))
+open-fits m H own w d e f h = go (eqb (d (H .head e)) 0) (H .live e) (noneZero d (H .tail e))
   where
     fits : Fits (yield (algebra m) (own e) (H .tail e) w d e)
-    fits = record { weight = weigh-below m w (f .weight) (own e) (H .tail e) o; depth = omega (arith, greatest-at-most d 2046 (f .depth) (H .tail e)); edge = h }
+    fits = record { weight = weigh-below m (own e) (each w (H .tail e)); depth = omega (arith, greatest-at-most d 2046 (f .depth) (H .tail e)); edge = h }
 
     go : (p q r : Bool) → Fitting (pick p (pick q (pick r (Found (yield (algebra m) (own e) (H .tail e) w d e)) Nothing) Nothing) Nothing)
     go false q r = nothing

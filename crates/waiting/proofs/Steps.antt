@@ -92,7 +92,7 @@ module _ {c : Columns} {ws ds q : List ℕ} (r : Offerable c ws ds q) (e : ℕ) 
   passable = record { legible = edge-in (r .usable) e h .legible; light = r .fitted .weight; short = omega (arith, tail-length, short) }
 
   pub edge-fits : (m : Measure) → Fitting (opening (algebra m) (hypergraph c) (cell (c .own)) (cell ws) (cell ds) e)
-  edge-fits m = open-fits m (hypergraph c) (cell (c .own)) (cell ws) (cell ds) e (r .fitted) (omega (arith, table-accepted c (r .usable .accepted) .each e h .1 .own)) edge-few
+  edge-fits m = open-fits m (hypergraph c) (cell (c .own)) (cell ws) (cell ds) e (r .fitted) edge-few
 
 pub found-fits : {l : Label} {o : Offer} → Fitting o → Found l ≡ o → Fits l
 found-fits nothing p = absurd (let z : _≡_ {A = ℕ} 0 1 = cc in omega arith)
