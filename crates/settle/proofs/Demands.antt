@@ -5,8 +5,10 @@ use Prim.Native.Nat.{ℕ, _≤_}
 use native.Mathlib.Omega.{arith}
 use borrow.Author.Tests.{eq-eqb}
 use Rattle.weights.specs.declared.Measure.{Measure}
+use Rattle.weights.specs.declared.Measure.the-variants.{Cost, Days}
 use Rattle.weights.specs.Measures.{algebra}
-use Rattle.weights.proofs.Laws.{lawful}
+use Rattle.weights.proofs.Laws.{lawful, cost-lawful, days-lawful}
+use Rattle.weights.specs.declared.Label.{Label}
 use Rattle.refusal.specs.declared.Acceptance.{Acceptance}
 use Rattle.refusal.specs.declared.Acceptance.the-variants.{Accepted, Refused}
 use Rattle.refusal.specs.declared.Refusal.{Refusal}
@@ -17,8 +19,9 @@ use Rattle.provenance.proofs.Meaning.{meaning}
 use Rattle.columns.specs.Columns.{Answers, Sized, Columns, ownAt}
 use Rattle.provenance.specs.BestFirst.{labels}
 use Rattle.provenance.proofs.Existence.{exists, exists-sized, exists-shallow}
-use Rattle.provenance.proofs.Semirings.{computes}
+use Rattle.provenance.proofs.Semirings.{cost-computes, days-weighs}
 use Rattle.provenance.proofs.Provenance.{provenance}
+use Rattle.provenance.proofs.BestWeight.{best-weight}
 use Rattle.tables.specs.Table.{hypergraph}
 use Rattle.columns.specs.Acceptance.{acceptance, lentAcceptance}
 use Rattle.columns.proofs.Accepted.{columns-accepted}
@@ -27,7 +30,7 @@ use Rattle.columns.specs.Same.{sameAnswers}
 use Rattle.columns.proofs.Same.{same-refl, same-true}
 use Rattle.settle.specs.Settling.{answersOf, outcome, settled}
 use Rattle.settle.specs.Checking.{verdict, checked}
-use Rattle.settle.specs.Demands.{Demand2}
+use Rattle.settle.specs.Demands.{Worth, Demand2}
 
 module _ (m : Measure) (c : Columns) (p : acceptance c ≡ Accepted) where
   pub answers-fixpoint : Fixpoint (algebra m) (hypergraph c) (ownAt c) (labels (answersOf m c))
@@ -42,13 +45,17 @@ module _ (m : Measure) (c : Columns) (p : acceptance c ≡ Accepted) where
   unfolding answersOf
   answers-shallow = exists-shallow (lawful m) (ownAt c) (well-formed c p)
 
+  fixpoint-worth : (k : Measure) {ls : ℕ → Label} → Fixpoint (algebra k) (hypergraph c) (ownAt c) ls → (v : ℕ) → Worth k c (ls v) v
+  fixpoint-worth Cost fix v = provenance cost-computes (hypergraph c) (ownAt c) cost-lawful (well-formed c p) fix v
+  fixpoint-worth Days fix v = best-weight days-weighs (hypergraph c) (ownAt c) days-lawful (well-formed c p) fix v
+
   -- the answers of an accepted table
   pub answers-mean : (v : ℕ) → Demand2 m c (labels (answersOf m c)) v
   answers-mean v =
       let fix = answers-fixpoint in
       record {
         means = meaning (lawful m) fix v;
-        worth = provenance (computes m) (hypergraph c) (ownAt c) (lawful m) (well-formed c p) fix v;
+        worth = fixpoint-worth m fix v;
         chosen = chosen (lawful m) fix v;
         supports = λ k. let t = chosen (lawful m) fix v k in supports (lawful m) fix (t .tree) (t .follows);
         shallow = answers-shallow v;
