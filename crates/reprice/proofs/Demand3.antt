@@ -13,9 +13,9 @@ use Rattle.weights.specs.declared.Measure.the-variants.{Cost, Days}
 use Rattle.weights.specs.declared.State.the-variants as state
 use Rattle.weights.specs.declared.Label.{Label}
 use Rattle.weights.specs.Figures.{greatest, over, isStruckMark}
-use Rattle.weights.specs.Measures.{algebra, cost}
+use Rattle.weights.specs.Measures.{algebra}
 use Rattle.weights.specs.Labels.{entryOf}
-use Rattle.weights.proofs.Laws.{lawful, cost-lawful, below-over}
+use Rattle.weights.proofs.Laws.{lawful, below-over}
 use Rattle.refusal.specs.declared.Acceptance.the-variants.{Accepted}
 use Rattle.provenance.specs.Hypergraph.{Hypergraph, Derivation, listing}
 use Rattle.provenance.specs.Labelling.{Made, Fixpoint}
@@ -66,18 +66,18 @@ record Told (l : Label) : Type 0 where
 made-told : (l : Label) → entryOf l .state ≡ state.Made → Told l
 made-told l p = let t = made-state (l .weight .0) (l .depth) .0 p in record { deep = t .0; low = t .1 }
 
-within : {H : Hypergraph} {own : ℕ → ℕ} {ls : ℕ → Label} → Fixpoint cost H own ls → (v : ℕ) → Told (ls v) → MadeWithin (ls v)
-within {ls = ls} fix v t =
+within : (m : Measure) {H : Hypergraph} {own : ℕ → ℕ} {ls : ℕ → Label} → Fixpoint (algebra m) H own ls → (v : ℕ) → Told (ls v) → MadeWithin (ls v)
+within m {ls = ls} fix v t =
     let k : Made (ls v) = record { deep = t .deep } in
     let n : ¬ (ls v .weight .0 ≡ over) = t .low in
-    record { made = k; low = omega (arith, below-over (label-within cost-lawful fix v k)) }
+    record { made = k; low = omega (arith, below-over m (label-within (lawful m) fix v k)) }
 
 -- the rise of one part, over one hypergraph
 rise-of : (m : Measure) {H : Hypergraph} {own own′ : ℕ → ℕ} {ls ls′ : ℕ → Label} {e d : ℕ} → Fixpoint (algebra m) H own ls → Fixpoint (algebra m) H own′ ls′ → Raised own own′ e d
     → (v : ℕ) → Told (ls v) → Told (ls′ v) → (t : Derivation H v) → Follows ls t → (t′ : Derivation H v) → Follows ls′ t′
     → Rise m d (ls v .weight .0) (ls′ v .weight .0) (count e (listing t)) (count e (listing t′))
-rise-of Cost fix fix′ r v k k′ t f t′ f′ = cost-rise fix fix′ (within fix v k) (within fix′ v k′) t t′ f f′ r
-rise-of Days fix fix′ r v k k′ t f t′ f′ = days-rise r fix fix′ v (record { deep = k .deep })
+rise-of Cost fix fix′ r v k k′ t f t′ f′ = cost-rise fix fix′ (within Cost fix v k) (within Cost fix′ v k′) t t′ f f′ r
+rise-of Days fix fix′ r v k k′ t f t′ f′ = days-rise r fix fix′ v (within Days fix v k) (within Days fix′ v k′)
 
 module _ (m : Measure) (c : Columns) (e d : ℕ) (p : Pair c (withOwn c e (ownAt c e + d)) e d) where
   abbrev new : Columns
