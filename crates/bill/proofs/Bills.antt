@@ -8,6 +8,8 @@ use native.Mathlib.Omega.{arith}
 use lib.ListN.{length, drop}
 use borrow.Author.Tests.{ltb-true}
 use Rattle.weights.specs.declared.Measure.{Measure}
+use Rattle.weights.specs.declared.Measure.the-variants.{Cost, Days}
+use Rattle.weights.specs.declared.Label.{Label}
 use Rattle.weights.specs.Measures.{algebra}
 use Rattle.weights.proofs.Laws.{lawful}
 use Rattle.refusal.specs.declared.Refusal.{Refusal}
@@ -19,7 +21,10 @@ use Rattle.provenance.specs.Labelling.{Made, Fixpoint}
 use Rattle.provenance.specs.Means.{Follows}
 use Rattle.columns.specs.Columns.{Answers, Columns, ownAt}
 use Rattle.provenance.specs.BestFirst.{labels}
+use Rattle.provenance.specs.Support.{ChosenDerivation}
 use Rattle.provenance.proofs.Support.{follows-bill, chosen, supports}
+use Rattle.provenance.specs.Paths.{Greatest}
+use Rattle.provenance.proofs.Sensitivity.{cost-total, days-along}
 use Rattle.provenance.specs.Counting.{count}
 use Rattle.tables.specs.Table.{hypergraph}
 use Rattle.columns.proofs.Accepted.{AcceptedColumns, columns-accepted, both-accepted, test-passed}
@@ -28,8 +33,8 @@ use Rattle.settle.specs.Settling.{answersOf}
 use Rattle.settle.proofs.Demands.{answers-fixpoint}
 use Rattle.bill.specs.Billing.{billOf, partAcceptance, billAcceptance, outcome, billed}
 use Rattle.bill.specs.Listing.{amount}
-use Rattle.bill.proofs.Listing.{listing-nodes, listing-uses, listing-amount}
-use Rattle.bill.specs.Bills.{IsBill, Printed}
+use Rattle.bill.proofs.Listing.{listing-nodes, listing-uses}
+use Rattle.bill.specs.Bills.{BillWorth, IsBill, Printed}
 
 -- a part whose bill can be asked for
 pub record AcceptedPart (m : Measure) (c : Columns) (a : Answers) (v : ℕ) : Type 0 where
@@ -53,6 +58,13 @@ part-accepted m c a v p =
       made = record { deep = ltb-true _ _ (t3 .0) };
     }
 
+-- a list that the chosen make-up has comes to the figure that its label has
+bill-worth : (m : Measure) (c : Columns) {ls : ℕ → Label} {v : ℕ} {es : List ℕ} → Fixpoint (algebra m) (hypergraph c) (ownAt c) ls
+    → ((t : Derivation (hypergraph c) v) → Follows ls t → es ≡ listing t) → ChosenDerivation (hypergraph c) ls v → BillWorth m c ls v es
+bill-worth Cost c fix lists t =
+    ap (amount (ownAt c)) (lists (t .tree) (t .follows)) ∙ sym (cost-total (ownAt c) (t .tree)) ∙ supports (lawful Cost) fix (t .tree) (t .follows) .weighs
+bill-worth Days c fix lists t = λ u f. subst (Greatest (amount (ownAt c)) u) (supports (lawful Days) fix u f .weighs) (days-along (ownAt c) u)
+
 module _ {m : Measure} {c : Columns} {a : Answers} {v : ℕ} (p : AcceptedPart m c a v) where
   bill-lists : (t : Derivation (hypergraph c) v) → Follows (labels a) t → billOf c a v ≡ listing t
   unfolding billOf
@@ -66,7 +78,7 @@ module _ {m : Measure} {c : Columns} {a : Answers} {v : ℕ} (p : AcceptedPart m
         lists = bill-lists;
         long = λ u f. ap length (bill-lists u f) ∙ listing-nodes u;
         counts = λ u f e. ap (count e) (bill-lists u f) ∙ listing-uses e u;
-        worth = ap (amount m (ownAt c)) (bill-lists (t .tree) (t .follows)) ∙ sym (listing-amount (ownAt c) m (t .tree)) ∙ supports (lawful m) (p .fixed) (t .tree) (t .follows) .weighs;
+        worth = bill-worth m c (p .fixed) bill-lists t;
       }
 
 module _ (m : Measure) (c : Columns) (a : Answers) (v : ℕ) (room : List ℕ) where

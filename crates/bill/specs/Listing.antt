@@ -1,12 +1,9 @@
--- Counts of a make-up: its nodes, and how often a line stands in it. And what own figures along a bill come to: in cost their sum, capped, in days the greatest of
--- them. The paper's "Make-ups, figures, depth" (Cost, Days), said of bills. Assumes nothing: these are definitions.
+-- Counts of a make-up: its nodes, and how often a line stands in it. And what own figures along a list of lines come to. The paper's "Make-ups, figures, depth"
+-- (Cost, Days), said of bills. Assumes nothing: these are definitions.
 use mathlib.Core.List.{List}
 use Prim.Native.Nat.{ℕ, _+_}
-use Rattle.weights.specs.declared.Measure.{Measure}
-use Rattle.weights.specs.declared.Measure.the-variants.{Cost, Days}
 use Rattle.weights.specs.Figures.{capped}
 use Rattle.provenance.specs.Hypergraph.{Hypergraph, Derivation, Derivations, node, none, more}
-use Rattle.provenance.specs.Labelling.{greatestDepth as greatestOf}
 use Rattle.provenance.specs.Counting.{once, total}
 
 module _ {H : Hypergraph} where
@@ -28,7 +25,6 @@ module _ {H : Hypergraph} where
     allUses x none = 0
     allUses x (more d ds) = uses x d + allUses x ds
 
--- what the own figures along a bill come to
-abbrev pub amount : Measure → (own : ℕ → ℕ) → List ℕ → ℕ
-amount Cost own es = capped (total own es)
-amount Days own es = greatestOf own es
+-- what the own figures along a list of lines come to: their sum, capped
+abbrev pub amount : (own : ℕ → ℕ) → List ℕ → ℕ
+amount own es = capped (total own es)
