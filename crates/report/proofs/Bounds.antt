@@ -1,6 +1,6 @@
 -- How long the pieces of an output can be: a number by its digits, a row by the range of a table's answers, the line of a refusal by the range of its place.
 -- Assumes nothing.
-use Prim.Native.Nat.{ℕ, zero, suc, _+_, _*_, _/_, _≤_, _<_, max}
+use Prim.Native.Nat.{ℕ, zero, suc, _+_, _*_, _/_, _≤_, _<_}
 use mathlib.Core.Path.{_≡_, refl, sym, _∙_, subst}
 use mathlib.Core.List.{List, [], _∷_, _++_}
 use mathlib.Core.Bool.{Bool, true, false}
@@ -12,16 +12,17 @@ use borrow.Author.Tests.{ltb-true, ltb-false, ne-eqb}
 use Rattle.weights.specs.declared.Label.{Label}
 use Rattle.weights.specs.declared.Entry.{Entry}
 use Rattle.weights.specs.declared.Measure.{Measure}
-use Rattle.weights.specs.declared.Measure.the-variants.{Cost, Days}
 use Rattle.weights.specs.declared.State.{State}
 use Rattle.weights.specs.Figures.{over, isOver}
 use Rattle.weights.specs.Labels.{unmade, stateOf, entryOf}
-use Rattle.weights.specs.Measures.{days, algebra, fold, weigh}
+use Rattle.weights.specs.Measures.{algebra}
+use Rattle.weights.proofs.Laws.{lawful, below-over}
+use Rattle.weights.proofs.Weighing.{weigh-within}
 use Rattle.refusal.specs.declared.Refusal.{Refusal}
 use Rattle.refusal.specs.declared.Acceptance.the-variants.{Accepted}
 use Rattle.refusal.specs.Refusals.{numberOf, placeOf}
 use Rattle.refusal.proofs.Refusals.{numbered}
-use Rattle.provenance.specs.Hypergraph.{Derivation, Derivations, node, none, more, weight, weights, root}
+use Rattle.provenance.specs.Hypergraph.{Derivation, node, weight, weights, root}
 use Rattle.provenance.specs.Means.{Means, underivable, derivable}
 use Rattle.columns.specs.Columns.{Answers, Columns, ownAt}
 use Rattle.provenance.specs.BestFirst.{labels}
@@ -71,25 +72,11 @@ width-13 v h = width-below 12 v h
 
 -- The answers of a table -----------------------------------------------------------------------------------------------------------------------
 
-module _ (c : Columns) (p : acceptance c ≡ Accepted) where
-  own-most : (e : ℕ) → e < length (c .heads) → ownAt c e ≤ over
-  own-most e h = let o = table-accepted c p .each e h .1 .own in omega arith
-
-  -- in days no make-up is over
-  mutual
-    unfolding weight weigh fold
-
-    days-most : {v : ℕ} (d : Derivation (hypergraph c) v) → weight days (ownAt c) d ≤ over
-    days-most (node e s h ds) = let o = own-most e (s .numbered) in let r = all-most 0 (omega arith) ds in omega arith
-
-    all-most : (a : ℕ) → a ≤ over → {vs : List ℕ} (ds : Derivations (hypergraph c) vs) → fold max a (weights days (ownAt c) ds) ≤ over
-    all-most a h none = h
-    all-most a h (more d ds) = let w = days-most d in all-most (max a (weight days (ownAt c) d)) (omega arith) ds
-
+module _ (c : Columns) where
+  -- in either measure a make-up's figure is at most "over"
   weight-most : (m : Measure) {v : ℕ} (d : Derivation (hypergraph c) v) → weight (algebra m) (ownAt c) d ≤ over
-  unfolding weight weigh
-  weight-most Cost (node e s h ds) = omega arith
-  weight-most Days d = days-most d
+  unfolding weight
+  weight-most m (node e s h ds) = below-over m (weigh-within (lawful m) (ownAt c e) (weights (algebra m) (ownAt c) ds))
 
   root-below : {v : ℕ} (d : Derivation (hypergraph c) v) → root d < length (c .heads)
   unfolding root
@@ -112,9 +99,9 @@ answers-ranged m c p v = go (answers-mean m c p v .means)
     go : Means (algebra m) (hypergraph c) (ownAt c) (labels (answersOf m c) v) v → Ranged (labels (answersOf m c) v)
     go (underivable e n) = subst Ranged (sym e) ranged-unmade
     go (derivable d) = record {
-      weight = let w = weight-most c p m (d .shown) in let e = d .weighs in omega arith;
+      weight = let w = weight-most c m (d .shown) in let e = d .weighs in omega arith;
       depth = let s = answers-mean m c p v .shallow in let f = table-accepted c p .few in omega arith;
-      edge = let r = root-below c p (d .shown) in let e = d .rooted in let f = table-accepted c p .edges in omega arith;
+      edge = let r = root-below c (d .shown) in let e = d .rooted in let f = table-accepted c p .edges in omega arith;
       blank = answers-fixpoint m c p .blank v;
     }
 
