@@ -36,8 +36,8 @@ cases =
     -- P3: line 1 repriced to 500; part 3 rises from 2600 to 3100, between 2 × 200 and 3 × 200
     ∷ reprices Cost worked five 1 500 (1200 ∷ 500 ∷ 500 ∷ 2100 ∷ 0 ∷ 10 ∷ []) (answers (1200 ∷ 500 ∷ 2100 ∷ 3100 ∷ 0 ∷ []) (1 ∷ 1 ∷ 1 ∷ 2 ∷ 0 ∷ []) (0 ∷ 1 ∷ 3 ∷ 4 ∷ 0 ∷ []))
     ∷ raises Cost worked 1 200 3 2600 3100 3 2
-    -- P4: with days, parts 2 and 3 are 1200, part 2 by line 2
-    ∷ settles Days worked five (answers (1200 ∷ 300 ∷ 1200 ∷ 1200 ∷ 0 ∷ []) (1 ∷ 1 ∷ 2 ∷ 3 ∷ 0 ∷ []) (0 ∷ 1 ∷ 2 ∷ 4 ∷ 0 ∷ [])) (Made ∷ Made ∷ Made ∷ Made ∷ Unmade ∷ [])
+    -- P4: with days, parts 2 and 3 are 1700, part 2 by line 2
+    ∷ settles Days worked five (answers (1200 ∷ 300 ∷ 1700 ∷ 1700 ∷ 0 ∷ []) (1 ∷ 1 ∷ 2 ∷ 3 ∷ 0 ∷ []) (0 ∷ 1 ∷ 2 ∷ 4 ∷ 0 ∷ [])) (Made ∷ Made ∷ Made ∷ Made ∷ Unmade ∷ [])
     -- P5: no parts and no lines have no entries
     ∷ settles Cost (columns 0 [] [] [] [] []) (answers [] [] []) (answers [] [] []) []
     -- P6: two lines that need one another make nothing
