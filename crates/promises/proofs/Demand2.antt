@@ -1,4 +1,5 @@
--- Demand 2. Every entry that settling leaves is the one that the paper defines by make-ups, and its figure is the provenance of document 000. Assumes nothing.
+-- Demand 2. Every entry that settling leaves is the one that the paper defines by make-ups, and its figure is what document 000 says: in cost the provenance, in days the
+-- best weight. Assumes nothing.
 use mathlib.Core.Path.{_≡_, sym, _∙_, subst}
 use mathlib.Core.Logic.{_↔_}
 use mathlib.Core.List.{List}
@@ -7,9 +8,8 @@ use native.Mathlib.Omega.{arith}
 use Rattle.weights.specs.declared.Measure.{Measure}
 use Rattle.weights.specs.declared.Measure.the-variants.{Cost, Days}
 use Rattle.weights.specs.declared.Label.{Label}
-use Rattle.weights.specs.declared.State.the-variants.{Over}
 use Rattle.weights.specs.Measures.{algebra}
-use Rattle.weights.specs.Labels.{unmade, entryOf}
+use Rattle.weights.specs.Labels.{unmade}
 use Rattle.weights.proofs.Laws.{lawful}
 use Rattle.refusal.specs.declared.Acceptance.the-variants.{Accepted}
 use Rattle.refusal.specs.declared.Verdict.the-variants.{Yes, No}
@@ -23,19 +23,18 @@ use Rattle.provenance.specs.Labelling.{Made}
 use Rattle.provenance.specs.Means.{Means, underivable, derivable}
 use Rattle.provenance.specs.BestFirst.{labels}
 use Rattle.provenance.specs.Support.{ChosenDerivation, Supports}
-use Rattle.provenance.specs.Provenance.{HasProvenance}
-use Rattle.provenance.proofs.Semirings.{computes}
 use Rattle.provenance.proofs.Meaning.{means-unique}
 use Rattle.tables.specs.Table.{hypergraph}
 use Rattle.settle.specs.Settling.{answersOf, settled}
 use Rattle.settle.specs.Checking.{checked}
+use Rattle.settle.specs.Demands.{Worth}
 use Rattle.settle.specs.Defined.{AllMean}
 use Rattle.settle.specs.States.{StateMeans}
 use Rattle.settle.specs.Worth.{CostMeans, DaysMeans}
 use Rattle.settle.proofs.Demands.{answers-mean, answers-sized, settled-left, settled-result, demand-2, yes-only}
 use Rattle.settle.proofs.Exactly.{yes-exactly, no-exactly}
 use Rattle.settle.proofs.States.{made-deep, settled-state}
-use Rattle.settle.proofs.Worth.{cost-provenance, days-provenance}
+use Rattle.settle.proofs.Worth.{cost-provenance, days-best-weight}
 use Rattle.settle.proofs.Gaps.{gaps-settled, gaps-checked}
 
 -- What settling leaves -----------------------------------------------------------------------------------------------------------------------------------------------
@@ -79,7 +78,7 @@ module _ (m : Measure) (c : Columns) (a : Answers) (h : settled m c a .result �
   pub entry-shallow : (v : ℕ) → labels (settled m c a .left) v .depth ≤ c .vertices
   entry-shallow v = demand-2 m c a h v .shallow
 
-  -- "Each part's entry holds its state (made, over or unmade)": over if the plain sum of every make-up is above the ceiling, unmade if there is none; in days never over
+  -- "Each part's entry holds its state (made, over or unmade)": over if the plain sum of every make-up is above the ceiling, unmade if there is none
   pub entry-state : (v : ℕ) → StateMeans m c (labels (settled m c a .left) v) v
   entry-state = settled-state m c a h
 
@@ -91,20 +90,17 @@ module _ (m : Measure) (c : Columns) (a : Answers) (h : settled m c a .result �
       go (underivable e n) = e
       go (derivable x) = absurd (omega (arith, made-deep (entry-means v) (x .shown)))
 
-  -- The source: the figure is Definition 5's provenance, the sum over all derivations of the product over leaves, up to the ceiling; unmade is the empty sum
-  pub entry-provenance : (v : ℕ) → HasProvenance (computes m) (hypergraph c) (ownAt c) (labels (settled m c a .left) v) v
-  entry-provenance v = demand-2 m c a h v .worth
-
--- "Days: … It never goes over"
-pub days-never-over : (c : Columns) (a : Answers) → settled Days c a .result ≡ Accepted → (v : ℕ) → ¬ (entryOf (labels (settled Days c a .left) v) .state ≡ Over)
-days-never-over c a h v = entry-state Days c a h v .over .0
+  -- The source: in cost the figure is Definition 5's provenance, the sum over all derivations of the product over leaves; in days it is Definition 10's best weight, the
+  -- sum over all derivations of their weights; both up to the ceiling, and unmade is the empty sum
+  pub entry-worth : (v : ℕ) → Worth m c (labels (settled m c a .left) v) v
+  entry-worth v = demand-2 m c a h v .worth
 
 -- of cost in the tropical semiring, of days in the bottleneck semiring (document 003, Semiring 5)
 pub cost-worth : (c : Columns) (a : Answers) → settled Cost c a .result ≡ Accepted → (v : ℕ) → CostMeans c (labels (settled Cost c a .left) v) v
 cost-worth = cost-provenance
 
 pub days-worth : (c : Columns) (a : Answers) → settled Days c a .result ≡ Accepted → (v : ℕ) → DaysMeans c (labels (settled Days c a .left) v) v
-days-worth = days-provenance
+days-worth = days-best-weight
 
 -- The answer check ---------------------------------------------------------------------------------------------------------------------------------------------------
 

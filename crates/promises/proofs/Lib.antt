@@ -6,3 +6,4 @@ pub mod Paper
 pub mod TurnedAway
 pub mod Request01
 pub mod Request02
+pub mod Request03

@@ -8,10 +8,9 @@ use borrow.Author.Tests.{eqb-false, not-true}
 use lib.ListN.{length, set, take}
 use lib.IntN.{ℤ, pos}
 use Rattle.weights.specs.declared.Measure.{Measure}
-use Rattle.weights.specs.declared.Measure.the-variants.{Cost, Days}
 use Rattle.weights.specs.declared.State.the-variants.{Made, Over, Unmade}
 use Rattle.weights.specs.Figures.{struckMark, ceiling, over, capped}
-use Rattle.weights.specs.Measures.{cost, days, algebra}
+use Rattle.weights.specs.Measures.{cost, algebra}
 use Rattle.weights.specs.Labels.{stateOf, entryOf}
 use Rattle.weights.specs.Laws.{Lawful}
 use Rattle.weights.proofs.Laws.{lawful}
@@ -35,9 +34,9 @@ use Rattle.semiring.specs.Semiring.{Semiring}
 use Rattle.semiring.specs.Datalog.{Program, Provenance, BestWeight, representation}
 use Rattle.semiring.proofs.Datalog.{theorem-13}
 use Rattle.provenance.specs.Hypergraph.{Hypergraph, Stands, Derivation, Derivations, node, none, more, weight, depth, deepest, root, listing}
-use Rattle.provenance.specs.Labelling.{greatestDepth as greatestOf}
 use Rattle.provenance.specs.Counting.{total}
 use Rattle.provenance.specs.BestFirst.{labels}
+use Rattle.provenance.proofs.Sensitivity.{cost-total}
 use Rattle.tables.specs.Table.{hypergraph}
 use Rattle.settle.specs.Settling.{answersOf}
 use Rattle.settle.specs.Checking.{checked}
@@ -51,7 +50,6 @@ use Rattle.bill.specs.Billing.{billOf, partAcceptance, billAcceptance, billed}
 use Rattle.bill.specs.Bills.{IsBill, Printed}
 use Rattle.bill.proofs.Asked.{bill-exactly}
 use Rattle.bill.proofs.Bills.{part-accepted, is-bill, bill-printed}
-use Rattle.bill.proofs.Listing.{listing-amount}
 use Rattle.text.specs.Tables.{Table, closed}
 use Rattle.text.specs.Render.{Permitted}
 use Rattle.text.specs.Worked.{costText, daysText}
@@ -114,11 +112,7 @@ sum-capped x = (λ h. omega arith, λ h. omega arith)
 module _ {H : Hypergraph} (own : ℕ → ℕ) {v : ℕ} (d : Derivation H v) where
   -- "Cost: the line's own figure plus the figures of its parts' make-ups, each occurrence counted": the plain sum along the make-up's lines, capped once
   pub cost-is : weight cost own d ≡ capped (total own (listing d))
-  cost-is = listing-amount own Cost d
-
-  -- "Days: the greatest of the line's own figure and the figures of its parts' make-ups"
-  pub days-is : weight days own d ≡ greatestOf own (listing d)
-  days-is = listing-amount own Days d
+  cost-is = cost-total own d
 
 -- "A line with no parts has depth 1, any other 1 more than its deepest part"
 module _ {H : Hypergraph} {v : ℕ} (e : ℕ) (s : Stands H e) (h : H .head e ≡ v) (ds : Derivations H (H .tail e)) where
@@ -193,11 +187,9 @@ module _ (m : Measure) (c : Columns) (a : Answers) (v : ℕ) where
   bill-returns = bill-printed m c a v
 
 -- "Parts that are over have a bill too"
-pub over-has-a-bill : (c : Columns) (a : Answers) (v : ℕ) → RightLent c a → v < c .vertices → AllMean Cost c a → entryOf (labels a v) .state ≡ Over
-    → IsBill Cost c (labels a) v (billOf c a v)
-over-has-a-bill c a v l h all s =
-    let d = means-state Cost c (labels a v) v (accepted-exactly c .1 (l .table)) (all v h) .over .0 s in
-    bill-is Cost c a v l h all (d .shown)
+pub over-has-a-bill : (m : Measure) (c : Columns) (a : Answers) (v : ℕ) → RightLent c a → v < c .vertices → AllMean m c a → entryOf (labels a v) .state ≡ Over
+    → IsBill m c (labels a) v (billOf c a v)
+over-has-a-bill m c a v l h all s = bill-is m c a v l h all (means-state m c (labels a v) v (all v h) .over .0 s .shown)
 
 -- The text -------------------------------------------------------------------------------------------------------------------------------------------------------------
 
