@@ -72,7 +72,8 @@ static inline uint64_t line_of(uint64_t key)
 /* Above every key. */
 #define NO_KEY UINT64_MAX
 
-/* Sums are capped at the end: an own figure and 16 others stay below 2^45. */
+/* Of the parts that a line needs: its own figure is added at the end, and the sum is capped there; an
+ * own figure and 16 others stay below 2^45. */
 static inline uint64_t join(uint64_t measure, uint64_t a, uint64_t b)
 {
     return measure == TOZBIERDU_DAYS ? greater(a, b) : a + b;

@@ -56,9 +56,8 @@ static inline void take_out(struct queue *q, uint64_t part)
 
 /*
  * The first line that waits for a part; and of a line that waits the next one for the same part, the
- * place of that part in tails, what its own figure and the parts before that place join to, and the
- * greatest depth of those. These are set before they are read: only the first lines and the queue are
- * cleared.
+ * place of that part in tails, what the parts before that place join to, and the greatest depth of
+ * those. These are set before they are read: only the first lines and the queue are cleared.
  */
 struct search {
     uint16_t first[TOZBIERDU_MOST_PARTS];
@@ -94,7 +93,7 @@ static void start(struct search *s, const struct view *t)
         if (t->spans[2 * line + 1] == 0)
             lower(&s->queue, t->heads[line], key(own, 1, line));
         else
-            wait_at(s, t, line, t->spans[2 * line], own, 0);
+            wait_at(s, t, line, t->spans[2 * line], 0, 0);
     }
 }
 
@@ -114,7 +113,7 @@ static void go_on(struct search *s, const struct view *t, uint64_t measure, uint
         joined = join(measure, joined, figures[part]);
         deepest = greater(deepest, depths[part]);
     }
-    lower(&s->queue, t->heads[line], key(capped(joined), deepest + 1, line));
+    lower(&s->queue, t->heads[line], key(capped(t->own[line] + joined), deepest + 1, line));
 }
 
 /* What waited for a part goes on, but for lines whose own head is made already. */
@@ -156,7 +155,7 @@ static void fill(struct view t, uint64_t measure, uint64_t *figures, uint64_t *d
 static inline uint64_t offer(const struct view *t, uint64_t measure, uint64_t line,
                              const uint64_t *figures, const uint64_t *depths)
 {
-    uint64_t joined = t->own[line], deepest = 0;
+    uint64_t own = t->own[line], joined = 0, deepest = 0;
     uint64_t at = t->spans[2 * line], end = at + t->spans[2 * line + 1];
 
     if (t->strikes[line] == TOZBIERDU_STRIKE)
@@ -168,7 +167,7 @@ static inline uint64_t offer(const struct view *t, uint64_t measure, uint64_t li
         joined = join(measure, joined, figures[part]);
         deepest = greater(deepest, depths[part]);
     }
-    return key(capped(joined), deepest + 1, line);
+    return key(capped(own + joined), deepest + 1, line);
 }
 
 /*

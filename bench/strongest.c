@@ -110,9 +110,8 @@ static inline void take_out(struct queue *q, uint64_t part)
 }
 
 /*
- * A line that waits for the part at place `at` of tails: what its own figure and the parts before
- * that place join to, the greatest depth of those, the end of its span, and the next line that waits
- * for the same part.
+ * A line that waits for the part at place `at` of tails: what the parts before that place join to, the
+ * greatest depth of those, the end of its span, and the next line that waits for the same part.
  */
 struct waiter {
     uint64_t joined;
@@ -142,7 +141,7 @@ static inline void start(struct search *s, struct view t)
             *leaf = lesser(*leaf, key(own, 1, line));
         } else {
             uint16_t *first = &s->first[t.tails[offset]];
-            s->waiters[line] = (struct waiter){ own, 0, offset, offset + size, *first };
+            s->waiters[line] = (struct waiter){ 0, 0, offset, offset + size, *first };
             *first = line;
         }
     }
@@ -167,7 +166,7 @@ FOR_MEASURE void go_on(struct search *s, struct view t, uint64_t measure, const 
         joined = join(measure, joined, figures[part]);
         deepest = greater(deepest, depths[part]);
     }
-    lower(&s->queue, t.heads[line], key(capped(joined), deepest + 1, line));
+    lower(&s->queue, t.heads[line], key(capped(t.own[line] + joined), deepest + 1, line));
 }
 
 FOR_MEASURE void best_first(struct view t, uint64_t measure, uint64_t *restrict figures,
@@ -212,7 +211,8 @@ static void fill(struct view t, uint64_t measure, uint64_t *figures, uint64_t *d
 FOR_MEASURE int gives(struct view t, uint64_t measure, uint64_t line, const uint64_t *figures,
                       const uint64_t *depths, uint64_t *given)
 {
-    uint64_t joined = t.own[line], deepest = 0, at = t.spans[2 * line], end = at + t.spans[2 * line + 1];
+    uint64_t own = t.own[line], joined = 0, deepest = 0;
+    uint64_t at = t.spans[2 * line], end = at + t.spans[2 * line + 1];
 
     if (t.strikes[line] == TOZBIERDU_STRIKE)
         return 0;
@@ -223,7 +223,7 @@ FOR_MEASURE int gives(struct view t, uint64_t measure, uint64_t line, const uint
         joined = join(measure, joined, figures[part]);
         deepest = greater(deepest, depths[part]);
     }
-    *given = key(capped(joined), deepest + 1, line);
+    *given = key(capped(own + joined), deepest + 1, line);
     return 1;
 }
 

@@ -15,7 +15,7 @@ static void test_worked_cost(void)
 
 static void test_worked_days(void)
 {
-    static const uint64_t figures[] = { 1200, 300, 1200, 1200, 0 }, lines[] = { 0, 1, 2, 4, 0 };
+    static const uint64_t figures[] = { 1200, 300, 1700, 1700, 0 }, lines[] = { 0, 1, 2, 4, 0 };
     struct table *t = priced(TOZBIERDU_DAYS);
 
     check(holds(t, FIGURES, figures) && holds(t, LINES, lines), "answers");
@@ -76,6 +76,24 @@ static void test_ceiling(void)
     check(t->at[FIGURES][4] == TOZBIERDU_OVER, "one more is over");
     t->part = 4;
     expect(BILL, "an over part", run(BILL, t), 0, 1111);
+}
+
+/* In days a chain of 1,000 lines of the greatest figure comes to the ceiling, and one more is over. */
+static void test_days_ceiling(void)
+{
+    uint64_t part, before;
+    struct table *t = blank(1001);
+
+    t->measure = TOZBIERDU_DAYS;
+    for (part = 0; part < t->n; part++) {
+        before = part - 1;
+        add(t, part, TOZBIERDU_GREATEST, part > 0, &before);
+    }
+    expect(SETTLE, "the ceiling in days", run(SETTLE, t), 0, 0);
+    check(t->at[FIGURES][999] == TOZBIERDU_CEILING, "the ceiling is made");
+    check(t->at[FIGURES][1000] == TOZBIERDU_OVER, "one more is over");
+    t->part = 1000;
+    expect(BILL, "an over part", run(BILL, t), 0, 1001);
 }
 
 static uint64_t seed = 1;
@@ -182,6 +200,7 @@ const struct test answer_tests[] = {
     { "worked_repriced", test_worked_repriced, 0 },
     { "worked_struck", test_worked_struck, 0 },
     { "ceiling", test_ceiling, 0 },
+    { "days_ceiling", test_days_ceiling, 0 },
     { "demand_3", test_demand_3, 0 },
     { NULL, NULL, 0 },
 };

@@ -25,11 +25,12 @@ pub fn solve(measure: u64, table: &Table) -> Labelling {
 
 /// A hyperedge's weight from those of its tail; none while one of them has none.
 pub fn weight_by(measure: u64, table: &Table, edge: usize, weights: &[Option<u64>]) -> Option<u64> {
-    let mut total = u128::from(table.own[edge]);
+    let mut joined = 0;
     for &vertex in table.tail(edge) {
         let weight = u128::from(weights[vertex as usize]?);
-        total = if measure == COST { total + weight } else { total.max(weight) };
+        joined = if measure == COST { joined + weight } else { joined.max(weight) };
     }
+    let total = u128::from(table.own[edge]) + joined;
     let ceiling = u128::from(CEILING);
     Some(if total > ceiling { OVER } else { total as u64 })
 }

@@ -12,6 +12,7 @@ use std::rc::Rc;
 pub const TESTS: &[Test] = &[
     Test { name: "trees/random", run: random },
     Test { name: "trees/ceiling", run: ceiling },
+    Test { name: "trees/high", run: high },
     Test { name: "trees/all-of-two-vertices", run: all_small },
 ];
 
@@ -82,11 +83,8 @@ fn choices(tail: &[u64], known: &[Vec<Rc<Derivation>>]) -> Vec<Vec<Rc<Derivation
 
 fn derive(measure: u64, table: &Table, root: usize, children: Vec<Rc<Derivation>>) -> Derivation {
     let weights = children.iter().map(|child| child.weight);
-    let weight = if measure == COST {
-        table.own[root] + weights.sum::<u64>()
-    } else {
-        weights.fold(table.own[root], u64::max)
-    };
+    let joined: u64 = if measure == COST { weights.sum() } else { weights.max().unwrap_or(0) };
+    let weight = table.own[root] + joined;
     let weight = if weight > CEILING { OVER } else { weight };
     let deepest = children.iter().map(|child| child.depth).max();
     Derivation { root, weight, depth: 1 + deepest.unwrap_or(0), children }
@@ -141,6 +139,17 @@ fn ceiling(trial: &Trial) -> Outcome {
     trial.cases(trial.count / 4, |rng| {
         let table = tables::ceiling(rng);
         agree(COST, &table, rng)?;
+        agree(DAYS, &table, rng)
+    })
+}
+
+/// The same along a path, for days.
+fn high(trial: &Trial) -> Outcome {
+    trial.cases(trial.count / 100, |rng| {
+        let mut table = tables::high(rng);
+        while derivations(&table) > MOST_DERIVATIONS {
+            table = tables::high(rng);
+        }
         agree(DAYS, &table, rng)
     })
 }

@@ -23,8 +23,8 @@ prints 'the worked table in days' "$work/days" <<'END'
 part state figure depth line
 0 made 1200 1 0
 1 made 300 1 1
-2 made 1200 2 2
-3 made 1200 3 4
+2 made 1700 2 2
+3 made 1700 3 4
 4 unmade 0 0 0
 END
 
@@ -62,6 +62,16 @@ prints 'a part at the ceiling' "$work/over0" <<<"$above
 3 made 1000000000000 4 3"
 prints 'a part that is over' "$work/over1" <<<"$above
 3 over 1000000000001 4 3"
+
+# in days the sums are along a chain: 1,000 lines of the greatest own figure, and 1 more
+chain() { echo "parts $1 days"; echo '0 1000000000'; for ((part = 1; part < $1; part++)); do echo "$part 1000000000 $((part - 1))"; done; }
+chain 1001 >"$work/chain"
+{
+    echo 'part state figure depth line'
+    for ((part = 0; part < 1000; part++)); do echo "$part made $((part + 1))000000000 $((part + 1)) $part"; done
+    echo '1000 over 1000000000001 1001 1000'
+} >"$work/chained"
+prints 'a part at the ceiling and one over it, in days' "$work/chain" <"$work/chained"
 
 # 14 ---------------------------------------------------------------------------------------------------------------------------------------
 

@@ -9,8 +9,8 @@ part state figure depth line
 0 made 14 1 0
 1 made 3 1 1
 2 made 21 1 2
-3 made 14 2 3
-4 made 14 3 5
+3 made 16 2 3
+4 made 17 3 5
 5 unmade 0 0 0
 END
 

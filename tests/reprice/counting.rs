@@ -42,6 +42,13 @@ fn stated(_: &Trial) -> Outcome {
     alike(&call, 3, &listed).map(|()| 1)
 }
 
+/// The greatest sum of own weights along a path of a vertex's chosen derivation.
+fn longest(call: &Call, vertex: u64) -> u64 {
+    let edge = call.answers.label(vertex).edge as usize;
+    let below = call.table.tail(edge).iter().map(|&needed| longest(call, needed));
+    call.table.own[edge] + below.max().unwrap_or(0)
+}
+
 /// The counter agrees with the derivation listed outright, whose weight is the vertex's.
 fn alike(call: &Call, vertex: u64, listed: &[u64]) -> Verdict {
     for edge in 0..call.table.edges() {
@@ -52,7 +59,7 @@ fn alike(call: &Call, vertex: u64, listed: &[u64]) -> Verdict {
         }
     }
     let own = listed.iter().map(|&edge| call.table.own[edge as usize]);
-    let weight = if call.measure == COST { own.sum() } else { own.fold(0, u64::max) };
+    let weight = if call.measure == COST { own.sum() } else { longest(call, vertex) };
     expect("the listed weight", weight.min(OVER), call.answers.label(vertex).weight)
 }
 

@@ -20,11 +20,15 @@ pub const TESTS: &[Test] = &[
     Test { name: "raising/ties", run: |trial| raised(trial, 4 * trial.count, ties) },
     Test { name: "raising/over", run: |trial| raised(trial, 2 * trial.count, tables::over) },
     Test { name: "raising/ceiling", run: |trial| raised(trial, 2 * trial.count, tables::ceiling) },
+    Test { name: "raising/high", run: |trial| raised(trial, trial.count / 20, tables::high) },
+    Test { name: "raising/high-end", run: high_end },
+    Test { name: "raising/once-on-a-path", run: once_on_a_path },
     Test { name: "raising/deep", run: |trial| raised(trial, 2 * trial.count, deep) },
     Test { name: "raising/large", run: |trial| raised(trial, trial.count / 40, large) },
     Test { name: "raising/limits", run: at_the_limits },
     Test { name: "raising/all-of-two-vertices", run: all_small },
-    Test { name: "raising/all-kinds", run: all_kinds },
+    Test { name: "raising/all-kinds", run: |trial| all_kinds(trial, COST, &KINDS) },
+    Test { name: "raising/all-kinds-in-days", run: |trial| all_kinds(trial, DAYS, &DAYS_KINDS) },
 ];
 
 /// Two accepted tables that agree but for the own weight of a live hyperedge, which is `d` lower in
@@ -153,6 +157,43 @@ fn stated(trial: &Trial) -> Outcome {
     Ok(all.len() as u64)
 }
 
+/// A hyperedge that stands 16 to 4,096 times in a bill, and once on each path: raised by d, the
+/// vertices above it rise by d in days, and in cost by d times the count.
+fn once_on_a_path(trial: &Trial) -> Outcome {
+    let mut table = Table::new(4);
+    table.push(0, 5, &[]);
+    (1..4).for_each(|level| table.push(level, 1, &[level - 1; LONGEST_TAIL]));
+    for (measure, d) in [(DAYS, 1), (DAYS, 900), (COST, 7)] {
+        let pair = Pair::of(measure, table.clone(), 0, d);
+        let rises = demanded(&pair, &mut trial.rng())?;
+        for (vertex, rise) in rises.iter().enumerate() {
+            let count = if measure == COST { 16u128.pow(vertex as u32) } else { 1 };
+            if rises.len() != 4 || rise.by != u128::from(d) * count {
+                return Err(format!("measure {measure}, d {d}: {rises:?}"));
+            }
+        }
+    }
+    Ok(3)
+}
+
+/// A chain's first hyperedge raised so that its end goes over: that vertex is over in the new table
+/// alone, and the others rise by d.
+fn high_end(trial: &Trial) -> Outcome {
+    let before = |vertex: u64| vertex.checked_sub(1).into_iter().collect::<Vec<_>>();
+    let own = |vertex: u64| if vertex == 0 { GREATEST - 2 } else { GREATEST };
+    let edges: Vec<_> = (0..1_000).map(|vertex| (vertex, own(vertex), before(vertex))).collect();
+    let mut table = Table::of(1_000, &edges);
+    table.n = 1_001;
+    table.push(1_000, 1, &[999]);
+    for (d, made) in [(1, 1_001), (2, 1_000)] {
+        let rises = demanded(&Pair::of(DAYS, table.clone(), 0, d), &mut trial.rng())?;
+        if rises.len() != made || rises.iter().any(|rise| rise.by != u128::from(d)) {
+            return Err(format!("d {d}: {} vertices are made in both", rises.len()));
+        }
+    }
+    Ok(2)
+}
+
 fn ties(rng: &mut Rng) -> Table {
     tables::random(rng, &tables::TIES)
 }
@@ -237,7 +278,9 @@ fn all_small(trial: &Trial) -> Outcome {
 const MOST_CASES: u64 = 100_000;
 
 /// What must have been met, or the bounds were not put to the test.
-const KINDS: [(&str, fn(&Pair, &Rise) -> bool); 8] = [
+type Kind = (&'static str, fn(&Pair, &Rise) -> bool);
+
+const KINDS: [Kind; 8] = [
     ("at the lower bound alone", |_, rise| rise.by == rise.least && rise.by < rise.most),
     ("at the upper bound alone", |_, rise| rise.by == rise.most && rise.by > rise.least),
     ("between the bounds", |_, rise| rise.least < rise.by && rise.by < rise.most),
@@ -248,23 +291,30 @@ const KINDS: [(&str, fn(&Pair, &Rise) -> bool); 8] = [
     ("raised by 0", |pair, _| pair.d == 0),
 ];
 
-/// Every kind of rise occurs in cost: beyond the count, cases go on until the last kind is met.
-fn all_kinds(trial: &Trial) -> Outcome {
-    let mut met = KINDS.map(|_| false);
+const DAYS_KINDS: [Kind; 4] = [
+    ("raised by none of d", |pair, rise| rise.by == 0 && pair.d > 0),
+    ("raised by some of d", |_, rise| 0 < rise.by && rise.by < rise.most),
+    ("raised by all of d", |_, rise| 0 < rise.by && rise.by == rise.most),
+    ("raised by 0", |pair, _| pair.d == 0),
+];
+
+/// Every kind of rise occurs: beyond the count, cases go on until the last kind is met.
+fn all_kinds(trial: &Trial, measure: u64, kinds: &[Kind]) -> Outcome {
+    let mut met = vec![false; kinds.len()];
     for number in 0..MOST_CASES {
         if number >= trial.count / 2 && met.iter().all(|&met| met) {
             return Ok(number);
         }
         let mut rng = Rng::stream(trial.seed, trial.name, number);
         let make = rng.pick::<fn(&mut Rng) -> Table>(&[tables::any, ties, deep, tables::over]);
-        let pair = any_pair(&mut rng, COST, make)?;
+        let pair = any_pair(&mut rng, measure, make)?;
         let rises = demanded(&pair, &mut rng);
         for rise in rises.map_err(|wrong| format!("case {number}: {wrong}"))? {
-            for (met, (_, is_met)) in met.iter_mut().zip(KINDS) {
+            for (met, (_, is_met)) in met.iter_mut().zip(kinds) {
                 *met |= is_met(&pair, &rise);
             }
         }
     }
-    let kinds = met.iter().zip(KINDS).filter(|(&met, _)| !met).map(|(_, (kind, _))| kind);
+    let kinds = met.iter().zip(kinds).filter(|(&met, _)| !met).map(|(_, (kind, _))| *kind);
     Err(format!("no vertex is {}", kinds.collect::<Vec<_>>().join(", or ")))
 }

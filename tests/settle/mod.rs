@@ -23,6 +23,8 @@ pub const TESTS: &[Test] = &[
     Test { name: "settle/tiny", run: |trial| shaped(trial, &tables::TINY) },
     Test { name: "settle/over", run: |trial| made(trial, trial.count, tables::over) },
     Test { name: "settle/ceiling", run: |trial| made(trial, trial.count, tables::ceiling) },
+    Test { name: "settle/high", run: |trial| made(trial, trial.count / 20, tables::high) },
+    Test { name: "settle/days-ceiling", run: days_ceiling },
     Test { name: "settle/towers", run: |trial| made(trial, trial.count, tables::tower) },
     Test { name: "settle/chains", run: |trial| made(trial, trial.count / 20, short_or_long_chain) },
     Test { name: "settle/large", run: |trial| made(trial, trial.count / 50, large) },
@@ -85,6 +87,24 @@ fn made(trial: &Trial, cases: u64, make: impl Fn(&mut Rng) -> Table) -> Outcome 
         agree(COST, &table, rng)?;
         agree(DAYS, &table, rng)
     })
+}
+
+/// In days 1,000 hyperedges of the greatest own weight, each of which needs the one before, come to
+/// the ceiling, which is made; one more is over.
+fn days_ceiling(trial: &Trial) -> Outcome {
+    for length in [1_000, 1_001] {
+        let before = |vertex: u64| vertex.checked_sub(1).into_iter().collect::<Vec<_>>();
+        let edges: Vec<_> = (0..length).map(|vertex| (vertex, GREATEST, before(vertex))).collect();
+        let label = |vertex: u64| {
+            let weight = if vertex < 1_000 { (vertex + 1) * GREATEST } else { OVER };
+            Label { weight, depth: vertex + 1, edge: vertex }
+        };
+        let labels: Vec<Label> = (0..length).map(label).collect();
+        let (table, wanted) = (Table::of(length, &edges), Labelling::of(&labels));
+        same("the solver", &solve(DAYS, &table), &wanted)?;
+        settles_to(DAYS, &table, &wanted, &mut trial.rng())?;
+    }
+    Ok(2)
 }
 
 pub fn short_or_long_chain(rng: &mut Rng) -> Table {

@@ -77,7 +77,7 @@ pub fn examples() -> Vec<Example> {
     let tens = [(GREATEST, 1, 0), (10 * GREATEST, 2, 1), (100 * GREATEST, 3, 2)];
     let [first, second, third] = tens;
     let shorter = Table::of(2, &[(0, 5, vec![]), (1, 0, vec![0]), (1, 5, vec![])]);
-    let p4 = [ZERO, ONE, (1_200, 2, 2), (1_200, 3, 4), NONE];
+    let p4 = [ZERO, ONE, (1_700, 2, 2), (1_700, 3, 4), NONE];
     vec![
         p1(),
         p3(),

@@ -207,6 +207,23 @@ pub fn tower(rng: &mut Rng) -> Table {
     table
 }
 
+/// A chain that passes the ceiling near its end, with more ways to its last vertices: along a path
+/// too, sums on both sides of the ceiling, and ties above it.
+pub fn high(rng: &mut Rng) -> Table {
+    let length = rng.between(1_000, 1_010);
+    let mut edges = vec![(0, GREATEST - rng.below(3), vec![])];
+    edges.extend((1..length).map(|vertex| (vertex, GREATEST, vec![vertex - 1])));
+    for _ in 0..rng.between(2, 9) {
+        let near = |rng: &mut Rng| rng.between(length - 14, length - 1);
+        let tail: Vec<u64> = (0..rng.between(1, 3)).map(|_| near(rng)).collect();
+        edges.push((near(rng), rng.pick(&[GREATEST, GREATEST - 1, 1, 0]), tail));
+    }
+    if rng.chance(50) {
+        rng.shuffle(&mut edges);
+    }
+    Table::of(length, &edges)
+}
+
 /// Sums that meet the ceiling exactly, fall short of it by one or pass it by little.
 pub fn ceiling(rng: &mut Rng) -> Table {
     let short = rng.below(100_000);
