@@ -39,7 +39,8 @@
 extern "C" {
 #endif
 
-/* Measures: the sum of the figures, or the greatest of them. */
+/* Measures: a line's own figure plus the sum of its parts' figures, or the own figure plus the greatest
+ * of them. A sum above the ceiling is over. */
 #define TOZBIERDU_COST UINT64_C(0)
 #define TOZBIERDU_DAYS UINT64_C(1)
 
