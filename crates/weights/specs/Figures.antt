@@ -33,3 +33,7 @@ capped x = min x over
 
 abbrev pub isOver : ℕ → Bool
 isOver x = eqb x over
+
+-- no figure: the value of a line that gives none (document 02, 2026-04). It is above every figure, `value-finite`
+abbrev pub none : ℕ
+none = 18446744073709551615

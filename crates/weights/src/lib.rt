@@ -31,6 +31,9 @@ impl Weight {
     // What a sum above the ceiling becomes.
     pub const OVER: Weight = Weight(1000000000001);
 
+    // In place of the weight of a hyperedge that gives none.
+    pub const NONE: Weight = Weight(18446744073709551615);
+
     pub fn is_over(self) -> bool
         ensures { λ r. ⌜ r ≡ isOver (self .0) ⌝ }
     {
