@@ -12,3 +12,4 @@ pub mod Provenance
 pub mod Semirings
 pub mod Sensitivity
 pub mod Support
+pub mod Values

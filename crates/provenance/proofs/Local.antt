@@ -1,6 +1,6 @@
 -- The local test of a labelling: one test for each vertex (its label is blank, or what its own hyperedge offers) and one for each hyperedge (its head's label does
 -- not come after its offer). All pass exactly if the labelling is the fixpoint. This is how answers are checked without settling. Assumes nothing.
-use mathlib.Core.Path.{_≡_, refl, sym, _∙_, ap}
+use mathlib.Core.Path.{_≡_, refl, sym, _∙_, ap, ap₂}
 use mathlib.Core.Bool.{Bool, true, false}
 use mathlib.Core.Logic.{_⊎_, inl, inr, ⊎-elim}
 use Prim.Native.Nat.{ℕ, zero, suc, _+_, _<_, _≤_}
@@ -63,6 +63,11 @@ pub every-not : (p : ℕ → Bool) (n : ℕ) → every p n ≡ false → (A : Ty
 unfolding every
 every-not p zero q A f = apart (sym q)
 every-not p (suc n) q A f = ⊎-elim (λ e. f n (omega arith) e) (λ e. every-not p n e A (λ i h. f i (omega arith))) (both-false {a = p n} {b = every p n} q)
+
+pub every-same : (p q : ℕ → Bool) (n : ℕ) → ((i : ℕ) → i < n → p i ≡ q i) → every p n ≡ every q n
+unfolding every
+every-same p q zero f = refl
+every-same p q (suc n) f = ap₂ (λ (a b : Bool). pick a b false) (f n (omega arith)) (every-same p q n (λ i h. f i (omega arith)))
 
 module _ (A : Algebra) (H : Hypergraph) (own : ℕ → ℕ) (ls : ℕ → Label) where
   -- what the test of a vertex tells

@@ -8,6 +8,7 @@ use lib.Dec.{eqb}
 use Rattle.weights.specs.declared.Label.{Label}
 use Rattle.weights.specs.declared.Offer.{Offer}
 use Rattle.weights.specs.declared.Offer.the-variants.{Nothing, Found}
+use Rattle.weights.specs.Figures.{none as noFigure}
 use Rattle.weights.specs.Measures.{Algebra, weigh}
 use Rattle.weights.specs.Choice.{pick}
 use Rattle.weights.specs.Labels.{label, unmade}
@@ -55,6 +56,13 @@ yield A own tail w d e = label (weigh A own (each w tail)) (greatestDepth d tail
 -- the same, unless it is struck or a vertex of its tail is unmade
 unfoldable pub offerOf : Algebra → (live : Bool) (own : ℕ) → List ℕ → (weight depth : ℕ → ℕ) → ℕ → Offer
 offerOf A live own tail w d e = pick live (pick (noneZero d tail) (Found (yield A own tail w d e)) Nothing) Nothing
+
+-- a line's value, "the figure that its own figure and the lent figures of its parts give" (document 02, 2026-04), or none; and the depth that it gives, or 0
+unfoldable pub valueOf : Algebra → (live : Bool) (own : ℕ) → List ℕ → (weight depth : ℕ → ℕ) → ℕ
+valueOf A live own tail w d = pick live (pick (noneZero d tail) (weigh A own (each w tail)) noFigure) noFigure
+
+unfoldable pub heightOf : (live : Bool) → List ℕ → (depth : ℕ → ℕ) → ℕ
+heightOf live tail d = pick live (pick (noneZero d tail) (greatestDepth d tail + 1) 0) 0
 
 -- e is unstruck, and every vertex of its tail is made
 pub record Ready (H : Hypergraph) (ls : ℕ → Label) (e : ℕ) : Type 0 where

@@ -11,3 +11,4 @@ pub mod Counting
 pub mod Paths
 pub mod Sensitivity
 pub mod Local
+pub mod Values
