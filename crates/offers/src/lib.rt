@@ -1,4 +1,5 @@
-// What a hyperedge offers its head: the candidate that it gives from the labels in the columns.
+// What a hyperedge offers its head: the candidate that it gives from the labels in the columns. And
+// columns of what all hyperedges of a table offer.
 use weights::Hyperedge;
 use weights::Label;
 use weights::Mark;
@@ -8,11 +9,14 @@ use weights::Weight;
 ghost use mathlib.Core.Path.{_≡_};
 ghost use mathlib.Core.Bool.{not};
 ghost use Prim.Native.Nat.{max};
+ghost use lib.ListN.{length, set};
 ghost use Rattle.weights.specs.Figures.{isStruckMark};
 ghost use Rattle.weights.specs.Measures.{algebra};
 ghost use Rattle.provenance.specs.Labelling.{offerOf};
 ghost use Rattle.columns.specs.Columns.{tailOf, cell};
+ghost use Rattle.columns.specs.Filled.{filled};
 ghost use Rattle.columns.specs.Lent.{Legible, EdgeIn};
+ghost use Rattle.offers.specs.Values.{valueIn, heightIn, valuesOf, heightsOf, Notable, Valuable};
 
 // The greater of two depths.
 pub fn deeper(a: u64, b: u64) -> u64
@@ -94,4 +98,51 @@ pub fn offer(
         weights,
         depths,
     )
+}
+
+// What an offer comes to goes into place i of two columns: its weight and its depth, or none and 0.
+fn note(i: usize, o: Offer, values: &mut [u64], heights: &mut [u16])
+    requires { ⌜ Notable i o (now values) (now heights) ⌝ }
+    ensures { λ r.
+        let v = now (values .exit) ≡ set (now (values .entry)) i (valueIn o) in
+        let h = now (heights .exit) ≡ set (now (heights .entry)) i (heightIn o) in
+        ⌜ v × h ⌝ }
+{
+    let Offer::Found(x) = o else {
+        values[i] = Weight::NONE.0;
+        heights[i] = 0;
+        return;
+    };
+    let weight = x.weight;
+    values[i] = weight.0;
+    heights[i] = x.depth as u16;
+}
+
+// The value and the height of every hyperedge of a table, from the labels in the columns; what stands
+// behind them stays. Each tail is read once.
+pub fn line_values(
+    measure: Measure,
+    own: &[u64],
+    strikes: &[u64],
+    spans: &[u64],
+    tails: &[u64],
+    weights: &[u64],
+    depths: &[u64],
+    values: &mut [u64],
+    heights: &mut [u16],
+)
+    requires { ⌜ Valuable (now own) (now strikes) (now spans) (now tails) (now weights) (now depths) (now values) (now heights) ⌝ }
+    ensures { λ r.
+        let n = length (now (own .entry)) in
+        let vs = valuesOf measure (now (own .entry)) (now (strikes .entry)) (now (spans .entry)) (now (tails .entry)) (now (weights .entry)) (now (depths .entry)) n in
+        let hs = heightsOf measure (now (own .entry)) (now (strikes .entry)) (now (spans .entry)) (now (tails .entry)) (now (weights .entry)) (now (depths .entry)) n in
+        ⌜ (now (values .exit) ≡ filled vs (now (values .entry))) × (now (heights .exit) ≡ filled hs (now (heights .entry))) ⌝ }
+{
+    let mut i = 0;
+    while i < own.len() {
+        let e = Hyperedge(i as u64);
+        let o = offer(measure, e, own, strikes, spans, tails, weights, depths);
+        note(i, o, values, heights);
+        i += 1;
+    }
 }
