@@ -6,6 +6,7 @@ use native.Mathlib.Omega.{arith}
 use native.Mathlib.Decide.{decLe}
 use lib.ListN.{length, getD, List·getD-eq-default}
 use Rattle.weights.specs.declared.Measure.{Measure}
+use Rattle.weights.specs.Choice.{pick}
 use Rattle.weights.proofs.Choice.{apart}
 use Rattle.weights.specs.Measures.{algebra}
 use Rattle.weights.proofs.Laws.{lawful}
@@ -27,6 +28,7 @@ use Rattle.columns.proofs.Same.{same-refl, same-not}
 use Rattle.columns.specs.Lent.{Turning}
 use Rattle.settle.specs.Settling.{answersOf}
 use Rattle.settle.specs.Checking.{verdict as judged, checked}
+use Rattle.settle.specs.Comparing.{allRight}
 use Rattle.columns.proofs.Usable.{same-table, turning-columns}
 
 module _ (m : Measure) (c : Columns) (a : Answers) where
@@ -58,10 +60,10 @@ module _ (m : Measure) (c : Columns) (a : Answers) (l : AcceptedColumns c a) whe
   usable q = turning-columns c a (l .table) (l .sized) (λ v. shallow q v (decLe (length (a .depths)) v))
 
   -- the tests of all vertices and of all hyperedges, as the functions give them
-  abbrev pub vertices : Bool
+  abbrev vertices : Bool
   vertices = every (vertexRight (algebra m) (hypergraph (same-table c (length (a .depths)))) (ownAt c) (labels a)) (length (a .depths))
 
-  abbrev pub edges : Bool
+  abbrev edges : Bool
   edges = every (edgeRight (algebra m) (hypergraph (same-table c (length (a .depths)))) (ownAt c) (labels a)) (length (c .heads))
 
   vertices-at : {b : Bool} → vertices ≡ b → every (vertexRight (algebra m) (hypergraph c) (ownAt c) (labels a)) (c .vertices) ≡ b
@@ -74,7 +76,7 @@ module _ (m : Measure) (c : Columns) (a : Answers) (l : AcceptedColumns c a) whe
   unfolding answersOf
   fixpoint-only n = others (not-fixpoint (lawful m) (hypergraph c) (ownAt c) a (l .sized) (well-formed c (l .table)) n)
 
-  pub wrong-vertex : vertices ≡ false → false ≡ sameAnswers a (answersOf m c)
+  wrong-vertex : vertices ≡ false → false ≡ sameAnswers a (answersOf m c)
   wrong-vertex q = fixpoint-only (vertex-fails (lawful m) (hypergraph c) (ownAt c) a (l .sized) (vertices-at q))
 
   right-all : vertices ≡ true → edges ≡ true → a ≡ answersOf m c
@@ -82,9 +84,18 @@ module _ (m : Measure) (c : Columns) (a : Answers) (l : AcceptedColumns c a) whe
   right-all p q = all-right (lawful m) (hypergraph c) (ownAt c) a (l .sized) (well-formed c (l .table)) (vertices-at p) (edges-at q)
 
   -- where every vertex is right, the hyperedges decide
-  pub edges-decide : vertices ≡ true → edges ≡ sameAnswers a (answersOf m c)
+  edges-decide : vertices ≡ true → edges ≡ sameAnswers a (answersOf m c)
   edges-decide p = go edges refl
     where
       go : (b : Bool) → edges ≡ b → b ≡ sameAnswers a (answersOf m c)
       go true q = subst (λ (x : Answers). true ≡ sameAnswers a x) (right-all p q) (sym (same-refl a))
       go false q = fixpoint-only (edge-fails (lawful m) (hypergraph c) (ownAt c) a (l .sized) (edges-at q))
+
+  -- all the tests together
+  pub all-decide : allRight m (same-table c (length (a .depths))) a ≡ sameAnswers a (answersOf m c)
+  unfolding allRight
+  all-decide = go vertices refl
+    where
+      go : (b : Bool) → vertices ≡ b → pick b edges false ≡ sameAnswers a (answersOf m c)
+      go true p = edges-decide p
+      go false p = wrong-vertex p

@@ -1,5 +1,6 @@
 pub mod Settling
 pub mod Checking
+pub mod Comparing
 pub mod Demands
 pub mod Defined
 pub mod States

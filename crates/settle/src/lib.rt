@@ -1,29 +1,27 @@
 // Settling a table that is lent as columns: every vertex gets the label of its chosen derivation,
 // found best first. And the check that lent answers are those labels.
-use offers::offer;
 use refusal::Acceptance;
 use refusal::Verdict;
 use weights::Entry;
 use weights::Hyperedge;
 use weights::Label;
 use weights::Measure;
-use weights::Offer;
 use weights::Vertex;
 use weights::Weight;
 ghost use mathlib.Core.Path.{_≡_};
-ghost use Prim.Native.Nat.{_<_};
+ghost use Prim.Native.Nat.{_≤_, _<_};
 ghost use lib.ListN.{length};
 ghost use Rattle.weights.specs.Measures.{algebra};
 ghost use Rattle.weights.specs.Labels.{entryOf};
 ghost use Rattle.provenance.specs.BestFirst.{labels};
-ghost use Rattle.provenance.specs.Local.{every, gives, keepsUp, vertexRight, edgeRight};
+ghost use Rattle.provenance.specs.Local.{every};
 ghost use Rattle.columns.specs.Columns.{columns, answers, cell};
-ghost use Rattle.tables.specs.Table.{hypergraph};
 ghost use Rattle.columns.proofs.Accepted.{AcceptedColumns};
 ghost use Rattle.columns.specs.Same.{sameAnswers};
 ghost use Rattle.columns.specs.Lent.{lent, Turning};
 ghost use Rattle.settle.specs.Settling.{answersOf, settled};
 ghost use Rattle.settle.specs.Checking.{checked};
+ghost use Rattle.settle.specs.Comparing.{vertexFits, edgeFits, Comparable, Weighable, allRight, fewLines};
 
 // The answers of an accepted table go into the three answer columns, whatever they held.
 pub fn label(
@@ -99,53 +97,21 @@ pub fn settle(
     Acceptance::Accepted
 }
 
-// Whether an offer is of this weight and depth.
-fn gives(o: Offer, weight: Weight, depth: u64) -> bool
-    ensures { λ r. ⌜ r ≡ gives o (weight .0) depth ⌝ }
-{
-    let Offer::Found(x) = o else {
-        return false;
-    };
-    let y = x.weight;
-    if y.0 != weight.0 {
-        return false;
-    }
-    x.depth == depth
-}
-
-// Whether a head of the label l does not come after what one of its hyperedges offers.
-fn keeps_up(measure: Measure, l: Label, o: Offer) -> bool
-    ensures { λ r. ⌜ r ≡ keepsUp (algebra measure) l o ⌝ }
-{
-    let Offer::Found(x) = o else {
-        return true;
-    };
-    if l.depth == 0 {
-        return false;
-    }
-    weights::ahead(measure, l, x)
-}
-
-// Whether the label of v is blank, or what its own hyperedge offers.
+// Whether the label of v is blank, or the value and the height of its own hyperedge. A hyperedge that
+// has no value has height 0, which is not the depth of a part that is made.
 fn vertex_right(
-    measure: Measure,
     v: Vertex,
     heads: &[u64],
-    own: &[u64],
-    strikes: &[u64],
-    spans: &[u64],
-    tails: &[u64],
+    values: &[u64],
+    heights: &[u16],
     weights: &[u64],
     depths: &[u64],
     edges: &[u64],
 ) -> bool
-    requires { let c = lent (now heads) (now own) (now strikes) (now spans) (now tails) (now depths) in
-        let a = answers (now weights) (now depths) (now edges) in
-        ⌜ (Turning c a) × (v .0 < length (now depths)) ⌝ }
+    requires { ⌜ (Comparable (now heads) (now values) (now heights) (answers (now weights) (now depths) (now edges))) × (v .0 < length (now depths)) ⌝ }
     ensures { λ r.
-        let c = lent (now (heads .entry)) (now (own .entry)) (now (strikes .entry)) (now (spans .entry)) (now (tails .entry)) (now (depths .entry)) in
         let a = answers (now (weights .entry)) (now (depths .entry)) (now (edges .entry)) in
-        ⌜ r ≡ vertexRight (algebra measure) (hypergraph c) (cell (now (own .entry))) (labels a) (v .0) ⌝ }
+        ⌜ r ≡ vertexFits (now (heads .entry)) (now (values .entry)) (now (heights .entry)) (labels a) (v .0) ⌝ }
 {
     let i = v.0 as usize;
     let w = weights[i];
@@ -164,87 +130,73 @@ fn vertex_right(
     if heads[j] != v.0 {
         return false;
     }
-    let o = offer(
-        measure,
-        Hyperedge(e),
-        own,
-        strikes,
-        spans,
-        tails,
-        weights,
-        depths,
-    );
-    gives(o, Weight(w), d)
+    if values[j] != w {
+        return false;
+    }
+    let height = heights[j] as u64;
+    height == d
 }
 
-// Whether the label of e's head does not come after what e offers.
+// Whether the label of e's head does not come after the value and the height of e.
 fn edge_right(
     measure: Measure,
     e: Hyperedge,
     heads: &[u64],
-    own: &[u64],
-    strikes: &[u64],
-    spans: &[u64],
-    tails: &[u64],
+    values: &[u64],
+    heights: &[u16],
     weights: &[u64],
     depths: &[u64],
     edges: &[u64],
 ) -> bool
-    requires { let c = lent (now heads) (now own) (now strikes) (now spans) (now tails) (now depths) in
-        let a = answers (now weights) (now depths) (now edges) in
-        ⌜ (Turning c a) × (e .0 < length (now heads)) ⌝ }
+    requires { ⌜ (Comparable (now heads) (now values) (now heights) (answers (now weights) (now depths) (now edges))) × (e .0 < length (now heads)) ⌝ }
     ensures { λ r.
-        let c = lent (now (heads .entry)) (now (own .entry)) (now (strikes .entry)) (now (spans .entry)) (now (tails .entry)) (now (depths .entry)) in
         let a = answers (now (weights .entry)) (now (depths .entry)) (now (edges .entry)) in
-        ⌜ r ≡ edgeRight (algebra measure) (hypergraph c) (cell (now (own .entry))) (labels a) (e .0) ⌝ }
+        ⌜ r ≡ edgeFits (now (heads .entry)) (now (values .entry)) (now (heights .entry)) (labels a) (algebra measure) (e .0) ⌝ }
 {
     let i = e.0 as usize;
+    let height = heights[i] as u64;
+    if height == 0 {
+        return true;
+    }
     let v = heads[i] as usize;
-    let o = offer(measure, e, own, strikes, spans, tails, weights, depths);
-    let weight = weights[v];
     let depth = depths[v];
+    if depth == 0 {
+        return false;
+    }
+    let weight = weights[v];
     let root = edges[v];
+    let value = values[i];
     let l = Label {
         weight: Weight(weight),
         depth,
         edge: Hyperedge(root),
     };
-    keeps_up(measure, l, o)
+    let x = Label {
+        weight: Weight(value),
+        depth: height,
+        edge: e,
+    };
+    weights::ahead(measure, l, x)
 }
 
 // The same of every vertex.
 fn vertices_right(
-    measure: Measure,
     heads: &[u64],
-    own: &[u64],
-    strikes: &[u64],
-    spans: &[u64],
-    tails: &[u64],
+    values: &[u64],
+    heights: &[u16],
     weights: &[u64],
     depths: &[u64],
     edges: &[u64],
 ) -> bool
-    requires { ⌜ Turning (lent (now heads) (now own) (now strikes) (now spans) (now tails) (now depths)) (answers (now weights) (now depths) (now edges)) ⌝ }
+    requires { ⌜ Comparable (now heads) (now values) (now heights) (answers (now weights) (now depths) (now edges)) ⌝ }
     ensures { λ r.
-        let c = lent (now (heads .entry)) (now (own .entry)) (now (strikes .entry)) (now (spans .entry)) (now (tails .entry)) (now (depths .entry)) in
         let a = answers (now (weights .entry)) (now (depths .entry)) (now (edges .entry)) in
-        ⌜ r ≡ every (vertexRight (algebra measure) (hypergraph c) (cell (now (own .entry))) (labels a)) (length (now (depths .entry))) ⌝ }
+        ⌜ r ≡ every (vertexFits (now (heads .entry)) (now (values .entry)) (now (heights .entry)) (labels a)) (length (now (depths .entry))) ⌝ }
 {
     let mut i = 0;
     while i < depths.len() {
         let v = Vertex(i as u64);
-        if !vertex_right(
-            measure,
-            v,
-            heads,
-            own,
-            strikes,
-            spans,
-            tails,
-            weights,
-            depths,
-            edges,
-        ) {
+        if !vertex_right(v, heads, values, heights, weights, depths, edges) {
             return false;
         }
         i += 1;
@@ -256,6 +208,73 @@ fn vertices_right(
 fn edges_right(
     measure: Measure,
     heads: &[u64],
+    values: &[u64],
+    heights: &[u16],
+    weights: &[u64],
+    depths: &[u64],
+    edges: &[u64],
+) -> bool
+    requires { ⌜ Comparable (now heads) (now values) (now heights) (answers (now weights) (now depths) (now edges)) ⌝ }
+    ensures { λ r.
+        let a = answers (now (weights .entry)) (now (depths .entry)) (now (edges .entry)) in
+        ⌜ r ≡ every (edgeFits (now (heads .entry)) (now (values .entry)) (now (heights .entry)) (labels a) (algebra measure)) (length (now (heads .entry))) ⌝ }
+{
+    let mut i = 0;
+    while i < heads.len() {
+        let e = Hyperedge(i as u64);
+        if !edge_right(measure, e, heads, values, heights, weights, depths, edges) {
+            return false;
+        }
+        i += 1;
+    }
+    true
+}
+
+// Whether every vertex and every hyperedge is right: each line's value and height is worked out once,
+// into two columns, and compared from there.
+fn right_in(
+    measure: Measure,
+    heads: &[u64],
+    own: &[u64],
+    strikes: &[u64],
+    spans: &[u64],
+    tails: &[u64],
+    weights: &[u64],
+    depths: &[u64],
+    edges: &[u64],
+    values: &mut [u64],
+    heights: &mut [u16],
+) -> bool
+    requires { let c = lent (now heads) (now own) (now strikes) (now spans) (now tails) (now depths) in
+        let a = answers (now weights) (now depths) (now edges) in
+        ⌜ Weighable c a (now values) (now heights) ⌝ }
+    ensures { λ r.
+        let c = lent (now (heads .entry)) (now (own .entry)) (now (strikes .entry)) (now (spans .entry)) (now (tails .entry)) (now (depths .entry)) in
+        let a = answers (now (weights .entry)) (now (depths .entry)) (now (edges .entry)) in
+        ⌜ r ≡ allRight measure c a ⌝ }
+{
+    offers::line_values(
+        measure,
+        own,
+        strikes,
+        spans,
+        tails,
+        weights,
+        depths,
+        values,
+        heights,
+    );
+    if !vertices_right(heads, values, heights, weights, depths, edges) {
+        return false;
+    }
+    edges_right(measure, heads, values, heights, weights, depths, edges)
+}
+
+// The same with columns of its own. A table of few hyperedges is given few places, as every place has
+// to be cleared.
+fn right_few(
+    measure: Measure,
+    heads: &[u64],
     own: &[u64],
     strikes: &[u64],
     spans: &[u64],
@@ -264,32 +283,66 @@ fn edges_right(
     depths: &[u64],
     edges: &[u64],
 ) -> bool
-    requires { ⌜ Turning (lent (now heads) (now own) (now strikes) (now spans) (now tails) (now depths)) (answers (now weights) (now depths) (now edges)) ⌝ }
+    requires { let c = lent (now heads) (now own) (now strikes) (now spans) (now tails) (now depths) in
+        let a = answers (now weights) (now depths) (now edges) in
+        ⌜ (Turning c a) × (length (now heads) ≤ fewLines) ⌝ }
     ensures { λ r.
         let c = lent (now (heads .entry)) (now (own .entry)) (now (strikes .entry)) (now (spans .entry)) (now (tails .entry)) (now (depths .entry)) in
         let a = answers (now (weights .entry)) (now (depths .entry)) (now (edges .entry)) in
-        ⌜ r ≡ every (edgeRight (algebra measure) (hypergraph c) (cell (now (own .entry))) (labels a)) (length (now (heads .entry))) ⌝ }
+        ⌜ r ≡ allRight measure c a ⌝ }
 {
-    let mut i = 0;
-    while i < heads.len() {
-        let e = Hyperedge(i as u64);
-        if !edge_right(
-            measure,
-            e,
-            heads,
-            own,
-            strikes,
-            spans,
-            tails,
-            weights,
-            depths,
-            edges,
-        ) {
-            return false;
-        }
-        i += 1;
-    }
-    true
+    let mut values = [0u64; 256];
+    let mut heights = [0u16; 256];
+    right_in(
+        measure,
+        heads,
+        own,
+        strikes,
+        spans,
+        tails,
+        weights,
+        depths,
+        edges,
+        &mut values,
+        &mut heights,
+    )
+}
+
+// The same of any table.
+fn right_many(
+    measure: Measure,
+    heads: &[u64],
+    own: &[u64],
+    strikes: &[u64],
+    spans: &[u64],
+    tails: &[u64],
+    weights: &[u64],
+    depths: &[u64],
+    edges: &[u64],
+) -> bool
+    requires { let c = lent (now heads) (now own) (now strikes) (now spans) (now tails) (now depths) in
+        let a = answers (now weights) (now depths) (now edges) in
+        ⌜ Turning c a ⌝ }
+    ensures { λ r.
+        let c = lent (now (heads .entry)) (now (own .entry)) (now (strikes .entry)) (now (spans .entry)) (now (tails .entry)) (now (depths .entry)) in
+        let a = answers (now (weights .entry)) (now (depths .entry)) (now (edges .entry)) in
+        ⌜ r ≡ allRight measure c a ⌝ }
+{
+    let mut values = [0u64; 4096];
+    let mut heights = [0u16; 4096];
+    right_in(
+        measure,
+        heads,
+        own,
+        strikes,
+        spans,
+        tails,
+        weights,
+        depths,
+        edges,
+        &mut values,
+        &mut heights,
+    )
 }
 
 // Whether the answer columns hold the answers of an accepted table, whoever wrote them. A depth
@@ -315,20 +368,20 @@ pub fn answers_right(
     if !columns::all_below(n + 1, depths) {
         return false;
     }
-    if !vertices_right(
-        measure,
-        heads,
-        own,
-        strikes,
-        spans,
-        tails,
-        weights,
-        depths,
-        edges,
-    ) {
-        return false;
+    if heads.len() <= 256 {
+        return right_few(
+            measure,
+            heads,
+            own,
+            strikes,
+            spans,
+            tails,
+            weights,
+            depths,
+            edges,
+        );
     }
-    edges_right(
+    right_many(
         measure,
         heads,
         own,

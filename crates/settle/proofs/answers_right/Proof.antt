@@ -3,11 +3,14 @@
 use mathlib.Core.Path.{_≡_, sym, _∙_}
 use mathlib.Core.Bool.{true}
 use Prim.Native.Nat.{_+_}
+use lib.ListN.{length}
 use borrow.Author.Needs.{needs}
 use borrow.Author.Tests.{not-true, not-false}
 use Rattle.columns.specs.Columns.{Answers, Columns, columns, answers}
 use Rattle.columns.specs.Acceptance.{allBelow}
-use Rattle.settle.proofs.Checked.{too-deep, usable, wrong-vertex, edges-decide}
+use Rattle.columns.specs.Lent.{Turning}
+use Rattle.columns.proofs.Usable.{same-table}
+use Rattle.settle.proofs.Checked.{too-deep, usable, all-decide}
 use Rattle.settle.proofs.answers_right.Statement.{statement}
 use Rattle.settle.proofs.answers_right.Tie as tie
 
@@ -31,29 +34,26 @@ returns c =
 shallow : (c : tie.Else1) → allBelow (entry (c .before) .args .n + 1) (came (entry (c .before)) .depths) ≡ true
 shallow c = sym (c .before .all-below .ensures) ∙ not-false _ (c .if1 .left)
 
-vertices-right-requires : tie.Need-vertices-right-requires
-vertices-right-requires c κs =
+turning : (c : tie.Else1) → Turning (same-table (tableOf (entry (c .before))) (length (came (entry (c .before)) .depths))) (came (entry (c .before)))
+turning c =
     let s = entry (c .before) in
     usable (s .args .measure) (tableOf s) (came s) (s .pre) (shallow c)
 
+right-few-requires : tie.Need-right-few-requires
+right-few-requires c κs = (turning (c .before), c .if2 .taken)
+
 returns-2 : tie.Need-returns-2
 returns-2 c =
-    let v = c .before in
-    let s = entry (v .before .before) in
-    wrong-vertex (s .args .measure) (tableOf s) (came s) (s .pre) (sym (v .vertices-right .ensures) ∙ not-true _ (c .if2 .taken))
+    let s = entry (c .before .before .before) in
+    c .right-few .ensures ∙ all-decide (s .args .measure) (tableOf s) (came s) (s .pre)
 
-edges-right-requires : tie.Need-edges-right-requires
-edges-right-requires c κs =
-    let l = c .before .before in
-    let s = entry (l .before) in
-    usable (s .args .measure) (tableOf s) (came s) (s .pre) (shallow l)
+right-many-requires : tie.Need-right-many-requires
+right-many-requires c κs = turning (c .before)
 
 returns-3 : tie.Need-returns-3
 returns-3 c =
-    let k = c .before in
-    let v = k .before in
-    let s = entry (v .before .before) in
-    c .edges-right .ensures ∙ edges-decide (s .args .measure) (tableOf s) (came s) (s .pre) (sym (v .vertices-right .ensures) ∙ not-false _ (k .if2 .left))
+    let s = entry (c .before .before .before) in
+    c .right-many .ensures ∙ all-decide (s .args .measure) (tableOf s) (came s) (s .pre)
 
 pub answers-right-spec : {M : Type 1} → statement M
 answers-right-spec =
@@ -62,7 +62,7 @@ answers-right-spec =
     (λ c. search needs)
     (λ c κs. search needs)
     returns
-    vertices-right-requires
+    right-few-requires
     returns-2
-    edges-right-requires
+    right-many-requires
     returns-3)

@@ -1,45 +1,64 @@
 -- `settle::vertex_right` meets its contract: each return is one case of the test. Assumes nothing.
-use mathlib.Core.Path.{_∙_, ap}
+use native.Mathlib.Omega.{arith}
 use borrow.Author.Tests.{eq-eqb, ne-eqb, lt-ltb, le-ltb}
-use Rattle.weights.specs.declared.Offer.{Offer}
-use Rattle.provenance.specs.Local.{gives, vertexRight}
-use Rattle.columns.specs.Columns.{cell}
-use Rattle.columns.proofs.Usable.{edge-in}
 use borrow.Author.Needs.{needs}
+use Rattle.columns.specs.Columns.{cell}
+use Rattle.settle.specs.Comparing.{vertexFits}
 use Rattle.settle.proofs.vertex_right.Statement.{statement}
 use Rattle.settle.proofs.vertex_right.Tie as tie
 
 returns : tie.Need-returns
-unfolding vertexRight
+unfolding vertexFits
 returns c = rw (eq-eqb _ _ (c .before .if1 .taken), ne-eqb _ _ (c .if2 .taken))
 
 returns-2 : tie.Need-returns-2
-unfolding vertexRight
+unfolding vertexFits
 returns-2 c = rw (eq-eqb _ _ (c .before .if1 .taken), eq-eqb _ _ (c .if2 .left))
 
 returns-3 : tie.Need-returns-3
-unfolding vertexRight
+unfolding vertexFits
 returns-3 c = rw (ne-eqb _ _ (c .before .if1 .left), le-ltb _ _ (c .if3 .taken))
 
-returns-4 : tie.Need-returns-4
-unfolding vertexRight
-returns-4 c = rw (ne-eqb _ _ (c .before .before .before .before .if1 .left), lt-ltb _ _ (c .before .before .before .if3 .left), ne-eqb _ _ (c .if4 .taken))
+-- what the call was given, where the hyperedge is one of the table
+abbrev entry : tie.Else3 → tie.Start
+entry c = c .before .before .before .before .before
 
-offer-requires : tie.Need-offer-requires
-offer-requires c κs =
-    edge-in
-    (c .before .before .before .before .before .before .before .before .before .before .before .before .before .before .before .before .pre .0 .usable) _
-    (c .before .before .before .if3 .left)
+returns-4 : tie.Need-returns-4
+unfolding vertexFits
+returns-4 c =
+    let p = c .before .before .before in
+    rw (ne-eqb _ _ (p .before .if1 .left), lt-ltb _ _ (p .if3 .left), ne-eqb _ _ (c .if4 .taken))
+
+mul-if5 : tie.Need-mul-if5
+mul-if5 c = let p = c .before .before .before in omega (arith, p .if3 .left, entry p .pre .0 .values)
+
+shared-slice-read-if5 : tie.Need-shared-slice-read-if5
+shared-slice-read-if5 c = let p = c .before .before .before .before in omega (arith, p .if3 .left, entry p .pre .0 .values)
 
 returns-5 : tie.Need-returns-5
-unfolding vertexRight
+unfolding vertexFits
 returns-5 c =
-    let p = c .before .before .before .before .before in
-    let q = p .before in
-    let r = q .before .before .before .before .before .before .before .before .before .before .before .before in
-    let a = r .args in
-    rw (ne-eqb _ _ (q .if1 .left), lt-ltb _ _ (p .if3 .left), eq-eqb _ _ (c .before .before .if4 .left))
-    (c .gives .ensures ∙ ap (λ (o : Offer). gives o (cell (a .weights .now) (a .v .0)) (cell (a .depths .now) (a .v .0))) (c .before .offer .ensures))
+    let q = c .before .before in
+    let p = q .before .before .before in
+    rw (ne-eqb _ _ (p .before .if1 .left), lt-ltb _ _ (p .if3 .left), eq-eqb _ _ (q .if4 .left), ne-eqb _ _ (c .if5 .taken))
+
+mul-height : tie.Need-mul-height
+mul-height c = let p = c .before .before .before .before .before in omega (arith, p .if3 .left, entry p .pre .0 .heights)
+
+shared-slice-read-height : tie.Need-shared-slice-read-height
+shared-slice-read-height c = let p = c .before .before .before .before .before .before in omega (arith, p .if3 .left, entry p .pre .0 .heights)
+
+cast-height : tie.Need-cast-height
+cast-height c =
+    let a = entry (c .before .before .before .before .before .before) .args in
+    omega (arith, c .shared-slice-known6 .given (cell (a .edges .now) (a .v .0)))
+
+returns-6 : tie.Need-returns-6
+unfolding vertexFits
+returns-6 c =
+    let q = c .before .before .before in
+    let p = q .before .before .before in
+    rw (ne-eqb _ _ (p .before .if1 .left), lt-ltb _ _ (p .if3 .left), eq-eqb _ _ (q .if4 .left), eq-eqb _ _ (c .before .if5 .left))
 
 pub vertex-right-spec : {M : Type 1} → statement M
 vertex-right-spec =
@@ -57,6 +76,10 @@ vertex-right-spec =
     (λ c. search needs)
     (λ c. search needs)
     returns-4
-    offer-requires
-    (λ c κs. search needs)
-    returns-5)
+    mul-if5
+    shared-slice-read-if5
+    returns-5
+    mul-height
+    shared-slice-read-height
+    cast-height
+    returns-6)

@@ -6,36 +6,32 @@ use native.Mathlib.Omega.{arith}
 use borrow.Author.Needs.{needs}
 use borrow.Author.Tests.{not-true, not-false}
 use lib.ListN.{length}
-use Rattle.weights.specs.Measures.{algebra}
-use Rattle.columns.specs.Columns.{answers, cell}
-use Rattle.tables.specs.Table.{hypergraph}
+use Rattle.columns.specs.Columns.{answers}
 use Rattle.provenance.specs.BestFirst.{labels}
-use Rattle.provenance.specs.Local.{every, vertexRight}
+use Rattle.provenance.specs.Local.{every}
 use Rattle.provenance.proofs.Local.{every-more, every-stop}
-use Rattle.columns.specs.Lent.{lent}
+use Rattle.settle.specs.Comparing.{vertexFits}
 use Rattle.settle.proofs.vertices_right.Statement.{statement}
 use Rattle.settle.proofs.vertices_right.Tie as tie
 
 abbrev Inv-loop : tie.InvT-loop
-Inv-loop measure heads own strikes spans tails weights depths edges i₀ i =
-    (i ≤ length depths) × (every (vertexRight (algebra measure) (hypergraph (lent heads own strikes spans tails depths)) (cell own) (labels (answers weights depths edges))) i ≡ true)
+Inv-loop heads values heights weights depths edges i₀ i = (i ≤ length depths) × (every (vertexFits heads values heights (labels (answers weights depths edges))) i ≡ true)
 
 abbrev μ-loop : tie.MeasureT-loop
-μ-loop measure heads own strikes spans tails weights depths edges i₀ i = length depths - i
+μ-loop heads values heights weights depths edges i₀ i = length depths - i
 
 -- the test at the loop's head
 abbrev tested : tie.At-loop Inv-loop μ-loop → ℕ → Bool
 tested l =
-    let a = l .before .before .before .before .before .before .before .before .before .args in
-    vertexRight (algebra (a .measure)) (hypergraph (lent (a .heads .now) (a .own .now) (a .strikes .now) (a .spans .now) (a .tails .now) (a .depths .now)))
-    (cell (a .own .now)) (labels (answers (a .weights .now) (a .depths .now) (a .edges .now)))
+    let a = l .before .before .before .before .before .before .before .args in
+    vertexFits (a .heads .now) (a .values .now) (a .heights .now) (labels (answers (a .weights .now) (a .depths .now) (a .edges .now)))
 
 loop-holds : tie.Need-loop-holds Inv-loop μ-loop
 unfolding every
 loop-holds c = (omega arith, refl)
 
 vertex-right-requires : tie.Need-vertex-right-requires Inv-loop μ-loop
-vertex-right-requires c κs = (c .before .before .before .before .before .before .before .before .before .before .pre, c .loop-test .taken)
+vertex-right-requires c κs = (c .before .before .before .before .before .before .before .before .pre, c .loop-test .taken)
 
 returns : tie.Need-returns Inv-loop μ-loop
 returns c = sym (every-stop (tested (c .before .before .before)) _ _ (c .before .before .loop-test .taken) (sym (c .before .vertex-right .ensures) ∙ not-true _ (c .if1 .taken)))
@@ -47,7 +43,7 @@ loop-again c =
 returns-2 : tie.Need-returns-2 Inv-loop μ-loop
 returns-2 c =
     let l = c .before in
-    let e : l .loop .i ≡ length (l .before .before .before .before .before .before .before .before .before .args .depths .now) = omega arith in
+    let e : l .loop .i ≡ length (l .before .before .before .before .before .before .before .args .depths .now) = omega arith in
     sym (l .loop .inv .1) ∙ ap (every (tested l)) e
 
 pub vertices-right-spec : {M : Type 1} → statement M
