@@ -32,6 +32,7 @@ const TESTS: &[&[Test]] = &[
     reprice::TESTS,
     reprice::refusals::TESTS,
     answers::stale::TESTS,
+    answers::values::TESTS,
     reprice::counting::TESTS,
     reprice::raising::TESTS,
     index::TESTS,

@@ -2,6 +2,7 @@
 
 pub mod near;
 pub mod stale;
+pub mod values;
 
 use crate::calls::check_answers;
 use crate::model::solver::solve;
