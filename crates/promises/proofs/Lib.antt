@@ -7,3 +7,4 @@ pub mod TurnedAway
 pub mod Request01
 pub mod Request02
 pub mod Request03
+pub mod Request04
