@@ -5,7 +5,7 @@ use mathlib.Core.List.{List, [], _∷_}
 use Prim.Native.Nat.{ℕ}
 use lib.ListN.{getD}
 use Rattle.refusal.specs.declared.Refusal.{Refusal}
-use Rattle.refusal.specs.declared.Refusal.the-variants.{TooManyVertices, Lengths, Head, Own, Span, Tail, AnswerLength, WrongAnswers, NoSuchEdge, NewWeight, NoSuchVertex, Underivable, BillRoom, Text, TextRoom, MeasureNumber, InputLength, ColumnRoom, WrongIndex, NotStruck, StrikeMark}
+use Rattle.refusal.specs.declared.Refusal.the-variants.{TooManyVertices, Lengths, Head, Own, Span, Tail, AnswerLength, WrongAnswers, NoSuchEdge, NewWeight, NoSuchVertex, Underivable, BillRoom, Text, TextRoom, MeasureNumber, InputLength, ColumnRoom, WrongIndex, NotStruck, StrikeMark, SampleSize, TooLarge}
 use Rattle.refusal.specs.declared.Code.{Code}
 use Rattle.refusal.specs.Refusals.{codeOf}
 
@@ -14,7 +14,7 @@ abbrev numberedAt : ℕ → List Refusal
 numberedAt p =
     NotStruck ∷ TooManyVertices ∷ Lengths ∷ Head (record { 0 = p }) ∷ Own (record { 0 = p }) ∷ Span (record { 0 = p }) ∷ Tail (record { 0 = p })
     ∷ AnswerLength ∷ WrongAnswers ∷ NoSuchEdge ∷ NewWeight ∷ NoSuchVertex ∷ Underivable ∷ BillRoom ∷ Text (record { 0 = p }) ∷ TextRoom ∷ MeasureNumber
-    ∷ InputLength ∷ ColumnRoom ∷ WrongIndex ∷ NotStruck ∷ StrikeMark (record { 0 = p }) ∷ []
+    ∷ InputLength ∷ ColumnRoom ∷ WrongIndex ∷ NotStruck ∷ StrikeMark (record { 0 = p }) ∷ SampleSize ∷ TooLarge (record { 0 = p }) ∷ []
 
 abbrev refusalOf : Code → Refusal
 refusalOf c = getD (numberedAt (c .place)) (c .number) NotStruck
@@ -41,6 +41,8 @@ refusal-code ColumnRoom = refl
 refusal-code WrongIndex = refl
 refusal-code NotStruck = refl
 refusal-code (StrikeMark e) = refl
+refusal-code SampleSize = refl
+refusal-code (TooLarge i) = refl
 
 pub codes-differ : (r s : Refusal) → codeOf r ≡ codeOf s → r ≡ s
 codes-differ r s e = sym (refusal-code r) ∙ ap refusalOf e ∙ refusal-code s

@@ -4,15 +4,15 @@ use mathlib.Core.Path.{_≡_}
 use Prim.Native.Nat.{_+_, _*_, _≤_}
 use native.Mathlib.Omega.{arith}
 use Rattle.refusal.specs.declared.Refusal.{Refusal}
-use Rattle.refusal.specs.declared.Refusal.the-variants.{TooManyVertices, Lengths, Head, Own, Span, Tail, AnswerLength, WrongAnswers, NoSuchEdge, NewWeight, NoSuchVertex, Underivable, BillRoom, Text, TextRoom, MeasureNumber, InputLength, ColumnRoom, WrongIndex, NotStruck, StrikeMark}
+use Rattle.refusal.specs.declared.Refusal.the-variants.{TooManyVertices, Lengths, Head, Own, Span, Tail, AnswerLength, WrongAnswers, NoSuchEdge, NewWeight, NoSuchVertex, Underivable, BillRoom, Text, TextRoom, MeasureNumber, InputLength, ColumnRoom, WrongIndex, NotStruck, StrikeMark, SampleSize, TooLarge}
 use Rattle.refusal.specs.declared.Code.{Code}
 use Rattle.refusal.specs.Refusals.{numberOf, lastPlace, resultOf}
 
 pub exact : (c : Code) → c .place ≤ lastPlace → resultOf c ≡ c .number * 4_294_967_296 + c .place
 exact c h = omega arith
 
--- there are twenty-one, numbered from 1
-pub numbered : (r : Refusal) → (1 ≤ numberOf r) × (numberOf r ≤ 21)
+-- there are twenty-three, numbered from 1
+pub numbered : (r : Refusal) → (1 ≤ numberOf r) × (numberOf r ≤ 23)
 numbered TooManyVertices = omega arith
 numbered Lengths = omega arith
 numbered (Head e) = omega arith
@@ -34,3 +34,5 @@ numbered ColumnRoom = omega arith
 numbered WrongIndex = omega arith
 numbered NotStruck = omega arith
 numbered (StrikeMark e) = omega arith
+numbered SampleSize = omega arith
+numbered (TooLarge i) = omega arith

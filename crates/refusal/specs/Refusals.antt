@@ -7,7 +7,7 @@ use Rattle.refusal.specs.declared.MeasureChoice.{MeasureChoice}
 use Rattle.refusal.specs.declared.MeasureChoice.the-variants as choice
 use Prim.Native.Nat.{ℕ, _+_, _*_, min}
 use Rattle.refusal.specs.declared.Refusal.{Refusal}
-use Rattle.refusal.specs.declared.Refusal.the-variants.{TooManyVertices, Lengths, Head, Own, Span, Tail, AnswerLength, WrongAnswers, NoSuchEdge, NewWeight, NoSuchVertex, Underivable, BillRoom, Text, TextRoom, MeasureNumber, InputLength, ColumnRoom, WrongIndex, NotStruck, StrikeMark}
+use Rattle.refusal.specs.declared.Refusal.the-variants.{TooManyVertices, Lengths, Head, Own, Span, Tail, AnswerLength, WrongAnswers, NoSuchEdge, NewWeight, NoSuchVertex, Underivable, BillRoom, Text, TextRoom, MeasureNumber, InputLength, ColumnRoom, WrongIndex, NotStruck, StrikeMark, SampleSize, TooLarge}
 use Rattle.refusal.specs.declared.Code.{Code}
 use Rattle.refusal.specs.declared.Acceptance.{Acceptance}
 use Rattle.refusal.specs.declared.Acceptance.the-variants as answer
@@ -22,7 +22,7 @@ use Rattle.refusal.specs.declared.Reading.the-variants as reading
 abbrev pub code : (number place : ℕ) → Code
 code n p = record { number = n; place = p }
 
--- the paper's table: a table line as place for 3 to 6 and 21, a text line for 14, otherwise 0
+-- the paper's table: a table line as place for 3 to 6 and 21, a text line for 14, a result's index for 23, otherwise 0
 abbrev pub codeOf : Refusal → Code
 codeOf TooManyVertices = code 1 0
 codeOf Lengths = code 2 0
@@ -45,6 +45,8 @@ codeOf ColumnRoom = code 18 0
 codeOf WrongIndex = code 19 0
 codeOf NotStruck = code 20 0
 codeOf (StrikeMark e) = code 21 (e .0)
+codeOf SampleSize = code 22 0
+codeOf (TooLarge i) = code 23 (i .0)
 
 abbrev pub numberOf : Refusal → ℕ
 numberOf r = codeOf r .number

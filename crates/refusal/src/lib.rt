@@ -8,6 +8,9 @@ ghost use Rattle.refusal.specs.Refusals.{code, codeOf, numberOf, placeOf
 // A line of a text, counted from 1.
 pub struct TextLine(pub u64);
 
+// A result of a sample, counted from 0.
+pub struct Observation(pub u64);
+
 // The paper's table of refusals, in its order.
 pub enum Refusal {
     // 1: more than 1,024 vertices.
@@ -52,9 +55,14 @@ pub enum Refusal {
     NotStruck,
     // 21: a strike mark other than 0 and 1.
     StrikeMark(Hyperedge),
+    // 22: no results, or too many.
+    SampleSize,
+    // 23: a result that is too large.
+    TooLarge(Observation),
 }
 
-// A refusal's number, and its place: the hyperedge or the text line that it names, else 0.
+// A refusal's number, and its place: the hyperedge, the text line or the result that it names, else
+// 0.
 pub struct Code {
     pub number: u64,
     pub place: u64,
@@ -95,6 +103,8 @@ impl Refusal {
             Refusal::WrongIndex => Code::of(19, 0),
             Refusal::NotStruck => Code::of(20, 0),
             Refusal::StrikeMark(e) => Code::of(21, e.0),
+            Refusal::SampleSize => Code::of(22, 0),
+            Refusal::TooLarge(i) => Code::of(23, i.0),
         }
     }
 

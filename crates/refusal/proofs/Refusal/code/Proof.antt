@@ -70,11 +70,21 @@ returns-20 c = c .of20 .ensures ∙ sym (ap codeOf (c .before .enum-told15 .give
 returns-21 : tie.Need-returns-21
 returns-21 c = c .of21 .ensures ∙ sym (ap codeOf (c .before .before .self6 .given .1))
 
+returns-22 : tie.Need-returns-22
+returns-22 c = c .of22 .ensures ∙ sym (ap codeOf (c .before .enum-told16 .given .1))
+
+returns-23 : tie.Need-returns-23
+returns-23 c = c .of23 .ensures ∙ sym (ap codeOf (c .before .before .self7 .given .1))
+
 pub code-spec : {M : Type 1} → statement M
 code-spec =
     tie.close
     (tie.spec
     enum-told
+    (λ c κs. search needs)
+    (λ c. search needs)
+    (λ c κs. search needs)
+    (λ c. search needs)
     (λ c κs. search needs)
     (λ c. search needs)
     (λ c κs. search needs)
@@ -136,4 +146,6 @@ code-spec =
     returns-18
     returns-19
     returns-20
-    returns-21)
+    returns-21
+    returns-22
+    returns-23)
