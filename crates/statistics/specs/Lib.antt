@@ -1,0 +1,4 @@
+pub mod Fractions
+pub mod Samples
+pub mod Summaries
+pub mod Worked
