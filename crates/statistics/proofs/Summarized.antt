@@ -2,9 +2,10 @@
 -- tells. Request 2026-05. Assumes nothing.
 use Prim.Native.Nat.{ℕ, _+_, _*_, _-_, _≤_, _<_}
 use mathlib.Core.Path.{_≡_, refl, sym, _∙_, ap, ap₂, subst}
-use mathlib.Core.Logic.{_⊎_}
+use mathlib.Core.Logic.{_⊎_, ⊎-elim}
 use mathlib.Core.List.{List, Perm}
-use native.Mathlib.Nat.{add-mul, mul-assoc, sub-add-cancel, eq-of-mul-eq-mul-left, eq-one-of-dvd-one}
+use native.Mathlib.Nat.{add-mul, mul-assoc, sub-add-cancel, eq-of-mul-eq-mul-left, eq-one-of-dvd-one, le-antisymm}
+use native.Mathlib.Decide.{decLe}
 use native.Mathlib.Omega.{arith}
 use lib.ListN.{length, getD}
 use Rattle.refusal.specs.declared.Observation.{Observation}
@@ -105,6 +106,31 @@ wrong-size xs e = go (refused-sample xs _ e) refl
     go (accepted s) p = let z : _≡_ {A = ℕ} 0 1 = cc in absurd (omega arith)
     go (sized h) p = h
     go (large h k i t) p = let z : _≡_ {A = ℕ} 0 1 = cc in absurd (omega arith)
+
+-- and the other way round
+pub size-refused : (xs : List ℕ) → (length xs ≡ 0) ⊎ (mostResults < length xs) → summaryOf xs ≡ summary.Refused SampleSize
+size-refused xs w = sym (summary-refused xs SampleSize (go (sampled xs) w))
+  where
+    go : {a : Acceptance} → Sampled xs a → (length xs ≡ 0) ⊎ (mostResults < length xs) → a ≡ Refused SampleSize
+    go (accepted s) w = absurd (⊎-elim (λ e. omega (arith, s .some)) (λ l. omega (arith, s .few)) w)
+    go (sized h) w = refl
+    go (large h k i t) w = absurd (⊎-elim (λ e. omega arith) (λ l. omega arith) w)
+
+-- there is one first result that is too large
+first-one : {xs : List ℕ} {i j : ℕ} → FirstTooLarge xs i → FirstTooLarge xs j → j ≤ i
+first-one {xs} {i} {j} s t = go (decLe j i)
+  where
+    go : Dec (j ≤ i) → j ≤ i
+    go (yes h) = h
+    go (no n) = absurd (omega (arith, s .large, t .first i (omega arith)))
+
+pub large-refused : (xs : List ℕ) (i : ℕ) → 1 ≤ length xs → length xs ≤ mostResults → FirstTooLarge xs i → summaryOf xs ≡ summary.Refused (TooLarge (observation i))
+large-refused xs i some few t = sym (summary-refused xs _ (go (sampled xs)))
+  where
+    go : {a : Acceptance} → Sampled xs a → a ≡ Refused (TooLarge (observation i))
+    go (accepted s) = absurd (omega (arith, t .large, s .small i (t .within)))
+    go (sized h) = absurd (⊎-elim (λ e. omega arith) (λ l. omega arith) h)
+    go (large h k j s) = ap (λ (z : ℕ). Refused (TooLarge (observation z))) (le-antisymm (first-one t s) (first-one s t))
 
 -- The order ----------------------------------------------------------------------------------------------------------------------------------------
 
