@@ -20,6 +20,9 @@ use Rattle.refusal.specs.declared.Extent.{Extent}
 use Rattle.refusal.specs.declared.MeasureChoice.{MeasureChoice}
 use Rattle.refusal.specs.declared.MeasureChoice.the-variants as choice
 use Rattle.refusal.specs.Refusals.{codeOf, resultOf, acceptanceResult, verdictResult, extentResult}
+use Rattle.statistics.specs.declared.Moments.{Moments}
+use Rattle.statistics.specs.declared.Summary.{Summary}
+use Rattle.statistics.specs.declared.Summary.the-variants as summary
 use Rattle.columns.specs.Columns.{Answers, Columns}
 use Rattle.settle.specs.Checking.{checked}
 use Rattle.reprice.specs.Repricing.{stricken, restored}
@@ -44,6 +47,8 @@ use Rattle.harness.specs.Results.{
   countsWritten,
   leftGrown,
   appendedResult,
+  momentsWritten,
+  summaryLeft,
 }
 
 module _ {o : MeasureChoice} (c : Columns) (a : Answers) {n : ℕ} where
@@ -144,3 +149,20 @@ module _ {o : MeasureChoice} (c : Columns) (k : Counts) (a : Answers) (index lis
 
     pub append-counts : {k′ : Counts} {room′ : List ℕ} → x ≡ appending.Counts k′ → room′ ≡ countsWritten k′ room → leftGrown 0 c′ a′ i′ l′ room′ ≡ appendedResult o c k a index list l room
     append-counts q s = rw (p, ← e, q, s)
+
+-- the mean and the variance
+module _ (m : Moments) (room : List ℕ) where
+  pub moments-written : length room ≡ 4
+      → set (set (set (set room 0 (m .mean .numerator)) 1 (m .mean .denominator)) 2 (m .variance .numerator)) 3 (m .variance .denominator) ≡ momentsWritten m room
+  moments-written h = rw (eq-eqb (length room) 4 h) (four room _ _ _ _ h)
+
+  pub moments-unwritten : ¬ (length room ≡ 4) → room ≡ momentsWritten m room
+  moments-unwritten n = rw (ne-eqb (length room) 4 n)
+
+-- summarizing, by its answer
+module _ {x s : Summary} (room : List ℕ) (e : s ≡ x) where
+  pub summary-refused : {r : Refusal} {n : ℕ} → s ≡ summary.Refused r → n ≡ resultOf (codeOf r) → record { result = n; left = room } ≡ summaryLeft x room
+  summary-refused p q = rw (← e, p, q)
+
+  pub summary-moments : {m : Moments} {room′ : List ℕ} → s ≡ summary.Moments m → room′ ≡ momentsWritten m room → record { result = 0; left = room′ } ≡ summaryLeft x room
+  summary-moments p q = rw (← e, p, q)

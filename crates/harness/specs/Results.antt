@@ -18,6 +18,10 @@ use Rattle.refusal.specs.declared.Reading.the-variants as reading
 use Rattle.refusal.specs.declared.MeasureChoice.{MeasureChoice}
 use Rattle.refusal.specs.declared.MeasureChoice.the-variants.{Measure, Refused}
 use Rattle.refusal.specs.Refusals.{codeOf, resultOf, acceptanceResult, verdictResult, extentResult, readingResult}
+use Rattle.statistics.specs.declared.Moments as moments
+use Rattle.statistics.specs.declared.Summary.{Summary}
+use Rattle.statistics.specs.declared.Summary.the-variants as summary
+use Rattle.statistics.specs.Summaries.{summaryNumber, summaryValues}
 use Rattle.columns.specs.Columns.{Answers, Columns}
 use Rattle.settle.specs.Checking.{checked}
 use Rattle.reprice.specs.Repricing.{MarkOutcome, stricken, restored}
@@ -136,3 +140,14 @@ grownResult o room = leftGrown (appendingResult (o .result)) (o .table) (o .answ
 abbrev pub appendedResult : MeasureChoice → Columns → Counts → Answers → (index list : List ℕ) → NewLine → List ℕ → LeftGrown
 appendedResult (Refused r) c k a index list l room = leftGrown (resultOf (codeOf r)) c a index list room
 appendedResult (Measure m) c k a index list l room = grownResult (appended m c k a index list l) room
+
+-- the four numbers of an answer, where four places are lent
+abbrev pub momentsWritten : moments.Moments → List ℕ → List ℕ
+momentsWritten m room = pick (eqb (length room) 4) (summaryValues (summary.Moments m)) room
+
+abbrev pub summaryWritten : Summary → List ℕ → List ℕ
+summaryWritten (summary.Moments m) room = momentsWritten m room
+summaryWritten (summary.Refused r) room = room
+
+abbrev pub summaryLeft : Summary → List ℕ → LeftRoom
+summaryLeft s room = record { result = summaryNumber s; left = summaryWritten s room }

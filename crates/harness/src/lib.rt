@@ -5,6 +5,8 @@ use refusal::Counts;
 use refusal::Header;
 use refusal::MeasureChoice;
 use refusal::Reading;
+use statistics::Moments;
+use statistics::Summary;
 use weights::Hyperedge;
 use weights::Mark;
 use weights::Measure;
@@ -20,7 +22,8 @@ ghost use Rattle.columns.specs.Acceptance.{acceptance};
 ghost use Rattle.columns.specs.Longer.{newLine};
 ghost use Rattle.indextable.specs.Index.{tableIndexed};
 ghost use Rattle.readtable.specs.Read.{readTable};
-ghost use Rattle.harness.specs.Results.{checkedResult, strickenResult, restoredResult, stateNumber, entryWritten, measureNumber, headerWritten, readLeft, readResult, writtenResult, indexedResult, countsWritten, usedCounts, leftGrown, appendedResult};
+ghost use Rattle.statistics.specs.Summaries.{summaryOf};
+ghost use Rattle.harness.specs.Results.{checkedResult, strickenResult, restoredResult, stateNumber, entryWritten, measureNumber, headerWritten, readLeft, readResult, writtenResult, indexedResult, countsWritten, usedCounts, leftGrown, appendedResult, momentsWritten, summaryLeft};
 
 #[no_mangle]
 pub extern "C" fn harness_check_table(
@@ -374,6 +377,35 @@ pub extern "C" fn harness_append(
                     return 0;
                 }
             }
+        }
+    }
+}
+
+// The mean and the variance, in the room if four places are lent.
+fn write_moments(moments: Moments, room: &mut [u64])
+    ensures { λ r. ⌜ now (room .exit) ≡ momentsWritten moments (now (room .entry)) ⌝ }
+{
+    if room.len() != 4 {
+        return;
+    }
+    let mean = moments.mean;
+    let variance = moments.variance;
+    room[0] = mean.numerator;
+    room[1] = mean.denominator;
+    room[2] = variance.numerator;
+    room[3] = variance.denominator;
+}
+
+#[no_mangle]
+pub extern "C" fn harness_summarize(results: &[u64], room: &mut [u64]) -> u64
+    ensures { λ r. ⌜ record { result = r; left = now (room .exit) } ≡ summaryLeft (summaryOf (now (results .entry))) (now (room .entry)) ⌝ }
+{
+    let s = statistics::summarize(results);
+    match s {
+        Summary::Refused(r) => return r.result(),
+        Summary::Moments(m) => {
+            write_moments(m, room);
+            return 0;
         }
     }
 }
