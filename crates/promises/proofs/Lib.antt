@@ -8,3 +8,4 @@ pub mod Request01
 pub mod Request02
 pub mod Request03
 pub mod Request04
+pub mod Request05
