@@ -10,6 +10,7 @@ mod model;
 mod random;
 mod reprice;
 mod settle;
+mod statistics;
 mod tables;
 mod text;
 mod trial;
@@ -43,6 +44,7 @@ const TESTS: &[&[Test]] = &[
     text::broken::TESTS,
     text::mutated::TESTS,
     text::unwritten::TESTS,
+    statistics::TESTS,
 ];
 
 const SEED: u64 = 1;

@@ -3,6 +3,7 @@
 
 pub mod growth;
 pub mod lending;
+pub mod statistics;
 pub mod texts;
 
 use crate::calls::lending::{Column, LentLabelling, LentTable};

@@ -2,6 +2,7 @@
 
 pub mod growth;
 pub mod solver;
+pub mod statistics;
 pub mod text;
 pub mod trees;
 
