@@ -1,25 +1,26 @@
--- A refusal can be told from its number and place: two different refusals have different codes. The paper's "A refusal returns its number and a place".
+-- A refusal can be told from its number, its place and its column: two different refusals differ in one of them, and only two of number 14 in the column alone.
+-- The paper's "A refusal returns its number and a place", and document 02, 2026-06: "Refusal 14 then returns line and column".
 -- Assumes nothing.
-use mathlib.Core.Path.{_≡_, refl, sym, _∙_, ap}
+use mathlib.Core.Path.{_≡_, refl, sym, _∙_, ap₂}
 use mathlib.Core.List.{List, [], _∷_}
 use Prim.Native.Nat.{ℕ}
 use lib.ListN.{getD}
 use Rattle.refusal.specs.declared.Refusal.{Refusal}
 use Rattle.refusal.specs.declared.Refusal.the-variants.{TooManyVertices, Lengths, Head, Own, Span, Tail, AnswerLength, WrongAnswers, NoSuchEdge, NewWeight, NoSuchVertex, Underivable, BillRoom, Text, TextRoom, MeasureNumber, InputLength, ColumnRoom, WrongIndex, NotStruck, StrikeMark, SampleSize, TooLarge}
 use Rattle.refusal.specs.declared.Code.{Code}
-use Rattle.refusal.specs.Refusals.{codeOf}
+use Rattle.refusal.specs.Refusals.{codeOf, columnOf}
 
--- the refusals with place p, by number, from 1 on
-abbrev numberedAt : ℕ → List Refusal
-numberedAt p =
+-- the refusals with place p and column c, by number, from 1 on
+abbrev numberedAt : (p c : ℕ) → List Refusal
+numberedAt p c =
     NotStruck ∷ TooManyVertices ∷ Lengths ∷ Head (record { 0 = p }) ∷ Own (record { 0 = p }) ∷ Span (record { 0 = p }) ∷ Tail (record { 0 = p })
-    ∷ AnswerLength ∷ WrongAnswers ∷ NoSuchEdge ∷ NewWeight ∷ NoSuchVertex ∷ Underivable ∷ BillRoom ∷ Text (record { 0 = p }) ∷ TextRoom ∷ MeasureNumber
+    ∷ AnswerLength ∷ WrongAnswers ∷ NoSuchEdge ∷ NewWeight ∷ NoSuchVertex ∷ Underivable ∷ BillRoom ∷ Text (record { 0 = p }) (record { 0 = c }) ∷ TextRoom ∷ MeasureNumber
     ∷ InputLength ∷ ColumnRoom ∷ WrongIndex ∷ NotStruck ∷ StrikeMark (record { 0 = p }) ∷ SampleSize ∷ TooLarge (record { 0 = p }) ∷ []
 
-abbrev refusalOf : Code → Refusal
-refusalOf c = getD (numberedAt (c .place)) (c .number) NotStruck
+abbrev refusalOf : Code → (column : ℕ) → Refusal
+refusalOf c column = getD (numberedAt (c .place) column) (c .number) NotStruck
 
-refusal-code : (r : Refusal) → refusalOf (codeOf r) ≡ r
+refusal-code : (r : Refusal) → refusalOf (codeOf r) (columnOf r) ≡ r
 refusal-code TooManyVertices = refl
 refusal-code Lengths = refl
 refusal-code (Head e) = refl
@@ -33,7 +34,7 @@ refusal-code NewWeight = refl
 refusal-code NoSuchVertex = refl
 refusal-code Underivable = refl
 refusal-code BillRoom = refl
-refusal-code (Text line) = refl
+refusal-code (Text line column) = refl
 refusal-code TextRoom = refl
 refusal-code MeasureNumber = refl
 refusal-code InputLength = refl
@@ -44,5 +45,5 @@ refusal-code (StrikeMark e) = refl
 refusal-code SampleSize = refl
 refusal-code (TooLarge i) = refl
 
-pub codes-differ : (r s : Refusal) → codeOf r ≡ codeOf s → r ≡ s
-codes-differ r s e = sym (refusal-code r) ∙ ap refusalOf e ∙ refusal-code s
+pub codes-differ : (r s : Refusal) → codeOf r ≡ codeOf s → columnOf r ≡ columnOf s → r ≡ s
+codes-differ r s e f = sym (refusal-code r) ∙ ap₂ refusalOf e f ∙ refusal-code s

@@ -37,7 +37,7 @@ codeOf NewWeight = code 10 0
 codeOf NoSuchVertex = code 11 0
 codeOf Underivable = code 12 0
 codeOf BillRoom = code 13 0
-codeOf (Text line) = code 14 (line .0)
+codeOf (Text line column) = code 14 (line .0)
 codeOf TextRoom = code 15 0
 codeOf MeasureNumber = code 16 0
 codeOf InputLength = code 17 0
@@ -53,6 +53,32 @@ numberOf r = codeOf r .number
 
 abbrev pub placeOf : Refusal → ℕ
 placeOf r = codeOf r .place
+
+-- document 02, 2026-06: "Refusal 14 then returns line and column, counted from 1"; no other refusal has a column
+abbrev pub columnOf : Refusal → ℕ
+columnOf TooManyVertices = 0
+columnOf Lengths = 0
+columnOf (Head e) = 0
+columnOf (Own e) = 0
+columnOf (Span e) = 0
+columnOf (Tail e) = 0
+columnOf AnswerLength = 0
+columnOf WrongAnswers = 0
+columnOf NoSuchEdge = 0
+columnOf NewWeight = 0
+columnOf NoSuchVertex = 0
+columnOf Underivable = 0
+columnOf BillRoom = 0
+columnOf (Text line column) = column .0
+columnOf TextRoom = 0
+columnOf MeasureNumber = 0
+columnOf InputLength = 0
+columnOf ColumnRoom = 0
+columnOf WrongIndex = 0
+columnOf NotStruck = 0
+columnOf (StrikeMark e) = 0
+columnOf SampleSize = 0
+columnOf (TooLarge i) = 0
 
 -- the greatest place that a result in C can hold
 abbrev pub lastPlace : ℕ

@@ -3,10 +3,13 @@
 use weights::Hyperedge;
 use weights::Measure;
 ghost use mathlib.Core.Path.{_≡_};
-ghost use Rattle.refusal.specs.Refusals.{code, codeOf, numberOf, placeOf, resultOf, acceptanceResult, verdictResult, extentResult, measureOf};
+ghost use Rattle.refusal.specs.Refusals.{code, codeOf, numberOf, placeOf, columnOf, resultOf, acceptanceResult, verdictResult, extentResult, measureOf};
 
 // A line of a text, counted from 1.
 pub struct TextLine(pub u64);
+
+// A byte of its line, counted from 1: an LF is the last byte of the line that it ends.
+pub struct TextColumn(pub u64);
 
 // A result of a sample, counted from 0.
 pub struct Observation(pub u64);
@@ -39,8 +42,8 @@ pub enum Refusal {
     Underivable,
     // 13: a bill longer than the room.
     BillRoom,
-    // 14: a text that breaks the form or a limit.
-    Text(TextLine),
+    // 14: a text that breaks the form or a limit, at the first byte that can't stand where it stands.
+    Text(TextLine, TextColumn),
     // 15: a column, or the text's room, too short.
     TextRoom,
     // 16: a measure's number that is none.
@@ -95,7 +98,7 @@ impl Refusal {
             Refusal::NoSuchVertex => Code::of(11, 0),
             Refusal::Underivable => Code::of(12, 0),
             Refusal::BillRoom => Code::of(13, 0),
-            Refusal::Text(l) => Code::of(14, l.0),
+            Refusal::Text(l, _) => Code::of(14, l.0),
             Refusal::TextRoom => Code::of(15, 0),
             Refusal::MeasureNumber => Code::of(16, 0),
             Refusal::InputLength => Code::of(17, 0),
@@ -118,6 +121,16 @@ impl Refusal {
         ensures { λ r. ⌜ r ≡ placeOf self ⌝ }
     {
         self.code().place
+    }
+
+    // The column that refusal 14 names beside its place, the line; else 0.
+    pub fn column(self) -> u64
+        ensures { λ r. ⌜ r ≡ columnOf self ⌝ }
+    {
+        match self {
+            Refusal::Text(_, c) => c.0,
+            _ => 0,
+        }
     }
 
     // The number and the place in one number, for C.
