@@ -9,6 +9,7 @@ use Rattle.text.specs.Tables.{edge, Table, edgesFrom, tableOf, closed, l
 use Rattle.text.specs.Render.{digitsOn, digits, word, firstWord, measureText, header, markText, ownText, tailText, edgeText, edgesText, tableText, render}
 use Rattle.text.specs.Worked.{costText}
 use Rattle.text.specs.Machine.{limit, lineAt, digitOf, grown, instead, after, spell, ended, step, run, Whole, Wrong, finish, parse}
+use Rattle.text.specs.Bytes.{survived, columnFrom, columnOf}
 
 -- the paper's table, with gaps before the first span, between two and behind the last
 gapped : Columns
@@ -75,25 +76,86 @@ too-great : parse (days-line (49 ∷ 48 ∷ 48 ∷ 48 ∷ 48 ∷ 48 ∷ 48 ∷ 4
 unfolding word firstWord listedInAll limit lineAt digitOf grown instead after spell ended step run finish parse
 too-great = refl
 
--- no byte; a lone LF; `parts 5` without LF
-empty : parse [] ≡ Wrong 1
-unfolding run finish parse
-empty = refl
+-- The place of what is refused, line and column ------------------------------------------------------------------------------------------
 
-lone-end : parse (10 ∷ []) ≡ Wrong 1
-unfolding firstWord spell step run finish parse
-lone-end = refl
+abbrev Refuses : List ℕ → (line column : ℕ) → Type 0
+Refuses s l c = (parse s ≡ Wrong l) × (columnOf s ≡ c)
 
-no-end : parse (112 ∷ 97 ∷ 114 ∷ 116 ∷ 115 ∷ 32 ∷ 53 ∷ []) ≡ Wrong 1
-unfolding firstWord limit lineAt digitOf grown spell step run finish parse
-no-end = refl
+-- `parts 5`, LF
+abbrev five : List ℕ → List ℕ
+five rest = 112 ∷ 97 ∷ 114 ∷ 116 ∷ 115 ∷ 32 ∷ 53 ∷ 10 ∷ rest
+
+-- no byte
+empty : Refuses [] 1 1
+unfolding columnOf columnFrom survived word firstWord listedInAll limit lineAt digitOf grown instead after spell ended step run finish parse
+empty = (refl, refl)
+
+-- LF alone
+lone-end : Refuses (10 ∷ []) 1 1
+unfolding columnOf columnFrom survived word firstWord listedInAll limit lineAt digitOf grown instead after spell ended step run finish parse
+lone-end = (refl, refl)
+
+-- `part 5`, LF
+part-five : Refuses (112 ∷ 97 ∷ 114 ∷ 116 ∷ 32 ∷ 53 ∷ 10 ∷ []) 1 5
+unfolding columnOf columnFrom survived word firstWord listedInAll limit lineAt digitOf grown instead after spell ended step run finish parse
+part-five = (refl, refl)
+
+-- `parts 5` without LF
+no-end : Refuses (112 ∷ 97 ∷ 114 ∷ 116 ∷ 115 ∷ 32 ∷ 53 ∷ []) 1 8
+unfolding columnOf columnFrom survived word firstWord listedInAll limit lineAt digitOf grown instead after spell ended step run finish parse
+no-end = (refl, refl)
+
+-- `parts 05`, LF
+leading-zero : Refuses (112 ∷ 97 ∷ 114 ∷ 116 ∷ 115 ∷ 32 ∷ 48 ∷ 53 ∷ 10 ∷ []) 1 8
+unfolding columnOf columnFrom survived word firstWord listedInAll limit lineAt digitOf grown instead after spell ended step run finish parse
+leading-zero = (refl, refl)
+
+-- `parts 1025`, LF
+too-many-vertices : Refuses (112 ∷ 97 ∷ 114 ∷ 116 ∷ 115 ∷ 32 ∷ 49 ∷ 48 ∷ 50 ∷ 53 ∷ 10 ∷ []) 1 10
+unfolding columnOf columnFrom survived word firstWord listedInAll limit lineAt digitOf grown instead after spell ended step run finish parse
+too-many-vertices = (refl, refl)
 
 -- `parts 5 cost`, LF
-default-named : parse (112 ∷ 97 ∷ 114 ∷ 116 ∷ 115 ∷ 32 ∷ 53 ∷ 32 ∷ 99 ∷ 111 ∷ 115 ∷ 116 ∷ 10 ∷ []) ≡ Wrong 1
-unfolding word firstWord limit lineAt digitOf grown spell ended step run finish parse
-default-named = refl
+default-named : Refuses (112 ∷ 97 ∷ 114 ∷ 116 ∷ 115 ∷ 32 ∷ 53 ∷ 32 ∷ 99 ∷ 111 ∷ 115 ∷ 116 ∷ 10 ∷ []) 1 9
+unfolding columnOf columnFrom survived word firstWord listedInAll limit lineAt digitOf grown instead after spell ended step run finish parse
+default-named = (refl, refl)
 
 -- `parts 0`, LF, and any line
-no-vertex : parse (112 ∷ 97 ∷ 114 ∷ 116 ∷ 115 ∷ 32 ∷ 48 ∷ 10 ∷ 48 ∷ 32 ∷ 48 ∷ 10 ∷ []) ≡ Wrong 2
-unfolding word firstWord limit lineAt digitOf grown instead after spell ended step run finish parse
-no-vertex = refl
+no-vertex : Refuses (112 ∷ 97 ∷ 114 ∷ 116 ∷ 115 ∷ 32 ∷ 48 ∷ 10 ∷ 48 ∷ 32 ∷ 48 ∷ 10 ∷ []) 2 1
+unfolding columnOf columnFrom survived word firstWord listedInAll limit lineAt digitOf grown instead after spell ended step run finish parse
+no-vertex = (refl, refl)
+
+-- `parts 5`, LF, and then `0`, LF
+no-own : Refuses (five (48 ∷ 10 ∷ [])) 2 2
+unfolding columnOf columnFrom survived word firstWord listedInAll limit lineAt digitOf grown instead after spell ended step run finish parse
+no-own = (refl, refl)
+
+-- `0 1000000001`, LF
+own-too-great : Refuses (five (48 ∷ 32 ∷ 49 ∷ 48 ∷ 48 ∷ 48 ∷ 48 ∷ 48 ∷ 48 ∷ 48 ∷ 48 ∷ 49 ∷ 10 ∷ [])) 2 12
+unfolding columnOf columnFrom survived word firstWord listedInAll limit lineAt digitOf grown instead after spell ended step run finish parse
+own-too-great = (refl, refl)
+
+-- `0 -`, LF
+bare-dash-place : Refuses (five (48 ∷ 32 ∷ 45 ∷ 10 ∷ [])) 2 4
+unfolding columnOf columnFrom survived word firstWord listedInAll limit lineAt digitOf grown instead after spell ended step run finish parse
+bare-dash-place = (refl, refl)
+
+-- `0 5`, two spaces, `1`, LF
+two-spaces : Refuses (five (48 ∷ 32 ∷ 53 ∷ 32 ∷ 32 ∷ 49 ∷ 10 ∷ [])) 2 5
+unfolding columnOf columnFrom survived word firstWord listedInAll limit lineAt digitOf grown instead after spell ended step run finish parse
+two-spaces = (refl, refl)
+
+-- `0 0` and seventeen parts 0, LF
+seventeen : Refuses (five (48 ∷ 32 ∷ 48 ∷ 32 ∷ 48 ∷ 32 ∷ 48 ∷ 32 ∷ 48 ∷ 32 ∷ 48 ∷ 32 ∷ 48 ∷ 32 ∷ 48 ∷ 32 ∷ 48 ∷ 32 ∷ 48 ∷ 32 ∷ 48 ∷ 32 ∷ 48 ∷ 32 ∷ 48 ∷ 32 ∷ 48 ∷ 32 ∷ 48 ∷ 32 ∷ 48 ∷ 32 ∷ 48 ∷ 32 ∷ 48 ∷ 32 ∷ 48 ∷ 10 ∷ [])) 2 36
+unfolding columnOf columnFrom survived word firstWord listedInAll limit lineAt digitOf grown instead after spell ended step run finish parse
+seventeen = (refl, refl)
+
+-- `0 5 9`, LF
+no-such-vertex : Refuses (five (48 ∷ 32 ∷ 53 ∷ 32 ∷ 57 ∷ 10 ∷ [])) 2 5
+unfolding columnOf columnFrom survived word firstWord listedInAll limit lineAt digitOf grown instead after spell ended step run finish parse
+no-such-vertex = (refl, refl)
+
+-- `0 1`, LF, `0`
+last-line-short : Refuses (five (48 ∷ 32 ∷ 49 ∷ 10 ∷ 48 ∷ [])) 3 2
+unfolding columnOf columnFrom survived word firstWord listedInAll limit lineAt digitOf grown instead after spell ended step run finish parse
+last-line-short = (refl, refl)

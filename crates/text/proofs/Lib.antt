@@ -1,3 +1,4 @@
+pub mod Bytes
 pub mod Complete
 pub mod Digits
 pub mod Examples

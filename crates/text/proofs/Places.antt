@@ -53,13 +53,13 @@ pub record FirstUnread (s : List ℕ) (k : ℕ) : Type 0 where
 
 -- What a step does to the line -----------------------------------------------------------------------------------------------------------
 
-unfoldable lineOf : State → ℕ
+unfoldable pub lineOf : State → ℕ
 lineOf (Spelling ws p) = 1
 lineOf (First p) = lineAt p
 lineOf (Within p v) = lineAt p
 lineOf (Failed l) = l
 
-data Moved (σ : State) (b : ℕ) : State → Type 0 where
+pub data Moved (σ : State) (b : ℕ) : State → Type 0 where
   fails : {l : ℕ} → lineOf σ ≡ l → Moved σ b (Failed l)
   stays : {τ : State} → eqb b 10 ≡ false → lineOf τ ≡ lineOf σ → Moved σ b τ
   ends : {t : Table} → eqb b 10 ≡ true → lineOf (First (Head t)) ≡ suc (lineOf σ) → Moved σ b (First (Head t))
@@ -114,7 +114,7 @@ instead-moved (Own t h zero) b = pick-by (Moved _ b) (eqb b 45) (λ f. stays (ot
 instead-moved (Own t h (suc k)) b = fails refl
 instead-moved (Listed t h o k xs) b = fails refl
 
-moved : (σ : State) (b : ℕ) (s : List ℕ) → Reached σ s → Moved σ b (step σ b)
+pub moved : (σ : State) (b : ℕ) (s : List ℕ) → Reached σ s → Moved σ b (step σ b)
 unfolding step lineOf
 moved (Spelling ws p) b s r = spell-moved (Spelling ws p) ws p b refl (r .2)
 moved (First p) b s r = pick-by (Moved _ b) (ltb (digitOf b) 10) (λ e. grown-moved (First p) p (digitOf b) b refl e) (λ f. instead-moved p b)
@@ -131,7 +131,7 @@ unfolding run step
 run-failed l [] = refl
 run-failed l (b ∷ bs) = run-failed l bs
 
-wrong-at : (σ : State) (k : ℕ) → finish σ ≡ Wrong k → lineOf σ ≡ k
+pub wrong-at : (σ : State) (k : ℕ) → finish σ ≡ Wrong k → lineOf σ ≡ k
 unfolding finish lineOf lineAt
 wrong-at (Spelling ws p) k e = cc
 wrong-at (First Vertices) k e = cc

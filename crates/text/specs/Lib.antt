@@ -5,4 +5,5 @@ pub mod Rows
 pub mod Places
 pub mod Permitted
 pub mod Prefixes
+pub mod Bytes
 pub mod Worked
