@@ -15,9 +15,11 @@ use Rattle.text.specs.Machine.{digitOf}
 use Rattle.text.proofs.Digits.{pick-by}
 use Rattle.cursor.specs.declared.Found.{Found}
 use Rattle.cursor.specs.declared.Found.the-variants.{Number, NotANumber}
+use Rattle.cursor.specs.declared.Token.{Token}
+use Rattle.cursor.specs.declared.WeightToken.{WeightToken}
 use Rattle.cursor.specs.declared.FoundWeight.{FoundWeight}
 use Rattle.cursor.specs.declared.FoundWeight.the-variants.{Own, NotAWeight}
-use Rattle.cursor.specs.Cursor.{digitsFrom, numberOf, numberAt, asWeight, weightAt}
+use Rattle.cursor.specs.Cursor.{token, digitsFrom, numberOf, numberAt, weightToken, markedFrom, weightAt}
 
 pub byte-within : (s : List ℕ) (at b : ℕ) → getD s at 0 ≡ b → 0 < b → at < length s
 byte-within s at b e h = go (ltb at (length s)) refl
@@ -26,16 +28,19 @@ byte-within s at b e h = go (ltb at (length s)) refl
     go true f = ltb-true at (length s) f
     go false f = let z = List·getD-eq-default s 0 (ltb-false at (length s) f) in absurd (omega arith)
 
--- what a number that was found tells: it is below the limit, and the place behind it is after `at` and not after `end`
-abbrev Counts : (at limit end : ℕ) → Found → Type 0
-Counts at limit end (Number v next) = (v < limit) × (at < next) × (next ≤ end)
-Counts at limit end NotANumber = Unit {0}
+-- what a number that was found tells: it is below the limit, and the place where it stopped is after `at` and not after `end`
+abbrev CountsOf : (at limit end stop : ℕ) → Found → Type 0
+CountsOf at limit end stop (Number v) = (v < limit) × (at < stop) × (stop ≤ end)
+CountsOf at limit end stop NotANumber = Unit {0}
 
-digits-count : (bs : List ℕ) (at i limit v : ℕ) → at < i → v < limit → Counts at limit (i + length bs) (digitsFrom bs i limit v)
+abbrev Counts : (at limit end : ℕ) → Token → Type 0
+Counts at limit end t = CountsOf at limit end (t .stop) (t .found)
+
+digits-count : (bs : List ℕ) (at i limit v : ℕ) → at < i → v < limit → Counts at limit (i + length bs) (digitsFrom bs at i limit v)
 unfolding digitsFrom
 digits-count [] at i limit v h l = (l, h, omega arith)
 digits-count (b ∷ bs) at i limit v h l =
-    let P : Found → Type 0 = Counts at limit (i + length (b ∷ bs)) in
+    let P : Token → Type 0 = Counts at limit (i + length (b ∷ bs)) in
     let e : i + 1 + length bs ≡ i + length (b ∷ bs) = omega arith in
     pick-by P (ltb (digitOf b) 10) (λ d.
     pick-by P (ltb 0 v) (λ z.
@@ -47,36 +52,69 @@ number-count : (bs : List ℕ) (at limit : ℕ) → Counts at limit (at + length
 unfolding numberOf
 number-count [] at limit = tt
 number-count (b ∷ bs) at limit =
-    let P : Found → Type 0 = Counts at limit (at + length (b ∷ bs)) in
+    let P : Token → Type 0 = Counts at limit (at + length (b ∷ bs)) in
     let e : at + 1 + length bs ≡ at + length (b ∷ bs) = omega arith in
     pick-by P (ltb (digitOf b) 10) (λ d.
     pick-by P (ltb (digitOf b) limit)
     (λ m. rw e at (digits-count bs at (at + 1) limit (digitOf b) (omega arith) (ltb-true _ _ m)))
     (λ m. tt)) (λ d. tt)
 
-pub number-counts : (s : List ℕ) (at limit v next : ℕ) → numberAt s at limit ≡ Number v next → (v < limit) × (at < next) × (next ≤ length s)
+pub number-counts : (s : List ℕ) (at limit start stop v : ℕ) → numberAt s at limit ≡ token start stop (Number v) → (v < limit) × (at < stop) × (stop ≤ length s)
 unfolding numberAt
-number-counts s at limit v next e =
-    let r : Counts at limit (at + length (drop at s)) (Number v next) = rw e at (number-count (drop at s) at limit) in
+number-counts s at limit start stop v e =
+    let r : Counts at limit (at + length (drop at s)) (token start stop (Number v)) = rw e at (number-count (drop at s) at limit) in
     let l = length-drop at s in
     (r .0, r .1, omega arith)
 
 -- the same of an own figure, with its mark
-abbrev WeightCounts : (at end : ℕ) → FoundWeight → Type 0
-WeightCounts at end (Own w k next) = (w .0 ≤ greatest) × (k .0 ≤ struckMark) × (at < next) × (next ≤ end)
-WeightCounts at end NotAWeight = Unit {0}
+abbrev WeightCountsOf : (at end stop : ℕ) → FoundWeight → Type 0
+WeightCountsOf at end stop (Own w k) = (w .0 ≤ greatest) × (k .0 ≤ struckMark) × (at < stop) × (stop ≤ end)
+WeightCountsOf at end stop NotAWeight = Unit {0}
 
-as-weight-counts : (s : List ℕ) (at from : ℕ) (k : Mark) (f : Found) → at ≤ from → k .0 ≤ struckMark → numberAt s from (greatest + 1) ≡ f → WeightCounts at (length s) (asWeight k f)
-as-weight-counts s at from k (Number v next) h m e = let r = number-counts s from (greatest + 1) v next e in (omega arith, m, omega arith, r .2)
-as-weight-counts s at from k NotANumber h m e = tt
+abbrev WeightCounts : (at end : ℕ) → WeightToken → Type 0
+WeightCounts at end t = WeightCountsOf at end (t .stop) (t .found)
+
+marked-counts : (s : List ℕ) (at from : ℕ) (k : Mark) (start stop : ℕ) (f : Found) → at ≤ from → k .0 ≤ struckMark → numberAt s from (greatest + 1) ≡ token start stop f
+    → WeightCounts at (length s) (markedFrom at k (token start stop f))
+marked-counts s at from k start stop (Number v) h m e = let r = number-counts s from (greatest + 1) start stop v e in (omega arith, m, omega arith, r .2)
+marked-counts s at from k start stop NotANumber h m e = tt
 
 weight-count : (s : List ℕ) (at : ℕ) → WeightCounts at (length s) (weightAt s at)
 unfolding weightAt
 weight-count s at =
+    let struck = numberAt s (at + 1) (greatest + 1) in
+    let stands = numberAt s at (greatest + 1) in
     pick-by (WeightCounts at (length s)) (eqb (getD s at 0) 45)
-    (λ e. as-weight-counts s at (at + 1) (record { 0 = struckMark }) (numberAt s (at + 1) (greatest + 1)) (omega arith) (omega arith) refl)
-    (λ e. as-weight-counts s at at (record { 0 = standing }) (numberAt s at (greatest + 1)) (omega arith) (omega arith) refl)
+    (λ e. marked-counts s at (at + 1) (record { 0 = struckMark }) (struck .start) (struck .stop) (struck .found) (omega arith) (omega arith) refl)
+    (λ e. marked-counts s at at (record { 0 = standing }) (stands .start) (stands .stop) (stands .found) (omega arith) (omega arith) refl)
 
-pub weight-counts : (s : List ℕ) (at : ℕ) (w : Weight) (k : Mark) (next : ℕ) → weightAt s at ≡ Own w k next
-    → (w .0 ≤ greatest) × (k .0 ≤ struckMark) × (at < next) × (next ≤ length s)
-weight-counts s at w k next e = rw e at (weight-count s at)
+pub weight-counts : (s : List ℕ) (at : ℕ) (start stop : ℕ) (w : Weight) (k : Mark) → weightAt s at ≡ weightToken start stop (Own w k)
+    → (w .0 ≤ greatest) × (k .0 ≤ struckMark) × (at < stop) × (stop ≤ length s)
+weight-counts s at start stop w k e = rw e at (weight-count s at)
+
+-- Where a reading began: at the place that it was asked for ------------------------------------------------------------------------------------
+
+digits-start : (bs : List ℕ) (at i limit v : ℕ) → digitsFrom bs at i limit v .start ≡ at
+unfolding digitsFrom
+digits-start [] at i limit v = refl
+digits-start (b ∷ bs) at i limit v =
+    let P : Token → Type 0 = λ t. t .start ≡ at in
+    pick-by P (ltb (digitOf b) 10) (λ d.
+    pick-by P (ltb 0 v) (λ z.
+    pick-by P (ltb (10 * v + digitOf b) limit) (λ m. digits-start bs at (i + 1) limit (10 * v + digitOf b)) (λ m. refl)) (λ z. refl)) (λ d. refl)
+
+number-start : (bs : List ℕ) (at limit : ℕ) → numberOf bs at limit .start ≡ at
+unfolding numberOf
+number-start [] at limit = refl
+number-start (b ∷ bs) at limit =
+    let P : Token → Type 0 = λ t. t .start ≡ at in
+    pick-by P (ltb (digitOf b) 10) (λ d.
+    pick-by P (ltb (digitOf b) limit) (λ m. digits-start bs at (at + 1) limit (digitOf b)) (λ m. refl)) (λ d. refl)
+
+pub token-start : (s : List ℕ) (at limit : ℕ) → numberAt s at limit .start ≡ at
+unfolding numberAt
+token-start s at limit = number-start (drop at s) at limit
+
+pub weight-start : (s : List ℕ) (at : ℕ) → weightAt s at .start ≡ at
+unfolding weightAt
+weight-start s at = pick-by (λ (t : WeightToken). t .start ≡ at) (eqb (getD s at 0) 45) (λ e. refl) (λ e. refl)

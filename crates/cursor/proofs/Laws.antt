@@ -9,47 +9,47 @@ use lib.Seq.{drop-cons}
 use borrow.Author.Tests.{lt-ltb, le-ltb, le-leb, lt-leb, eq-eqb, ne-eqb}
 use Rattle.text.specs.Machine.{digitOf}
 use Rattle.cursor.specs.declared.Found.the-variants.{Number, NotANumber}
-use Rattle.cursor.specs.Cursor.{digitsFrom, numberOf, numberAt}
+use Rattle.cursor.specs.Cursor.{token, digitsFrom, numberOf, numberAt}
 
 -- a test of a definition, from the fact that a branch gives: `search tests` at a return
 pub ruleset tests = (lt-ltb, le-ltb, le-leb, lt-leb, eq-eqb, ne-eqb)
 
 -- nothing is left of the text
-pub digits-end : (s : List ℕ) (i limit v : ℕ) → length s ≤ i → Number v i ≡ digitsFrom (drop i s) i limit v
+pub digits-end : (s : List ℕ) (start i limit v : ℕ) → length s ≤ i → token start i (Number v) ≡ digitsFrom (drop i s) start i limit v
 unfolding digitsFrom
-digits-end s i limit v h = rw (drop-of-length-le s h)
+digits-end s start i limit v h = rw (drop-of-length-le s h)
 
-pub number-end : (s : List ℕ) (at limit : ℕ) → length s ≤ at → NotANumber ≡ numberAt s at limit
+pub number-end : (s : List ℕ) (at limit : ℕ) → length s ≤ at → token at at NotANumber ≡ numberAt s at limit
 unfolding numberAt numberOf
 number-end s at limit h = rw (drop-of-length-le s h)
 
 -- d is the digit at the place
 module _ (s : List ℕ) (i limit d : ℕ) (h : i < length s) (e : d ≡ digitOf (getD s i 0)) where
-  pub number-none : 10 ≤ d → NotANumber ≡ numberAt s i limit
+  pub number-none : 10 ≤ d → token i i NotANumber ≡ numberAt s i limit
   unfolding numberAt numberOf
   number-none l = rw (drop-cons s i 0 h, ← e, le-ltb d 10 l)
 
-  pub number-over : d < 10 → limit ≤ d → NotANumber ≡ numberAt s i limit
+  pub number-over : d < 10 → limit ≤ d → token i i NotANumber ≡ numberAt s i limit
   unfolding numberAt numberOf
   number-over l m = rw (drop-cons s i 0 h, ← e, lt-ltb d 10 l, le-ltb d limit m)
 
-  pub number-first : d < 10 → d < limit → digitsFrom (drop (i + 1) s) (i + 1) limit d ≡ numberAt s i limit
+  pub number-first : d < 10 → d < limit → digitsFrom (drop (i + 1) s) i (i + 1) limit d ≡ numberAt s i limit
   unfolding numberAt numberOf
   number-first l m = rw (drop-cons s i 0 h, ← e, lt-ltb d 10 l, lt-ltb d limit m, add-one)
 
-  module _ (v : ℕ) where
-    pub digits-stop : 10 ≤ d → Number v i ≡ digitsFrom (drop i s) i limit v
+  module _ (start v : ℕ) where
+    pub digits-stop : 10 ≤ d → token start i (Number v) ≡ digitsFrom (drop i s) start i limit v
     unfolding digitsFrom
     digits-stop l = rw (drop-cons s i 0 h, ← e, le-ltb d 10 l)
 
-    pub digits-zero : d < 10 → v ≡ 0 → NotANumber ≡ digitsFrom (drop i s) i limit v
+    pub digits-zero : d < 10 → v ≡ 0 → token start i NotANumber ≡ digitsFrom (drop i s) start i limit v
     unfolding digitsFrom
     digits-zero l z = rw (drop-cons s i 0 h, ← e, lt-ltb d 10 l, le-ltb 0 v (omega arith))
 
-    pub digits-over : d < 10 → 0 < v → limit ≤ 10 * v + d → NotANumber ≡ digitsFrom (drop i s) i limit v
+    pub digits-over : d < 10 → 0 < v → limit ≤ 10 * v + d → token start i NotANumber ≡ digitsFrom (drop i s) start i limit v
     unfolding digitsFrom
     digits-over l z m = rw (drop-cons s i 0 h, ← e, lt-ltb d 10 l, lt-ltb 0 v z, le-ltb (10 * v + d) limit m)
 
-    pub digits-next : d < 10 → 0 < v → 10 * v + d < limit → digitsFrom (drop (i + 1) s) (i + 1) limit (10 * v + d) ≡ digitsFrom (drop i s) i limit v
+    pub digits-next : d < 10 → 0 < v → 10 * v + d < limit → digitsFrom (drop (i + 1) s) start (i + 1) limit (10 * v + d) ≡ digitsFrom (drop i s) start i limit v
     unfolding digitsFrom
     digits-next l z m = rw (drop-cons s i 0 h, ← e, lt-ltb d 10 l, lt-ltb 0 v z, lt-ltb (10 * v + d) limit m, add-one)
