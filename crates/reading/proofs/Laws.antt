@@ -1,27 +1,28 @@
 -- The laws of the definitions of specs/ by which the loops go. Assumes nothing.
 use mathlib.Core.Path.{_≡_, refl, sym, _∙_, ap, ap₂, subst}
 use mathlib.Core.List.{List, [], _∷_, _++_}
-use mathlib.Core.Bool.{true, false}
 use Prim.Native.Nat.{ℕ, zero, suc, _+_, _-_, _≤_, _<_, min}
 use native.Mathlib.Numerals.{add-one}
 use native.Mathlib.Nat.{sub-zero}
 use native.Mathlib.Omega.{arith}
 use lib.ListN.{length, getD, drop, set, drop-of-length-le, length-append, length-set}
 use lib.Seq.{drop-cons}
-use borrow.Author.Tests.{eq-eqb, ne-eqb}
+use borrow.Author.Tests.{lt-ltb, le-ltb, eq-eqb, ne-eqb}
 use Rattle.weights.specs.declared.Measure.{Measure}
 use Rattle.weights.specs.declared.Vertex.{Vertex}
 use Rattle.weights.specs.declared.Weight.{Weight}
 use Rattle.weights.specs.declared.Mark.{Mark}
+use Rattle.refusal.specs.declared.Refusal.the-variants.{Text}
+use Rattle.refusal.specs.declared.Reading.{Reading}
 use Rattle.refusal.specs.declared.Reading.the-variants as reading
 use Rattle.columns.specs.Acceptance.{mostVertices, mostEdges, mostListed, longestTail}
-use Rattle.text.specs.Machine.{Parse, Whole, Wrong, parse}
+use Rattle.text.specs.Machine.{Parse, Whole, begin, parse}
 use Rattle.text.specs.Render.{default, spoken, word, firstWord}
 use Rattle.columns.specs.Filled.{filled}
 use Rattle.columns.proofs.Filled.{filled-none, filled-set}
-use Rattle.cursor.specs.declared.Found.{Found}
+use Rattle.cursor.specs.declared.Token.{Token}
 use Rattle.cursor.specs.declared.Found.the-variants.{Number, NotANumber}
-use Rattle.cursor.specs.Cursor.{numberAt, weightAt}
+use Rattle.cursor.specs.Cursor.{token, numberAt, weightAt}
 use Rattle.reading.specs.declared.FirstLine.the-variants as first
 use Rattle.reading.specs.declared.Stem.the-variants as stem
 use Rattle.reading.specs.declared.Line.{Line}
@@ -29,19 +30,24 @@ use Rattle.reading.specs.declared.Line.the-variants as line
 use Rattle.reading.specs.declared.Tail.{Tail}
 use Rattle.reading.specs.declared.Tail.the-variants as tail
 use Rattle.reading.specs.Lines.{
-  startsWith,
+  agreeing,
+  onWord,
   onCount,
+  onCounted,
   firstLine,
-  onOwn,
+  onOwned,
   onHead,
+  onHeaded,
   stemAt,
   Listing,
   Ends,
   Breaks,
   listEnd,
+  onListed,
   listedFrom,
   vertices,
   tailOf,
+  lineWith,
   ReadsTail,
   Row,
   Fails,
@@ -54,52 +60,54 @@ use Rattle.reading.specs.Lines.{
   scan,
   readingOf,
 }
-use Rattle.reading.proofs.Scanned.{scan-is-parse}
-use Rattle.reading.proofs.Scanning.{row-counts, tells, fails, Scanning, scan-end, scan-fails, scan-next}
+use Rattle.reading.proofs.Scanned.{FirstRuns, first-run, scan-is-parse, Refuses, stopped}
+use Rattle.reading.proofs.Scanning.{row-counts, tells, fails, Scanning, scan-end, full-fate, fails-fate, scan-next}
 
 -- of a word and a text from place i on: a byte that is the same, one that is not, the text's end, the word's end
 module _ (w s : List ℕ) (i : ℕ) where
-  pub starts-more : i < length w → i < length s → getD s i 0 ≡ getD w i 0 → startsWith (drop (i + 1) w) (drop (i + 1) s) ≡ startsWith (drop i w) (drop i s)
-  unfolding startsWith
-  starts-more h l e = rw (add-one i, drop-cons w i 0 h, drop-cons s i 0 l, eq-eqb _ _ e)
+  pub agree-more : i < length w → i < length s → getD s i 0 ≡ getD w i 0 → i + 1 + agreeing (drop (i + 1) w) (drop (i + 1) s) ≡ i + agreeing (drop i w) (drop i s)
+  unfolding agreeing
+  agree-more h l e = rw (add-one i, drop-cons w i 0 h, drop-cons s i 0 l, eq-eqb _ _ e) (omega arith)
 
-  pub starts-stop : i < length w → i < length s → (getD s i 0 ≡ getD w i 0 → ⊥) → false ≡ startsWith (drop i w) (drop i s)
-  unfolding startsWith
-  starts-stop h l n = rw (drop-cons w i 0 h, drop-cons s i 0 l, ne-eqb _ _ n)
+  pub agree-stop : i < length w → i < length s → (getD s i 0 ≡ getD w i 0 → ⊥) → i ≡ i + agreeing (drop i w) (drop i s)
+  unfolding agreeing
+  agree-stop h l n = rw (drop-cons w i 0 h, drop-cons s i 0 l, ne-eqb _ _ n) (omega arith)
 
-  pub starts-short : i < length w → length s ≤ i → false ≡ startsWith (drop i w) (drop i s)
-  unfolding startsWith
-  starts-short h l = rw (drop-cons w i 0 h, drop-of-length-le s l)
+  pub agree-short : i < length w → length s ≤ i → i ≡ i + agreeing (drop i w) (drop i s)
+  unfolding agreeing
+  agree-short h l = rw (drop-cons w i 0 h, drop-of-length-le s l) (omega arith)
 
-  pub starts-end : length w ≤ i → true ≡ startsWith (drop i w) (drop i s)
-  unfolding startsWith
-  starts-end h = rw (drop-of-length-le w h)
+  pub agree-end : length w ≤ i → i ≡ i + agreeing (drop i w) (drop i s)
+  unfolding agreeing
+  agree-end h = rw (drop-of-length-le w h) (omega arith)
 
 -- behind a head: no space, and a space before an own figure
-module _ (s : List ℕ) (h at : ℕ) (F : Found) (e : F ≡ Number h at) where
-  pub stem-none : (getD s at 0 ≡ 32 → ⊥) → stem.Wrong ≡ onHead s F
-  stem-none n = rw (e, ne-eqb _ _ n)
+module _ (s : List ℕ) (start stop h : ℕ) (T : Token) (e : T ≡ token start stop (Number h)) where
+  pub stem-none : (getD s stop 0 ≡ 32 → ⊥) → stem.Wrong stop ≡ onHeaded s T
+  stem-none n = (let q : stem.Wrong stop ≡ onHead s stop (Number h) = rw (ne-eqb _ _ n) in q) ∙ sym (ap (onHeaded s) e)
 
-  pub stem-own : getD s at 0 ≡ 32 → onOwn h (weightAt s (at + 1)) ≡ onHead s F
-  stem-own q = rw (e, eq-eqb _ _ q)
+  pub stem-own : getD s stop 0 ≡ 32 → onOwned h (weightAt s (stop + 1)) ≡ onHeaded s T
+  stem-own q = (let z : onOwned h (weightAt s (stop + 1)) ≡ onHead s stop (Number h) = rw (eq-eqb _ _ q) in z) ∙ sym (ap (onHeaded s) e)
 
 -- of a list, behind the parts xs: no room for one more, none that is a number, one more, and its end
 module _ (s : List ℕ) (n at : ℕ) (xs : List ℕ) where
-  listing-full : (left : ℕ) → left ≡ 0 → getD s at 0 ≡ 32 → listedFrom left s n at xs ≡ Breaks xs
+  listing-full : (left : ℕ) → left ≡ 0 → getD s at 0 ≡ 32 → listedFrom left s n at xs ≡ Breaks xs at
   unfolding listedFrom
   listing-full left z e = rw (z, eq-eqb _ _ e)
 
-  listing-none : (left : ℕ) → 0 < left → getD s at 0 ≡ 32 → numberAt s (at + 1) n ≡ NotANumber → listedFrom left s n at xs ≡ Breaks xs
+  listing-none : (left start stop : ℕ) → 0 < left → getD s at 0 ≡ 32 → numberAt s (at + 1) n ≡ token start stop NotANumber → listedFrom left s n at xs ≡ Breaks xs stop
   unfolding listedFrom
-  listing-none zero h e q = absurd (omega arith)
-  listing-none (suc left) h e q = rw (eq-eqb _ _ e, q)
+  listing-none zero start stop h e q = absurd (omega arith)
+  listing-none (suc left) start stop h e q =
+      rw (eq-eqb _ _ e) (ap (λ (T : Token). onListed xs T (λ ys next. listedFrom left s n next ys)) q)
 
-  listing-more : (left v next : ℕ) → 0 < left → getD s at 0 ≡ 32 → numberAt s (at + 1) n ≡ Number v next → listedFrom left s n at xs ≡ listedFrom (left - 1) s n next (xs ++ v ∷ [])
+  listing-more : (left start stop v : ℕ) → 0 < left → getD s at 0 ≡ 32 → numberAt s (at + 1) n ≡ token start stop (Number v)
+      → listedFrom left s n at xs ≡ listedFrom (left - 1) s n stop (xs ++ v ∷ [])
   unfolding listedFrom
-  listing-more zero v next h e q = absurd (omega arith)
-  listing-more (suc left) v next h e q =
+  listing-more zero start stop v h e q = absurd (omega arith)
+  listing-more (suc left) start stop v h e q =
       let z : suc left - 1 ≡ left = omega arith in
-      rw (eq-eqb _ _ e, q) (ap (λ (k : ℕ). listedFrom k s n next (xs ++ v ∷ [])) (sym z))
+      rw (eq-eqb _ _ e) (ap (λ (T : Token). onListed xs T (λ ys next. listedFrom left s n next ys)) q ∙ ap (λ (k : ℕ). listedFrom k s n stop (xs ++ v ∷ [])) (sym z))
 
   listing-end : (left : ℕ) → (getD s at 0 ≡ 32 → ⊥) → listedFrom left s n at xs ≡ listEnd s at xs
   unfolding listedFrom
@@ -128,26 +136,26 @@ module _ (s : List ℕ) (n most at : ℕ) (room₀ room : List ℕ) (k next : �
       let q : L ≡ listedFrom all s n at [] = sym e ∙ l .same in
       record { answer = ap tailOf q; room = l .room-is ∙ ap (λ (z : List ℕ). filled z room₀) (sym v ∙ ap vertices q) }
 
-  pub list-full : getD s next 0 ≡ 32 → all ≤ k → ReadsTail (listedFrom all s n at []) room₀ tail.Wrong room
-  list-full e h = closes (Breaks (l .so-far)) (listing-full s n next (l .so-far) (all - k) (omega arith) e) refl
+  pub list-full : getD s next 0 ≡ 32 → all ≤ k → ReadsTail (listedFrom all s n at []) room₀ (tail.Wrong next) room
+  list-full e h = closes (Breaks (l .so-far) next) (listing-full s n next (l .so-far) (all - k) (omega arith) e) refl
 
-  pub list-none : getD s next 0 ≡ 32 → k < all → numberAt s (next + 1) n ≡ NotANumber → ReadsTail (listedFrom all s n at []) room₀ tail.Wrong room
-  list-none e h q = closes (Breaks (l .so-far)) (listing-none s n next (l .so-far) (all - k) (omega arith) e q) refl
+  pub list-none : (start stop : ℕ) → getD s next 0 ≡ 32 → k < all → numberAt s (next + 1) n ≡ token start stop NotANumber → ReadsTail (listedFrom all s n at []) room₀ (tail.Wrong stop) room
+  list-none start stop e h q = closes (Breaks (l .so-far) stop) (listing-none s n next (l .so-far) (all - k) start stop (omega arith) e q) refl
 
-  pub list-more : (v behind : ℕ) → getD s next 0 ≡ 32 → k < all → numberAt s (next + 1) n ≡ Number v behind → Listed s n most at room₀ (set room k v) (k + 1) behind
-  list-more v behind e h q =
+  pub list-more : (start behind v : ℕ) → getD s next 0 ≡ 32 → k < all → numberAt s (next + 1) n ≡ token start behind (Number v) → Listed s n most at room₀ (set room k v) (k + 1) behind
+  list-more start behind v e h q =
       let z : all - k - 1 ≡ all - (k + 1) = omega arith in
       record {
         so-far = l .so-far ++ v ∷ [];
         count = length-append (l .so-far) (v ∷ []) ∙ ap (λ (j : ℕ). j + 1) (l .count);
         few = omega arith;
-        same = ap (λ (j : ℕ). listedFrom j s n behind (l .so-far ++ v ∷ [])) (sym z) ∙ sym (listing-more s n next (l .so-far) (all - k) v behind (omega arith) e q) ∙ l .same;
+        same = ap (λ (j : ℕ). listedFrom j s n behind (l .so-far ++ v ∷ [])) (sym z) ∙ sym (listing-more s n next (l .so-far) (all - k) start behind v (omega arith) e q) ∙ l .same;
         room-is = ap (λ (r : List ℕ). set r k v) (l .room-is) ∙ filled-set (l .so-far) room₀ k v (l .count) (omega arith);
         long = length-set room k v ∙ l .long;
       }
 
-  pub list-broken : (getD s next 0 ≡ 32 → ⊥) → (getD s next 0 ≡ 10 → ⊥) → ReadsTail (listedFrom all s n at []) room₀ tail.Wrong room
-  list-broken e f = closes (Breaks (l .so-far)) (listing-end s n next (l .so-far) (all - k) e ∙ rw (ne-eqb _ _ f)) refl
+  pub list-broken : (getD s next 0 ≡ 32 → ⊥) → (getD s next 0 ≡ 10 → ⊥) → ReadsTail (listedFrom all s n at []) room₀ (tail.Wrong next) room
+  list-broken e f = closes (Breaks (l .so-far) next) (listing-end s n next (l .so-far) (all - k) e ∙ rw (ne-eqb _ _ f)) refl
 
   pub list-ends : (getD s next 0 ≡ 32 → ⊥) → getD s next 0 ≡ 10 → ReadsTail (listedFrom all s n at []) room₀ (tail.Ends k (next + 1)) room
   list-ends e f =
@@ -156,74 +164,95 @@ module _ (s : List ℕ) (n most at : ℕ) (room₀ room : List ℕ) (k next : �
 
 -- The first line: its firstWord, the number of parts, and what stands behind it
 module _ (s : List ℕ) where
-  pub first-unopened : startsWith firstWord s ≡ false → first.Wrong ≡ firstLine s
-  unfolding firstLine
-  first-unopened e = rw e
-
-  pub first-opened : startsWith firstWord s ≡ true → onCount s (numberAt s 6 (mostVertices + 1)) ≡ firstLine s
+  pub first-unopened : agreeing firstWord s < 6 → first.Wrong (agreeing firstWord s) ≡ firstLine s
   unfolding firstLine firstWord
-  first-opened e = rw e
+  first-unopened h = rw (lt-ltb _ _ h)
 
-  module _ (n next : ℕ) (F : Found) (e : F ≡ Number n next) where
-    pub count-silent : getD s next 0 ≡ 10 → first.Read n default (next + 1) ≡ onCount s F
-    count-silent q = rw (e, eq-eqb _ _ q)
+  pub first-opened : 6 ≤ agreeing firstWord s → onCounted s (numberAt s 6 (mostVertices + 1)) ≡ firstLine s
+  unfolding firstLine firstWord
+  first-opened h = rw (le-ltb _ _ h)
 
-    pub count-named : (getD s next 0 ≡ 10 → ⊥) → startsWith (word ++ 10 ∷ []) (drop next s) ≡ true → first.Read n spoken (next + 6) ≡ onCount s F
-    unfolding word
-    count-named q w = rw (e, ne-eqb _ _ q, w)
+  module _ (start stop n : ℕ) (T : Token) (e : T ≡ token start stop (Number n)) where
+    pub count-silent : getD s stop 0 ≡ 10 → first.Read n default (stop + 1) ≡ onCounted s T
+    count-silent q = (let z : first.Read n default (stop + 1) ≡ onCount s stop (Number n) = rw (eq-eqb _ _ q) in z) ∙ sym (ap (onCounted s) e)
 
-    pub count-unnamed : (getD s next 0 ≡ 10 → ⊥) → startsWith (word ++ 10 ∷ []) (drop next s) ≡ false → first.Wrong ≡ onCount s F
-    count-unnamed q w = rw (e, ne-eqb _ _ q, w)
+    module _ (q : getD s stop 0 ≡ 10 → ⊥) where
+      by-word : onWord n stop (agreeing (word ++ 10 ∷ []) (drop stop s)) ≡ onCounted s T
+      by-word = (let z : onWord n stop (agreeing (word ++ 10 ∷ []) (drop stop s)) ≡ onCount s stop (Number n) = rw (ne-eqb _ _ q) in z) ∙ sym (ap (onCounted s) e)
+
+      pub count-named : 6 ≤ agreeing (word ++ 10 ∷ []) (drop stop s) → first.Read n spoken (stop + 6) ≡ onCounted s T
+      unfolding word
+      count-named w = (let z : first.Read n spoken (stop + 6) ≡ onWord n stop (agreeing (word ++ 10 ∷ []) (drop stop s)) = rw (le-ltb _ _ w) in z) ∙ by-word
+
+      pub count-unnamed : agreeing (word ++ 10 ∷ []) (drop stop s) < 6 → first.Wrong (stop + agreeing (word ++ 10 ∷ []) (drop stop s)) ≡ onCounted s T
+      unfolding word
+      count-unnamed w =
+          (let z : first.Wrong (stop + agreeing (word ++ 10 ∷ []) (drop stop s)) ≡ onWord n stop (agreeing (word ++ 10 ∷ []) (drop stop s)) = rw (lt-ltb _ _ w) in z) ∙ by-word
 
 -- A line: no stem, and a stem before a list
-pub line-unstemmed : (s : List ℕ) (n most at : ℕ) (room : List ℕ) → stemAt s n at ≡ stem.Wrong → ReadsLine (rowAt s n most at) room line.Wrong room
+pub line-unstemmed : (s : List ℕ) (n most at place : ℕ) (room : List ℕ) → stemAt s n at ≡ stem.Wrong place → ReadsLine (rowAt s n most at) room (line.Wrong place) room
 unfolding rowAt
-line-unstemmed s n most at room e =
-    let q : rowAt s n most at ≡ Fails [] = ap (onStem s n most) e in
+line-unstemmed s n most at place room e =
+    let q : rowAt s n most at ≡ Fails [] place = ap (onStem s n most) e in
     record { answer = ap lineOf (sym q); room = filled-none room ∙ ap (λ (R : Row). filled (stored R) room) (sym q) }
 
-abbrev pub lineWith : Vertex → Weight → Mark → Tail → Line
-lineWith h o b (tail.Ends k next) = line.Edge h o b k next
-lineWith h o b tail.Wrong = line.Wrong
-
-pub line-listed : (s : List ℕ) (n most at : ℕ) (h : Vertex) (o : Weight) (b : Mark) (from : ℕ) (old new : List ℕ) (r : Tail) → stemAt s n at ≡ stem.Read h o b from
+pub line-listed : (s : List ℕ) (n most at : ℕ) (h : Vertex) (o : Weight) (b : Mark) (from : ℕ) (old new : List ℕ) (r : Tail) (l : Line) → stemAt s n at ≡ stem.Read h o b from
     → ReadsTail (listedFrom most s n from []) old r new
-    → ReadsLine (rowAt s n most at) old (lineWith h o b r) new
+    → l ≡ lineWith h o b r
+    → ReadsLine (rowAt s n most at) old l new
 unfolding rowAt
-line-listed s n most at h o b from old new r e g =
+line-listed s n most at h o b from old new r l e g w =
     let q : rowAt s n most at ≡ onListing h o b (listedFrom most s n from []) = ap (onStem s n most) e in
     let L = listedFrom most s n from [] in
     record {
-      answer = ap (lineWith h o b) (g .answer) ∙ lined L ∙ ap lineOf (sym q);
+      answer = w ∙ ap (lineWith h o b) (g .answer) ∙ lined L ∙ ap lineOf (sym q);
       room = g .room ∙ ap (λ (z : List ℕ). filled z old) (listed L) ∙ ap (λ (R : Row). filled (stored R) old) (sym q);
     }
   where
     lined : (L : Listing) → lineWith h o b (tailOf L) ≡ lineOf (onListing h o b L)
     lined (Ends xs next) = refl
-    lined (Breaks xs) = refl
+    lined (Breaks xs place) = refl
 
     listed : (L : Listing) → vertices L ≡ stored (onListing h o b L)
     listed (Ends xs next) = refl
-    listed (Breaks xs) = refl
+    listed (Breaks xs place) = refl
 
--- The whole text: what `scan` gives is told of it
-pub told : (s : List ℕ) (P : Parse) → scan s ≡ P → readingOf P ≡ readingOf (parse s)
-told s P e = ap readingOf (sym e ∙ scan-is-parse s)
+-- The whole text: what `scan` gives is told of it, and where it is stopped
+pub told : (s : List ℕ) (P : Parse) → scan s ≡ P → readingOf s P ≡ readingOf s (parse s)
+told s P e = ap (readingOf s) (sym e ∙ scan-is-parse s)
+
+abbrev pub refusedWith : (line column : ℕ) → Reading
+refusedWith l c = reading.Refused (Text (record { 0 = l }) (record { 0 = c }))
+
+pub refused-there : (s : List ℕ) (l k a : ℕ) → Refuses s l k a → refusedWith l (k - a + 1) ≡ readingOf s (parse s)
+refused-there s l k a r = ap (refusedWith l) (r .column) ∙ ap (readingOf s) (sym (r .wrong))
+
+-- no first line: its line starts with the text
+pub first-refused : (s : List ℕ) (place : ℕ) → firstLine s ≡ first.Wrong place → Refuses s 1 place 0
+first-refused s place e = stopped s 1 place 0 (subst (FirstRuns s begin 0) e (first-run s))
 
 module _ (s : List ℕ) (n : ℕ) (m : Measure) (at edges listed : ℕ) (g : Scanning s n m at edges listed) where
-  pub all-told : length s ≤ at → reading.Table (record { vertices = n; measure = m; edges = edges; listed = listed }) ≡ readingOf (parse s)
+  pub all-told : length s ≤ at → reading.Table (record { vertices = n; measure = m; edges = edges; listed = listed }) ≡ readingOf s (parse s)
   all-told h =
       ap₂ (λ (a : ℕ) (b : Measure). reading.Table (record { vertices = a; measure = b; edges = edges; listed = listed })) (sym (g .vertices)) (sym (g .measure))
       ∙ ap₂ (λ (a b : ℕ). reading.Table (record { vertices = g .so-far .vertices; measure = g .so-far .measure; edges = a; listed = b })) (sym (g .counted)) (sym (g .summed))
       ∙ told s (Whole (g .so-far)) (scan-end s n m at edges listed g h)
+
+  -- a line too many: its first byte
+  pub full-refused : at < length s → mostEdges ≤ edges → refusedWith (edges + 2) 1 ≡ readingOf s (parse s)
+  full-refused h l =
+      let q : 1 ≡ at - at + 1 = omega arith in
+      ap (refusedWith (edges + 2)) q ∙ refused-there s (edges + 2) at at (stopped s (edges + 2) at at (full-fate s n m at edges listed g h l))
 
   -- the answer of reading a line into a room of 16 places
   module _ (h : at < length s) (l : edges < mostEdges) (size : ℕ) (z : size ≡ longestTail) (r : Line) (a : r ≡ lineOf (rowAt s n (min (mostListed - listed) size) at)) where
     sized : rowAt s n (min (mostListed - listed) longestTail) at ≡ rowAt s n (min (mostListed - listed) size) at
     sized = ap (λ (k : ℕ). rowAt s n (min (mostListed - listed) k) at) (sym z)
 
-    pub line-wrong : r ≡ line.Wrong → scan s ≡ Wrong (edges + 2)
-    line-wrong q = let f = fails (rowAt s n (min (mostListed - listed) size) at) (sym q ∙ a) in scan-fails s n m at edges listed g h l _ sized (f .0) (f .1)
+    pub line-refused : (place : ℕ) → r ≡ line.Wrong place → Refuses s (edges + 2) place at
+    line-refused place q =
+        let f = fails (rowAt s n (min (mostListed - listed) size) at) place (sym q ∙ a) in
+        stopped s (edges + 2) place at (fails-fate s n m at edges listed g h l _ sized (f .0) place (f .1))
 
     pub line-next : (v : Vertex) (w : Weight) (k : Mark) (c next : ℕ) → r ≡ line.Edge v w k c next → (at < next) × (c ≤ mostListed - listed) × Scanning s n m next (edges + 1) (listed + c)
     line-next v w k c next q =

@@ -1,12 +1,13 @@
--- Reading line by line is reading byte by byte: `scan` is `parse`. Assumes nothing.
-use mathlib.Core.Path.{_≡_, refl, sym, _∙_, ap, subst}
+-- Reading line by line is reading byte by byte: `scan` is `parse`, and the place where a line fails is that of the first byte that fails. Assumes nothing.
+use mathlib.Core.Path.{_≡_, refl, sym, _∙_, ap, ap₂, subst}
 use mathlib.Core.List.{List, [], _∷_, _++_}
 use mathlib.Core.Bool.{Bool, true, false}
 use Prim.Native.Nat.{ℕ, zero, suc, _+_, _*_, _-_, _≤_, _<_}
 use native.Mathlib.Numerals.{add-one}
+use native.Mathlib.Nat.{add-zero}
 use native.Mathlib.Omega.{arith}
-use lib.ListN.{length, getD, drop, drop-of-length-le, length-append, length-drop, List·getD-eq-default}
-use lib.Seq.{drop-cons, drop-drop}
+use lib.ListN.{length, getD, take, drop, drop-of-length-le, length-append, length-drop, List·getD-eq-default}
+use lib.Seq.{drop-cons, drop-drop, length-take-le}
 use lib.Dec.{ltb, eqb}
 use borrow.Author.Tests.{lt-ltb, le-ltb, ltb-true, ltb-false, eqb-true}
 use Rattle.weights.specs.Figures.{greatest, standing, struckMark}
@@ -47,28 +48,37 @@ use Rattle.text.specs.Machine.{
   parse,
 }
 use Rattle.text.proofs.Digits.{pick-by}
-use Rattle.text.proofs.Places.{run-failed}
+use Rattle.text.specs.Bytes.{isFailed, survived, failingAt, columnFrom, columnOf}
+use Rattle.text.proofs.Places.{run-failed, digit-stays}
+use Rattle.text.proofs.Bytes.{survived-inside}
 use Rattle.cursor.specs.declared.Found.{Found}
 use Rattle.cursor.specs.declared.Found.the-variants.{Number, NotANumber}
+use Rattle.cursor.specs.declared.Token.{Token}
+use Rattle.cursor.specs.declared.WeightToken.{WeightToken}
 use Rattle.cursor.specs.declared.FoundWeight.{FoundWeight}
 use Rattle.cursor.specs.declared.FoundWeight.the-variants as weight
-use Rattle.cursor.specs.Cursor.{digitsFrom, numberOf, numberAt, asWeight, weightAt}
+use Rattle.cursor.specs.Cursor.{digitsFrom, numberOf, numberAt, asWeight, markedFrom, weightAt}
 use Rattle.cursor.proofs.Counts.{byte-within}
 use Rattle.reading.specs.declared.FirstLine.{FirstLine}
 use Rattle.reading.specs.declared.FirstLine.the-variants as first
 use Rattle.reading.specs.declared.Stem.{Stem}
 use Rattle.reading.specs.Lines.{
-  startsWith,
+  agreeing,
+  onWord,
   onCount,
+  onCounted,
   firstLine,
   onOwn,
+  onOwned,
   onHead,
+  onHeaded,
   stemAt,
   Listing,
   Ends,
   Breaks,
   listEnd,
   onVertex,
+  onListed,
   listedFrom,
   Row,
   Holds,
@@ -81,6 +91,61 @@ use Rattle.reading.specs.Lines.{
   onFirst,
   scan,
 }
+
+-- What becomes of a text ---------------------------------------------------------------------------------------------------------------------
+
+-- the table that it holds; or the line that is refused, the place of the byte that fails, and where that line starts
+pub data Fate : Type 0 where
+  Reads : Table → Fate
+  Stopped : (line place start : ℕ) → Fate
+
+abbrev pub fateOf : Parse → (place start : ℕ) → Fate
+fateOf (Whole t) k a = Reads t
+fateOf (Wrong l) k a = Stopped l k a
+
+abbrev pub parsed : Fate → Parse
+parsed (Reads t) = Whole t
+parsed (Stopped l k a) = Wrong l
+
+-- behind bytes that begin at place i of a line that starts at a: where the line starts in which one then is
+unfoldable pub startFrom : (a i : ℕ) → List ℕ → ℕ
+startFrom a i [] = a
+startFrom a i (b ∷ bs) = startFrom (pick (eqb b 10) (i + 1) a) (i + 1) bs
+
+unfoldable pub fateFrom : State → List ℕ → (a i : ℕ) → Fate
+fateFrom σ bs a i = fateOf (finish (run σ bs)) (i + survived σ bs) (startFrom a i (take (survived σ bs) bs))
+
+-- of the text s from place i on, in a line that starts at a
+abbrev pub fate : List ℕ → State → (a i : ℕ) → Fate
+fate s σ a i = fateFrom σ (drop i s) a i
+
+one-behind : (i k : ℕ) → i + suc k ≡ i + 1 + k
+one-behind i k = omega arith
+
+-- a byte that is read, one that fails, and none
+module _ (σ : State) (b : ℕ) (bs : List ℕ) (a i : ℕ) where
+  fate-one : (τ : State) → step σ b ≡ τ → isFailed τ ≡ false → fateFrom σ (b ∷ bs) a i ≡ fateFrom τ bs (pick (eqb b 10) (i + 1) a) (i + 1)
+  unfolding fateFrom run survived startFrom
+  fate-one τ q f =
+      let z : isFailed (step σ b) ≡ false = ap isFailed q ∙ f in
+      let last : ℕ = startFrom (pick (eqb b 10) (i + 1) a) (i + 1) (take (survived τ bs) bs) in
+      rw (z, q) (ap (λ (k : ℕ). fateOf (finish (run τ bs)) k last) (one-behind i (survived τ bs)))
+
+  fate-stop : (l : ℕ) → step σ b ≡ Failed l → fateFrom σ (b ∷ bs) a i ≡ Stopped l i a
+  unfolding fateFrom run survived startFrom finish
+  fate-stop l q =
+      let z : isFailed (step σ b) ≡ true = ap isFailed q in
+      rw (z, q, run-failed l bs) (ap (λ (k : ℕ). Stopped l k a) (add-zero i))
+
+  -- the state decides by its step alone
+  fate-alike : (τ : State) → step σ b ≡ step τ b → fateFrom σ (b ∷ bs) a i ≡ fateFrom τ (b ∷ bs) a i
+  unfolding fateFrom run survived
+  fate-alike τ q =
+      ap (λ (ρ : State). let k = pick (isFailed ρ) 0 (suc (survived ρ bs)) in fateOf (finish (run ρ bs)) (i + k) (startFrom a i (take k (b ∷ bs)))) q
+
+fate-none : (σ : State) (a i : ℕ) → fateFrom σ [] a i ≡ fateOf (finish σ) i a
+unfolding fateFrom run survived startFrom
+fate-none σ a i = ap (λ (k : ℕ). fateOf (finish σ) k a) (add-zero i)
 
 -- A byte of the text -----------------------------------------------------------------------------------------------------------------------
 
@@ -97,49 +162,65 @@ module _ (s : List ℕ) (i b : ℕ) (bs : List ℕ) (e : drop i s ≡ b ∷ bs) 
   rest-here : drop (i + 1) s ≡ bs
   rest-here = let q = both in let r : drop (suc i) s ≡ bs = cc in ap (λ (k : ℕ). drop k s) (add-one i) ∙ r
 
-module _ (σ : State) (s : List ℕ) (i : ℕ) where
-  run-step : i < length s → run σ (drop i s) ≡ run (step σ (getD s i 0)) (drop (i + 1) s)
-  unfolding run
-  run-step h = ap (run σ) (drop-cons s i 0 h) ∙ ap (λ (k : ℕ). run (step σ (getD s i 0)) (drop k s)) (sym (add-one i))
+module _ (σ : State) (s : List ℕ) (a i : ℕ) where
+  fate-step : (τ : State) → i < length s → step σ (getD s i 0) ≡ τ → isFailed τ ≡ false → fate s σ a i ≡ fate s τ (pick (eqb (getD s i 0) 10) (i + 1) a) (i + 1)
+  fate-step τ h q f =
+      ap (λ (bs : List ℕ). fateFrom σ bs a i) (drop-cons s i 0 h)
+      ∙ fate-one σ (getD s i 0) (drop (suc i) s) a i τ q f
+      ∙ ap (λ (k : ℕ). fateFrom τ (drop k s) (pick (eqb (getD s i 0) 10) (i + 1) a) (i + 1)) (sym (add-one i))
 
-  run-end : length s ≤ i → run σ (drop i s) ≡ σ
-  unfolding run
-  run-end h = ap (run σ) (drop-of-length-le s h)
+  -- a byte within the line, and the LF that ends it
+  fate-on : (τ : State) → i < length s → step σ (getD s i 0) ≡ τ → isFailed τ ≡ false → eqb (getD s i 0) 10 ≡ false → fate s σ a i ≡ fate s τ a (i + 1)
+  fate-on τ h q f n = fate-step τ h q f ∙ ap (λ (c : Bool). fate s τ (pick c (i + 1) a) (i + 1)) n
+
+  fate-line : (τ : State) → i < length s → step σ (getD s i 0) ≡ τ → isFailed τ ≡ false → getD s i 0 ≡ 10 → fate s σ a i ≡ fate s τ (i + 1) (i + 1)
+  fate-line τ h q f e = fate-step τ h q f ∙ ap (λ (x : ℕ). fate s τ (pick (eqb x 10) (i + 1) a) (i + 1)) e
+
+  fate-past : length s ≤ i → fate s σ a i ≡ fateOf (finish σ) i a
+  fate-past h = ap (λ (bs : List ℕ). fateFrom σ bs a i) (drop-of-length-le s h) ∙ fate-none σ a i
 
   -- the byte there can't stand there
-  run-wrong : (l : ℕ) → i < length s → step σ (getD s i 0) ≡ Failed l → finish (run σ (drop i s)) ≡ Wrong l
-  unfolding finish
-  run-wrong l h e = ap finish (run-step h ∙ ap (λ (τ : State). run τ (drop (i + 1) s)) e ∙ run-failed l (drop (i + 1) s))
+  fate-wrong : (l : ℕ) → i < length s → step σ (getD s i 0) ≡ Failed l → fate s σ a i ≡ Stopped l i a
+  fate-wrong l h e = ap (λ (bs : List ℕ). fateFrom σ bs a i) (drop-cons s i 0 h) ∙ fate-stop σ (getD s i 0) (drop (suc i) s) a i l e
 
   -- wrong at the end of the text, and wrong within it
-  wrong-both : (l : ℕ) → finish σ ≡ Wrong l → (i < length s → step σ (getD s i 0) ≡ Failed l) → finish (run σ (drop i s)) ≡ Wrong l
+  wrong-both : (l : ℕ) → finish σ ≡ Wrong l → (i < length s → step σ (getD s i 0) ≡ Failed l) → fate s σ a i ≡ Stopped l i a
   wrong-both l e f = go (ltb i (length s)) refl
     where
-      go : (c : Bool) → ltb i (length s) ≡ c → finish (run σ (drop i s)) ≡ Wrong l
-      go true q = let h = ltb-true i (length s) q in run-wrong l h (f h)
-      go false q = ap finish (run-end (ltb-false i (length s) q)) ∙ e
+      go : (c : Bool) → ltb i (length s) ≡ c → fate s σ a i ≡ Stopped l i a
+      go true q = let h = ltb-true i (length s) q in fate-wrong l h (f h)
+      go false q = fate-past (ltb-false i (length s) q) ∙ ap (λ (P : Parse). fateOf P i a) e
 
 -- Numbers ----------------------------------------------------------------------------------------------------------------------------------
 
-module _ (s : List ℕ) (p : Place) where
-  -- from σ with bs left, the number that was found is passed; or the line is wrong
-  abbrev NumberRuns : State → List ℕ → Found → Type 0
-  NumberRuns σ bs (Number v next) = (run σ bs ≡ run (Within p v) (drop next s)) × (10 ≤ digitOf (getD s next 0))
-  NumberRuns σ bs NotANumber = finish (run σ bs) ≡ Wrong (lineAt p)
+-- of the text s, in the line that starts at a
+module _ (s : List ℕ) (p : Place) (a : ℕ) where
+  -- from σ at place i, the number that was found is passed; or the line is wrong where it stopped
+  abbrev NumberRuns : State → (i stop : ℕ) → Found → Type 0
+  NumberRuns σ i stop (Number v) = (fate s σ a i ≡ fate s (Within p v) a stop) × (10 ≤ digitOf (getD s stop 0))
+  NumberRuns σ i stop NotANumber = fate s σ a i ≡ Stopped (lineAt p) stop a
+
+  abbrev TokenRuns : State → (i : ℕ) → Token → Type 0
+  TokenRuns σ i t = NumberRuns σ i (t .stop) (t .found)
 
   -- the same from one byte before
-  runs-before : (σ τ : State) (b : ℕ) (bs : List ℕ) (F : Found) → step σ b ≡ τ → NumberRuns τ bs F → NumberRuns σ (b ∷ bs) F
-  unfolding run
-  runs-before σ τ b bs (Number v next) e r = (ap (λ (ρ : State). run ρ bs) e ∙ r .0, r .1)
-  runs-before σ τ b bs NotANumber e r = ap (λ (ρ : State). finish (run ρ bs)) e ∙ r
+  runs-before : (σ τ : State) (i stop : ℕ) (F : Found) → fate s σ a i ≡ fate s τ a (i + 1) → NumberRuns τ (i + 1) stop F → NumberRuns σ i stop F
+  runs-before σ τ i stop (Number v) e r = (e ∙ r .0, r .1)
+  runs-before σ τ i stop NotANumber e r = e ∙ r
 
-  fails-here : (σ : State) (b : ℕ) (bs : List ℕ) → step σ b ≡ Failed (lineAt p) → NumberRuns σ (b ∷ bs) NotANumber
-  unfolding run finish
-  fails-here σ b bs e = ap (λ (ρ : State). finish (run ρ bs)) e ∙ ap finish (run-failed (lineAt p) bs)
+  -- a digit b of the number is at place i
+  module _ (i b : ℕ) (bs : List ℕ) (e : drop i s ≡ b ∷ bs) (σ : State) where
+    goes-on : (v : ℕ) → ltb (digitOf b) 10 ≡ true → step σ b ≡ Within p v → fate s σ a i ≡ fate s (Within p v) a (i + 1)
+    goes-on v d q =
+        fate-on σ s a i (Within p v) (here s i b bs e) (ap (step σ) (byte-here s i b bs e) ∙ q) refl
+        (ap (λ (x : ℕ). eqb x 10) (byte-here s i b bs e) ∙ digit-stays b d)
 
-  digits-run : (bs : List ℕ) (i v : ℕ) → drop i s ≡ bs → NumberRuns (Within p v) bs (digitsFrom bs i (limit p) v)
+    fails-here : step σ b ≡ Failed (lineAt p) → fate s σ a i ≡ Stopped (lineAt p) i a
+    fails-here q = fate-wrong σ s a i (lineAt p) (here s i b bs e) (ap (step σ) (byte-here s i b bs e) ∙ q)
+
+  digits-run : (bs : List ℕ) (start i v : ℕ) → drop i s ≡ bs → TokenRuns (Within p v) i (digitsFrom bs start i (limit p) v)
   unfolding digitsFrom digitOf
-  digits-run [] i v e = (ap (run (Within p v)) (sym e), ended-here)
+  digits-run [] start i v e = (refl, ended-here)
     where
       ended-here : 10 ≤ digitOf (getD s i 0)
       ended-here =
@@ -147,16 +228,18 @@ module _ (s : List ℕ) (p : Place) where
           let m : length (drop i s) ≡ 0 = ap length e in
           let q : digitOf (getD s i 0) ≡ 10 = ap digitOf (List·getD-eq-default s 0 (omega arith)) in
           omega arith
-  digits-run (b ∷ bs) i v e =
-      let P : Found → Type 0 = NumberRuns (Within p v) (b ∷ bs) in
+  digits-run (b ∷ bs) start i v e =
+      let P : Token → Type 0 = TokenRuns (Within p v) i in
+      let w = 10 * v + digitOf b in
+      let T = digitsFrom bs start (i + 1) (limit p) w in
       pick-by P (ltb (digitOf b) 10) (λ d.
       pick-by P (ltb 0 v) (λ z.
-      pick-by P (ltb (10 * v + digitOf b) (limit p))
-      (λ l. runs-before (Within p v) (Within p (10 * v + digitOf b)) b bs (digitsFrom bs (i + 1) (limit p) (10 * v + digitOf b)) (more d z l)
-      (digits-run bs (i + 1) (10 * v + digitOf b) (rest-here s i b bs e)))
-      (λ l. fails-here (Within p v) b bs (over d z l)))
-      (λ z. fails-here (Within p v) b bs (leading d z)))
-      (λ d. (ap (run (Within p v)) (sym e), rw (byte-here s i b bs e) (ltb-false _ _ d)))
+      pick-by P (ltb w (limit p))
+      (λ l. runs-before (Within p v) (Within p w) i (T .stop) (T .found) (goes-on i b bs e (Within p v) w d (more d z l))
+      (digits-run bs start (i + 1) w (rest-here s i b bs e)))
+      (λ l. fails-here i b bs e (Within p v) (over d z l)))
+      (λ z. fails-here i b bs e (Within p v) (leading d z)))
+      (λ d. (refl, rw (byte-here s i b bs e) (ltb-false _ _ d)))
     where
       more : ltb (digitOf b) 10 ≡ true → ltb 0 v ≡ true → ltb (10 * v + digitOf b) (limit p) ≡ true → step (Within p v) b ≡ Within p (10 * v + digitOf b)
       more d z l = unfold step grown in rw (d, z, l)
@@ -168,16 +251,18 @@ module _ (s : List ℕ) (p : Place) where
       leading d z = unfold step in rw (d, z)
 
   number-run-of : (bs : List ℕ) (i : ℕ) → drop i s ≡ bs → (bs ≡ [] → finish (First p) ≡ Wrong (lineAt p)) → instead p (getD s i 0) ≡ Failed (lineAt p)
-      → NumberRuns (First p) bs (numberOf bs i (limit p))
-  unfolding numberOf run
-  number-run-of [] i e f g = f refl
+      → TokenRuns (First p) i (numberOf bs i (limit p))
+  unfolding numberOf
+  number-run-of [] i e f g = ap (λ (bs : List ℕ). fateFrom (First p) bs a i) e ∙ fate-none (First p) a i ∙ ap (λ (P : Parse). fateOf P i a) (f refl)
   number-run-of (b ∷ bs) i e f g =
-      let P : Found → Type 0 = NumberRuns (First p) (b ∷ bs) in
+      let P : Token → Type 0 = TokenRuns (First p) i in
+      let T = digitsFrom bs i (i + 1) (limit p) (digitOf b) in
       pick-by P (ltb (digitOf b) 10) (λ d.
       pick-by P (ltb (digitOf b) (limit p))
-      (λ l. runs-before (First p) (Within p (digitOf b)) b bs (digitsFrom bs (i + 1) (limit p) (digitOf b)) (one d l) (digits-run bs (i + 1) (digitOf b) (rest-here s i b bs e)))
-      (λ l. fails-here (First p) b bs (over d l)))
-      (λ d. fails-here (First p) b bs (none d))
+      (λ l. runs-before (First p) (Within p (digitOf b)) i (T .stop) (T .found) (goes-on i b bs e (First p) (digitOf b) d (one d l))
+      (digits-run bs i (i + 1) (digitOf b) (rest-here s i b bs e)))
+      (λ l. fails-here i b bs e (First p) (over d l)))
+      (λ d. fails-here i b bs e (First p) (none d))
     where
       one : ltb (digitOf b) 10 ≡ true → ltb (digitOf b) (limit p) ≡ true → step (First p) b ≡ Within p (digitOf b)
       one d l = unfold step grown in rw (d, l)
@@ -189,14 +274,14 @@ module _ (s : List ℕ) (p : Place) where
       none d = unfold step in rw d (ap (instead p) (sym (byte-here s i b bs e)) ∙ g)
 
   -- a number is looked for at place i, where nothing else may stand
-  number-run : (i : ℕ) → (length s ≤ i → finish (First p) ≡ Wrong (lineAt p)) → instead p (getD s i 0) ≡ Failed (lineAt p) → NumberRuns (First p) (drop i s) (numberAt s i (limit p))
+  number-run : (i : ℕ) → (length s ≤ i → finish (First p) ≡ Wrong (lineAt p)) → instead p (getD s i 0) ≡ Failed (lineAt p) → TokenRuns (First p) i (numberAt s i (limit p))
   unfolding numberAt
   number-run i f g = number-run-of (drop i s) i refl (λ e. f (let l = length-drop i s in let m : length (drop i s) ≡ 0 = ap length e in omega arith)) g
 
-  -- the byte behind a number
-  number-ended : (v i : ℕ) → 10 ≤ digitOf (getD s i 0) → step (Within p v) (getD s i 0) ≡ ended p v (getD s i 0)
-  unfolding step
-  number-ended v i d = rw (le-ltb (digitOf (getD s i 0)) 10 d)
+-- the byte behind a number
+number-ended : (s : List ℕ) (p : Place) (v i : ℕ) → 10 ≤ digitOf (getD s i 0) → step (Within p v) (getD s i 0) ≡ ended p v (getD s i 0)
+unfolding step
+number-ended s p v i d = rw (le-ltb (digitOf (getD s i 0)) 10 d)
 
 -- Lines ------------------------------------------------------------------------------------------------------------------------------------
 
@@ -205,84 +290,93 @@ record Follows (t : Table) (h o k : ℕ) (xs : List ℕ) (σ : State) (s : List 
   stops : finish σ ≡ Wrong (nextLine t)
   steps : at < length s → step σ (getD s at 0) ≡ after t h o k xs (getD s at 0)
 
-module _ (s : List ℕ) (t : Table) where
+-- of a line that starts at a
+module _ (s : List ℕ) (t : Table) (a : ℕ) where
   -- Own figures
 
-  -- from σ, behind the head h, an own figure with its mark is passed; or the line is wrong
-  abbrev OwnRuns : State → (h at : ℕ) → FoundWeight → Type 0
-  OwnRuns σ h at (weight.Own w k next) = (run σ (drop at s) ≡ run (Within (Own t h (k .0)) (w .0)) (drop next s)) × Follows t h (w .0) (k .0) [] (Within (Own t h (k .0)) (w .0)) s next
-  OwnRuns σ h at weight.NotAWeight = finish (run σ (drop at s)) ≡ Wrong (nextLine t)
+  -- from σ, behind the head h, an own figure with its mark is passed; or the line is wrong where it stopped
+  abbrev OwnRuns : State → (h at stop : ℕ) → FoundWeight → Type 0
+  OwnRuns σ h at stop (weight.Own w k) =
+      (fate s σ a at ≡ fate s (Within (Own t h (k .0)) (w .0)) a stop) × Follows t h (w .0) (k .0) [] (Within (Own t h (k .0)) (w .0)) s stop
+  OwnRuns σ h at stop weight.NotAWeight = fate s σ a at ≡ Stopped (nextLine t) stop a
 
   -- the same from one byte before
-  own-before : (σ τ : State) (h at next : ℕ) (F : FoundWeight) → run σ (drop at s) ≡ run τ (drop next s) → OwnRuns τ h next F → OwnRuns σ h at F
-  own-before σ τ h at next (weight.Own w k j) e r = (e ∙ r .0, r .1)
-  own-before σ τ h at next weight.NotAWeight e r = ap finish e ∙ r
+  own-before : (σ τ : State) (h at next stop : ℕ) (F : FoundWeight) → fate s σ a at ≡ fate s τ a next → OwnRuns τ h next stop F → OwnRuns σ h at stop F
+  own-before σ τ h at next stop (weight.Own w k) e r = (e ∙ r .0, r .1)
+  own-before σ τ h at next stop weight.NotAWeight e r = e ∙ r
 
-  own-number : (h k at : ℕ) (F : Found) → NumberRuns s (Own t h k) (First (Own t h k)) (drop at s) F → OwnRuns (First (Own t h k)) h at (asWeight (record { 0 = k }) F)
+  own-number : (h k at stop : ℕ) (F : Found) → NumberRuns s (Own t h k) a (First (Own t h k)) at stop F → OwnRuns (First (Own t h k)) h at stop (asWeight (record { 0 = k }) F)
   unfolding finish lineAt ended
-  own-number h k at (Number v next) r = (r .0, record { stops = refl; steps = λ l. number-ended s (Own t h k) v next (r .1) })
-  own-number h k at NotANumber r = r
+  own-number h k at stop (Number v) r = (r .0, record { stops = refl; steps = λ l. number-ended s (Own t h k) v stop (r .1) })
+  own-number h k at stop NotANumber r = r
 
-  own-run : (h at : ℕ) → OwnRuns (First (Own t h standing)) h at (weightAt s at)
+  own-run : (h at : ℕ) → let t′ = weightAt s at in OwnRuns (First (Own t h standing)) h at (t′ .stop) (t′ .found)
   unfolding weightAt
   own-run h at =
-      let found = asWeight (record { 0 = struckMark }) (numberAt s (at + 1) (greatest + 1)) in
-      pick-by (OwnRuns (First (Own t h standing)) h at) (eqb (getD s at 0) 45)
-      (λ e. own-before (First (Own t h standing)) (First (Own t h struckMark)) h at (at + 1) found (dashed (eqb-true _ _ e)) struck)
+      let S = numberAt s (at + 1) (greatest + 1) in
+      pick-by (λ (t′ : WeightToken). OwnRuns (First (Own t h standing)) h at (t′ .stop) (t′ .found)) (eqb (getD s at 0) 45)
+      (λ e. own-before (First (Own t h standing)) (First (Own t h struckMark)) h at (at + 1) (S .stop) (asWeight (record { 0 = struckMark }) (S .found)) (dashed (eqb-true _ _ e)) struck)
       (λ e. unstruck e)
     where
       dash : step (First (Own t h standing)) 45 ≡ First (Own t h struckMark)
       dash = unfold step instead digitOf in refl
 
-      dashed : getD s at 0 ≡ 45 → run (First (Own t h standing)) (drop at s) ≡ run (First (Own t h struckMark)) (drop (at + 1) s)
+      dashed : getD s at 0 ≡ 45 → fate s (First (Own t h standing)) a at ≡ fate s (First (Own t h struckMark)) a (at + 1)
       dashed e =
-          run-step (First (Own t h standing)) s at (byte-within s at 45 e (omega arith))
-          ∙ ap (λ (σ : State). run σ (drop (at + 1) s)) (ap (step (First (Own t h standing))) e ∙ dash)
+          fate-on (First (Own t h standing)) s a at (First (Own t h struckMark)) (byte-within s at 45 e (omega arith))
+          (ap (step (First (Own t h standing))) e ∙ dash) refl (ap (λ (x : ℕ). eqb x 10) e)
 
-      struck : OwnRuns (First (Own t h struckMark)) h (at + 1) (asWeight (record { 0 = struckMark }) (numberAt s (at + 1) (greatest + 1)))
+      struck : let S = numberAt s (at + 1) (greatest + 1) in OwnRuns (First (Own t h struckMark)) h (at + 1) (S .stop) (asWeight (record { 0 = struckMark }) (S .found))
       struck =
-          own-number h struckMark (at + 1) (numberAt s (at + 1) (greatest + 1))
-          (unfold limit finish instead lineAt in number-run s (Own t h struckMark) (at + 1) (λ l. refl) refl)
+          let S = numberAt s (at + 1) (greatest + 1) in
+          own-number h struckMark (at + 1) (S .stop) (S .found)
+          (unfold limit finish instead lineAt in number-run s (Own t h struckMark) a (at + 1) (λ l. refl) refl)
 
-      unstruck : eqb (getD s at 0) 45 ≡ false → OwnRuns (First (Own t h standing)) h at (asWeight (record { 0 = standing }) (numberAt s at (greatest + 1)))
+      unstruck : eqb (getD s at 0) 45 ≡ false
+          → let S = numberAt s at (greatest + 1) in OwnRuns (First (Own t h standing)) h at (S .stop) (asWeight (record { 0 = standing }) (S .found))
       unstruck e =
-          own-number h standing at (numberAt s at (greatest + 1))
-          (unfold limit finish instead lineAt in number-run s (Own t h standing) at (λ l. refl) (rw e))
+          let S = numberAt s at (greatest + 1) in
+          own-number h standing at (S .stop) (S .found)
+          (unfold limit finish instead lineAt in number-run s (Own t h standing) a at (λ l. refl) (rw e))
 
   -- Listed parts
 
   abbrev ListRuns : (h o k : ℕ) → State → ℕ → Listing → Type 0
-  ListRuns h o k σ at (Ends ys next) = run σ (drop at s) ≡ run (First (Head (withEdge t (edge h o k ys)))) (drop next s)
-  ListRuns h o k σ at (Breaks ys) = finish (run σ (drop at s)) ≡ Wrong (nextLine t)
+  ListRuns h o k σ at (Ends ys next) = fate s σ a at ≡ fate s (First (Head (withEdge t (edge h o k ys)))) next next
+  ListRuns h o k σ at (Breaks ys place) = fate s σ a at ≡ Stopped (nextLine t) place a
 
   -- the same from one part before
-  runs-on : (h o k : ℕ) (σ τ : State) (at next : ℕ) (L : Listing) → run σ (drop at s) ≡ run τ (drop next s) → ListRuns h o k τ next L → ListRuns h o k σ at L
+  runs-on : (h o k : ℕ) (σ τ : State) (at next : ℕ) (L : Listing) → fate s σ a at ≡ fate s τ a next → ListRuns h o k τ next L → ListRuns h o k σ at L
   runs-on h o k σ τ at next (Ends ys j) e r = e ∙ r
-  runs-on h o k σ τ at next (Breaks ys) e r = ap finish e ∙ r
+  runs-on h o k σ τ at next (Breaks ys place) e r = e ∙ r
 
   module _ (h o k : ℕ) where
     module _ (at : ℕ) (xs : List ℕ) (σ : State) (f : Follows t h o k xs σ s at) where
-      spaced : getD s at 0 ≡ 32 → run σ (drop at s) ≡ run (after t h o k xs 32) (drop (at + 1) s)
-      spaced e = let l = byte-within s at 32 e (omega arith) in run-step σ s at l ∙ ap (λ (τ : State). run τ (drop (at + 1) s)) (f .steps l ∙ ap (after t h o k xs) e)
+      -- the byte there, and what stands behind it
+      followed : (b : ℕ) (τ : State) → getD s at 0 ≡ b → 0 < b → after t h o k xs b ≡ τ → step σ (getD s at 0) ≡ τ
+      followed b τ e p q = f .steps (byte-within s at b e p) ∙ ap (after t h o k xs) e ∙ q
 
-      no-more : getD s at 0 ≡ 32 → mayList t ≤ length xs → finish (run σ (drop at s)) ≡ Wrong (nextLine t)
-      unfolding after finish
-      no-more e l =
-          let q : after t h o k xs 32 ≡ Failed (nextLine t) = rw (le-ltb (length xs) (mayList t) l) in
-          ap finish (spaced e ∙ ap (λ (τ : State). run τ (drop (at + 1) s)) q ∙ run-failed (nextLine t) (drop (at + 1) s))
-
-      one-more : getD s at 0 ≡ 32 → length xs < mayList t → run σ (drop at s) ≡ run (First (Listed t h o k xs)) (drop (at + 1) s)
+      no-more : getD s at 0 ≡ 32 → mayList t ≤ length xs → fate s σ a at ≡ Stopped (nextLine t) at a
       unfolding after
-      one-more e l = spaced e ∙ rw (lt-ltb (length xs) (mayList t) l)
+      no-more e l =
+          fate-wrong σ s a at (nextLine t) (byte-within s at 32 e (omega arith)) (followed 32 (Failed (nextLine t)) e (omega arith) (rw (le-ltb (length xs) (mayList t) l)))
+
+      one-more : getD s at 0 ≡ 32 → length xs < mayList t → fate s σ a at ≡ fate s (First (Listed t h o k xs)) a (at + 1)
+      unfolding after
+      one-more e l =
+          fate-on σ s a at (First (Listed t h o k xs)) (byte-within s at 32 e (omega arith))
+          (followed 32 (First (Listed t h o k xs)) e (omega arith) (rw (lt-ltb (length xs) (mayList t) l))) refl (ap (λ (x : ℕ). eqb x 10) e)
 
       list-end : eqb (getD s at 0) 32 ≡ false → ListRuns h o k σ at (listEnd s at xs)
-      list-end n = pick-by (ListRuns h o k σ at) (eqb (getD s at 0) 10) (λ e. ended-here (eqb-true _ _ e)) (λ e. wrong-both σ s at (nextLine t) (f .stops) (λ l. f .steps l ∙ broken e))
+      list-end n = pick-by (ListRuns h o k σ at) (eqb (getD s at 0) 10) (λ e. ended-here (eqb-true _ _ e)) (λ e. wrong-both σ s a at (nextLine t) (f .stops) (λ l. f .steps l ∙ broken e))
         where
           last : after t h o k xs 10 ≡ First (Head (withEdge t (edge h o k xs)))
           last = unfold after in refl
 
-          ended-here : getD s at 0 ≡ 10 → run σ (drop at s) ≡ run (First (Head (withEdge t (edge h o k xs)))) (drop (at + 1) s)
-          ended-here e = let l = byte-within s at 10 e (omega arith) in run-step σ s at l ∙ ap (λ (τ : State). run τ (drop (at + 1) s)) (f .steps l ∙ ap (after t h o k xs) e ∙ last)
+          ended-here : getD s at 0 ≡ 10 → fate s σ a at ≡ fate s (First (Head (withEdge t (edge h o k xs)))) (at + 1) (at + 1)
+          ended-here e =
+              let τ = First (Head (withEdge t (edge h o k xs))) in
+              fate-line σ s a at τ (byte-within s at 10 e (omega arith)) (followed 10 τ e (omega arith) last) refl e
 
           broken : eqb (getD s at 0) 10 ≡ false → after t h o k xs (getD s at 0) ≡ Failed (nextLine t)
           broken e = unfold after in rw (n, e)
@@ -292,17 +386,17 @@ module _ (s : List ℕ) (t : Table) where
     unfolding finish lineAt ended
     follows-listed xs v next d = record { stops = refl; steps = λ l. number-ended s (Listed t h o k xs) v next d }
 
-    listed-number : (at : ℕ) (xs : List ℕ) → NumberRuns s (Listed t h o k xs) (First (Listed t h o k xs)) (drop at s) (numberAt s at (t .vertices))
+    listed-number : (at : ℕ) (xs : List ℕ) → TokenRuns s (Listed t h o k xs) a (First (Listed t h o k xs)) at (numberAt s at (t .vertices))
     unfolding limit finish instead lineAt
-    listed-number at xs = number-run s (Listed t h o k xs) at (λ l. refl) refl
+    listed-number at xs = number-run s (Listed t h o k xs) a at (λ l. refl) refl
 
-    vertex-run : (at : ℕ) (xs : List ℕ) (F : Found) (more : List ℕ → ℕ → Listing) → NumberRuns s (Listed t h o k xs) (First (Listed t h o k xs)) (drop at s) F
+    vertex-run : (at : ℕ) (xs : List ℕ) (stop : ℕ) (F : Found) (more : List ℕ → ℕ → Listing) → NumberRuns s (Listed t h o k xs) a (First (Listed t h o k xs)) at stop F
         → ((v next : ℕ) → Follows t h o k (xs ++ v ∷ []) (Within (Listed t h o k xs) v) s next → ListRuns h o k (Within (Listed t h o k xs) v) next (more (xs ++ v ∷ []) next))
-        → ListRuns h o k (First (Listed t h o k xs)) at (onVertex xs F more)
+        → ListRuns h o k (First (Listed t h o k xs)) at (onVertex xs stop F more)
     unfolding lineAt
-    vertex-run at xs (Number v next) more r go =
-        runs-on h o k (First (Listed t h o k xs)) (Within (Listed t h o k xs) v) at next (more (xs ++ v ∷ []) next) (r .0) (go v next (follows-listed xs v next (r .1)))
-    vertex-run at xs NotANumber more r go = r
+    vertex-run at xs stop (Number v) more r go =
+        runs-on h o k (First (Listed t h o k xs)) (Within (Listed t h o k xs) v) at stop (more (xs ++ v ∷ []) stop) (r .0) (go v stop (follows-listed xs v stop (r .1)))
+    vertex-run at xs stop NotANumber more r go = r
 
     listing-run : (left at : ℕ) (xs : List ℕ) (σ : State) → Follows t h o k xs σ s at → left + length xs ≡ mayList t → ListRuns h o k σ at (listedFrom left s (t .vertices) at xs)
     unfolding listedFrom
@@ -310,68 +404,73 @@ module _ (s : List ℕ) (t : Table) where
         pick-by (ListRuns h o k σ at) (eqb (getD s at 0) 32) (λ e. no-more at xs σ f (eqb-true _ _ e) (omega arith)) (list-end at xs σ f)
     listing-run (suc left) at xs σ f l =
         let more : List ℕ → ℕ → Listing = λ ys next. listedFrom left s (t .vertices) next ys in
+        let T = numberAt s (at + 1) (t .vertices) in
         pick-by (ListRuns h o k σ at) (eqb (getD s at 0) 32)
-        (λ e. runs-on h o k σ (First (Listed t h o k xs)) at (at + 1) (onVertex xs (numberAt s (at + 1) (t .vertices)) more) (one-more at xs σ f (eqb-true _ _ e) (omega arith))
-        (vertex-run (at + 1) xs (numberAt s (at + 1) (t .vertices)) more (listed-number (at + 1) xs)
+        (λ e. runs-on h o k σ (First (Listed t h o k xs)) at (at + 1) (onListed xs T more) (one-more at xs σ f (eqb-true _ _ e) (omega arith))
+        (vertex-run (at + 1) xs (T .stop) (T .found) more (listed-number (at + 1) xs)
         (λ v next g. listing-run left next (xs ++ v ∷ []) (Within (Listed t h o k xs) v) g (let n = length-append xs (v ∷ []) in omega arith))))
         (list-end at xs σ f)
 
   -- Whole lines
 
-  abbrev RowRuns : State → ℕ → Row → Type 0
-  RowRuns σ at (Holds e next) = run σ (drop at s) ≡ run (First (Head (withEdge t e))) (drop next s)
-  RowRuns σ at (Fails xs) = finish (run σ (drop at s)) ≡ Wrong (nextLine t)
+  abbrev pub RowRuns : State → ℕ → Row → Type 0
+  RowRuns σ at (Holds e next) = fate s σ a at ≡ fate s (First (Head (withEdge t e))) next next
+  RowRuns σ at (Fails xs place) = fate s σ a at ≡ Stopped (nextLine t) place a
 
-  row-on : (σ τ : State) (at next : ℕ) (R : Row) → run σ (drop at s) ≡ run τ (drop next s) → RowRuns τ next R → RowRuns σ at R
+  row-on : (σ τ : State) (at next : ℕ) (R : Row) → fate s σ a at ≡ fate s τ a next → RowRuns τ next R → RowRuns σ at R
   row-on σ τ at next (Holds e j) q r = q ∙ r
-  row-on σ τ at next (Fails xs) q r = ap finish q ∙ r
+  row-on σ τ at next (Fails xs place) q r = q ∙ r
 
   row-listed : (h o k at : ℕ) (σ : State) (L : Listing) → ListRuns h o k σ at L → RowRuns σ at (onListing (record { 0 = h }) (record { 0 = o }) (record { 0 = k }) L)
   row-listed h o k at σ (Ends ys next) r = r
-  row-listed h o k at σ (Breaks ys) r = r
+  row-listed h o k at σ (Breaks ys place) r = r
 
-  row-own : (σ : State) (h at : ℕ) (F : FoundWeight) → OwnRuns σ h at F → RowRuns σ at (onStem s (t .vertices) (mayList t) (onOwn h F))
-  row-own σ h at (weight.Own w k next) r =
-      let L = listedFrom (mayList t) s (t .vertices) next [] in
+  row-own : (σ : State) (h at stop : ℕ) (F : FoundWeight) → OwnRuns σ h at stop F → RowRuns σ at (onStem s (t .vertices) (mayList t) (onOwn h stop F))
+  row-own σ h at stop (weight.Own w k) r =
+      let L = listedFrom (mayList t) s (t .vertices) stop [] in
       let τ = Within (Own t h (k .0)) (w .0) in
-      row-on σ τ at next (onListing (record { 0 = h }) w k L) (r .0)
-      (row-listed h (w .0) (k .0) next τ L (listing-run h (w .0) (k .0) (mayList t) next [] τ (r .1) (omega arith)))
-  row-own σ h at weight.NotAWeight r = r
+      row-on σ τ at stop (onListing (record { 0 = h }) w k L) (r .0)
+      (row-listed h (w .0) (k .0) stop τ L (listing-run h (w .0) (k .0) (mayList t) stop [] τ (r .1) (omega arith)))
+  row-own σ h at stop weight.NotAWeight r = r
 
-  row-head : (at : ℕ) (F : Found) → NumberRuns s (Head t) (First (Head t)) (drop at s) F → RowRuns (First (Head t)) at (onStem s (t .vertices) (mayList t) (onHead s F))
-  row-head at (Number h a) r = row-on (First (Head t)) (Within (Head t) h) at a (onStem s (t .vertices) (mayList t) (onHead s (Number h a))) (r .0) behind
+  row-head : (at stop : ℕ) (F : Found) → NumberRuns s (Head t) a (First (Head t)) at stop F → RowRuns (First (Head t)) at (onStem s (t .vertices) (mayList t) (onHead s stop F))
+  row-head at stop (Number h) r = row-on (First (Head t)) (Within (Head t) h) at stop (onStem s (t .vertices) (mayList t) (onHead s stop (Number h))) (r .0) behind
     where
       space : ended (Head t) h 32 ≡ First (Own t h standing)
       space = unfold ended in refl
 
-      spaced-own : getD s a 0 ≡ 32 → run (Within (Head t) h) (drop a s) ≡ run (First (Own t h standing)) (drop (a + 1) s)
+      spaced-own : getD s stop 0 ≡ 32 → fate s (Within (Head t) h) a stop ≡ fate s (First (Own t h standing)) a (stop + 1)
       spaced-own e =
-          run-step (Within (Head t) h) s a (byte-within s a 32 e (omega arith))
-          ∙ ap (λ (σ : State). run σ (drop (a + 1) s)) (number-ended s (Head t) h a (r .1) ∙ ap (ended (Head t) h) e ∙ space)
+          fate-on (Within (Head t) h) s a stop (First (Own t h standing)) (byte-within s stop 32 e (omega arith))
+          (number-ended s (Head t) h stop (r .1) ∙ ap (ended (Head t) h) e ∙ space) refl (ap (λ (x : ℕ). eqb x 10) e)
 
-      unspaced : eqb (getD s a 0) 32 ≡ false → finish (run (Within (Head t) h) (drop a s)) ≡ Wrong (nextLine t)
-      unspaced e = wrong-both (Within (Head t) h) s a (nextLine t) (unfold finish lineAt in refl) (λ l. number-ended s (Head t) h a (r .1) ∙ (unfold ended in rw e))
+      unspaced : eqb (getD s stop 0) 32 ≡ false → fate s (Within (Head t) h) a stop ≡ Stopped (nextLine t) stop a
+      unspaced e = wrong-both (Within (Head t) h) s a stop (nextLine t) (unfold finish lineAt in refl) (λ l. number-ended s (Head t) h stop (r .1) ∙ (unfold ended in rw e))
 
-      behind : RowRuns (Within (Head t) h) a (onStem s (t .vertices) (mayList t) (onHead s (Number h a)))
-      behind = pick-by (λ (S : Stem). RowRuns (Within (Head t) h) a (onStem s (t .vertices) (mayList t) S)) (eqb (getD s a 0) 32)
-          (λ e. row-on (Within (Head t) h) (First (Own t h standing)) a (a + 1) (onStem s (t .vertices) (mayList t) (onOwn h (weightAt s (a + 1))))
-          (spaced-own (eqb-true _ _ e)) (row-own (First (Own t h standing)) h (a + 1) (weightAt s (a + 1)) (own-run h (a + 1))))
+      behind : RowRuns (Within (Head t) h) stop (onStem s (t .vertices) (mayList t) (onHead s stop (Number h)))
+      behind =
+          let W = weightAt s (stop + 1) in
+          pick-by (λ (S : Stem). RowRuns (Within (Head t) h) stop (onStem s (t .vertices) (mayList t) S)) (eqb (getD s stop 0) 32)
+          (λ e. row-on (Within (Head t) h) (First (Own t h standing)) stop (stop + 1) (onStem s (t .vertices) (mayList t) (onOwned h W))
+          (spaced-own (eqb-true _ _ e)) (row-own (First (Own t h standing)) h (stop + 1) (W .stop) (W .found) (own-run h (stop + 1))))
           unspaced
-  row-head at NotANumber r = unfold lineAt in r
+  row-head at stop NotANumber r = unfold lineAt in r
 
-  row-run : (at : ℕ) → at < length s → length (t .edges) < mostEdges → RowRuns (First (Head t)) at (rowAt s (t .vertices) (mayList t) at)
+module _ (s : List ℕ) (t : Table) where
+  pub row-run : (at : ℕ) → at < length s → length (t .edges) < mostEdges → RowRuns s t at (First (Head t)) at (rowAt s (t .vertices) (mayList t) at)
   unfolding rowAt stemAt
   row-run at h l =
       let q : limit (Head t) ≡ t .vertices = unfold limit in rw (lt-ltb (length (t .edges)) mostEdges l) in
-      row-head at (numberAt s at (t .vertices))
-      (subst (λ (k : ℕ). NumberRuns s (Head t) (First (Head t)) (drop at s) (numberAt s at k)) q (number-run s (Head t) at (λ g. absurd (past g)) (unfold instead lineAt in refl)))
+      let T = numberAt s at (t .vertices) in
+      row-head s t at at (T .stop) (T .found)
+      (subst (λ (k : ℕ). TokenRuns s (Head t) at (First (Head t)) at (numberAt s at k)) q (number-run s (Head t) at at (λ g. absurd (past g)) (unfold instead lineAt in refl)))
     where
       past : length s ≤ at → ⊥
       past g = omega arith
 
-  -- no line more
-  row-over : (at : ℕ) → at < length s → mostEdges ≤ length (t .edges) → finish (run (First (Head t)) (drop at s)) ≡ Wrong (nextLine t)
-  row-over at h l = run-wrong (First (Head t)) s at (nextLine t) h (go (ltb (digitOf (getD s at 0)) 10) refl)
+  -- no line more: its first byte fails
+  pub row-over : (at : ℕ) → at < length s → mostEdges ≤ length (t .edges) → fate s (First (Head t)) at at ≡ Stopped (nextLine t) at at
+  row-over at h l = fate-wrong (First (Head t)) s at at (nextLine t) h (go (ltb (digitOf (getD s at 0)) 10) refl)
     where
       none : limit (Head t) ≡ 0
       none = unfold limit in rw (le-ltb (length (t .edges)) mostEdges l)
@@ -386,123 +485,251 @@ module _ (s : List ℕ) (t : Table) where
 -- The text -----------------------------------------------------------------------------------------------------------------------------------
 
 module _ (s : List ℕ) where
-  on-row : (t : Table) (at : ℕ) (R : Row) (more : Table → ℕ → Parse) → RowRuns s t (First (Head t)) at R
-      → ((u : Table) (next : ℕ) → length (u .edges) ≡ length (t .edges) + 1 → more u next ≡ finish (run (First (Head u)) (drop next s)))
-      → onRow t R more ≡ finish (run (First (Head t)) (drop at s))
-  on-row t at (Holds e next) more r k = k (withEdge t e) next (length-append (t .edges) (e ∷ [])) ∙ sym (ap finish r)
-  on-row t at (Fails xs) more r k = sym r
+  on-row : (t : Table) (at : ℕ) (R : Row) (more : Table → ℕ → Parse) → RowRuns s t at (First (Head t)) at R
+      → ((u : Table) (next : ℕ) → length (u .edges) ≡ length (t .edges) + 1 → more u next ≡ parsed (fate s (First (Head u)) next next))
+      → onRow t R more ≡ parsed (fate s (First (Head t)) at at)
+  on-row t at (Holds e next) more r k = k (withEdge t e) next (length-append (t .edges) (e ∷ [])) ∙ sym (ap parsed r)
+  on-row t at (Fails xs place) more r k = sym (ap parsed r)
 
-  text-ends : (t : Table) (at : ℕ) → length s ≤ at → Whole t ≡ finish (run (First (Head t)) (drop at s))
+  text-ends : (t : Table) (at : ℕ) → length s ≤ at → Whole t ≡ parsed (fate s (First (Head t)) at at)
   unfolding finish
-  text-ends t at h = sym (ap finish (run-end (First (Head t)) s at h))
+  text-ends t at h = sym (ap parsed (fate-past (First (Head t)) s at at h))
 
-  scan-run : (left at : ℕ) (t : Table) → left + length (t .edges) ≡ mostEdges → scanFrom left s at t ≡ finish (run (First (Head t)) (drop at s))
+  scan-run : (left at : ℕ) (t : Table) → left + length (t .edges) ≡ mostEdges → scanFrom left s at t ≡ parsed (fate s (First (Head t)) at at)
   unfolding scanFrom
   scan-run zero at t l =
-      pick-by (λ (P : Parse). P ≡ finish (run (First (Head t)) (drop at s))) (ltb at (length s))
-      (λ e. sym (row-over s t at (ltb-true _ _ e) (omega arith))) (λ e. text-ends t at (ltb-false _ _ e))
+      pick-by (λ (P : Parse). P ≡ parsed (fate s (First (Head t)) at at)) (ltb at (length s))
+      (λ e. sym (ap parsed (row-over s t at (ltb-true _ _ e) (omega arith)))) (λ e. text-ends t at (ltb-false _ _ e))
   scan-run (suc left) at t l =
       let more : Table → ℕ → Parse = λ u next. scanFrom left s next u in
-      pick-by (λ (P : Parse). P ≡ finish (run (First (Head t)) (drop at s))) (ltb at (length s))
+      pick-by (λ (P : Parse). P ≡ parsed (fate s (First (Head t)) at at)) (ltb at (length s))
       (λ e. on-row t at (rowAt s (t .vertices) (mayList t) at) more (row-run s t at (ltb-true _ _ e) (omega arith)) (λ u next q. scan-run left next u (omega arith)))
       (λ e. text-ends t at (ltb-false _ _ e))
 
--- a word is spelled, or the line is wrong
-abbrev SpellRuns : (w : ℕ) → List ℕ → Place → List ℕ → Bool → Type 0
-SpellRuns w ws p bs true = run (Spelling (w ∷ ws) p) bs ≡ run (First p) (drop (length (w ∷ ws)) bs)
-SpellRuns w ws p bs false = finish (run (Spelling (w ∷ ws) p) bs) ≡ Wrong 1
+-- a word of which so many bytes stand there: the first that differs fails, or the word is passed
+spell-stops : (w : ℕ) (ws : List ℕ) (p : Place) (bs : List ℕ) (a i : ℕ) → let k = agreeing (w ∷ ws) bs in
+    k < length (w ∷ ws) → fateFrom (Spelling (w ∷ ws) p) bs a i ≡ Stopped 1 (i + k) (startFrom a i (take k (w ∷ ws)))
+unfolding agreeing startFrom
+spell-stops w ws p [] a i = λ h. fate-none (Spelling (w ∷ ws) p) a i ∙ (unfold finish in ap (λ (k : ℕ). Stopped 1 k a) (sym (add-zero i)))
+spell-stops w [] p (b ∷ bs) a i =
+    pick-by (λ (k : ℕ). k < 1 → fateFrom (Spelling (w ∷ []) p) (b ∷ bs) a i ≡ Stopped 1 (i + k) (startFrom a i (take k (w ∷ [])))) (eqb b w)
+    (λ e h. absurd (omega arith))
+    (λ e h. fate-stop (Spelling (w ∷ []) p) b bs a i 1 (unfold step spell in rw e) ∙ ap (λ (k : ℕ). Stopped 1 k a) (sym (add-zero i)))
+spell-stops w (v ∷ ws) p (b ∷ bs) a i =
+    pick-by (λ (k : ℕ). k < length (w ∷ v ∷ ws) → fateFrom (Spelling (w ∷ v ∷ ws) p) (b ∷ bs) a i ≡ Stopped 1 (i + k) (startFrom a i (take k (w ∷ v ∷ ws)))) (eqb b w)
+    (λ e h.
+    let k = agreeing (v ∷ ws) bs in
+    fate-one (Spelling (w ∷ v ∷ ws) p) b bs a i (Spelling (v ∷ ws) p) (unfold step spell in rw e) refl
+    ∙ spell-stops v ws p bs (pick (eqb b 10) (i + 1) a) (i + 1) (omega arith)
+    ∙ ap₂ (λ (j x : ℕ). Stopped 1 j (startFrom (pick (eqb x 10) (i + 1) a) (i + 1) (take k (v ∷ ws)))) (sym (one-behind i k)) (eqb-true b w e))
+    (λ e h. fate-stop (Spelling (w ∷ v ∷ ws) p) b bs a i 1 (unfold step spell in rw e) ∙ ap (λ (k : ℕ). Stopped 1 k a) (sym (add-zero i)))
 
-spell-on : (w v b : ℕ) (ws : List ℕ) (p : Place) (bs : List ℕ) (c : Bool) → eqb b w ≡ true → SpellRuns v ws p bs c → SpellRuns w (v ∷ ws) p (b ∷ bs) c
-unfolding run step spell
-spell-on w v b ws p bs true e r = rw e r
-spell-on w v b ws p bs false e r = rw e r
+spell-passes : (w : ℕ) (ws : List ℕ) (p : Place) (bs : List ℕ) (a i : ℕ) → length (w ∷ ws) ≤ agreeing (w ∷ ws) bs
+    → fateFrom (Spelling (w ∷ ws) p) bs a i ≡ fateFrom (First p) (drop (length (w ∷ ws)) bs) (startFrom a i (w ∷ ws)) (i + length (w ∷ ws))
+unfolding agreeing startFrom
+spell-passes w ws p [] a i = λ h. absurd (omega arith)
+spell-passes w [] p (b ∷ bs) a i =
+    pick-by (λ (k : ℕ). 1 ≤ k → fateFrom (Spelling (w ∷ []) p) (b ∷ bs) a i ≡ fateFrom (First p) bs (pick (eqb w 10) (i + 1) a) (i + 1)) (eqb b w)
+    (λ e h.
+    fate-one (Spelling (w ∷ []) p) b bs a i (First p) (unfold step spell in rw e) refl
+    ∙ ap (λ (x : ℕ). fateFrom (First p) bs (pick (eqb x 10) (i + 1) a) (i + 1)) (eqb-true b w e))
+    (λ e h. absurd (omega arith))
+spell-passes w (v ∷ ws) p (b ∷ bs) a i =
+    let n = length (v ∷ ws) in
+    pick-by (λ (k : ℕ). suc n ≤ k → fateFrom (Spelling (w ∷ v ∷ ws) p) (b ∷ bs) a i
+    ≡ fateFrom (First p) (drop n bs) (startFrom (pick (eqb w 10) (i + 1) a) (i + 1) (v ∷ ws)) (i + suc n)) (eqb b w)
+    (λ e h.
+    fate-one (Spelling (w ∷ v ∷ ws) p) b bs a i (Spelling (v ∷ ws) p) (unfold step spell in rw e) refl
+    ∙ spell-passes v ws p bs (pick (eqb b 10) (i + 1) a) (i + 1) (omega arith)
+    ∙ ap₂ (λ (j x : ℕ). fateFrom (First p) (drop n bs) (startFrom (pick (eqb x 10) (i + 1) a) (i + 1) (v ∷ ws)) j) (sym (one-behind i n)) (eqb-true b w e))
+    (λ e h. absurd (omega arith))
 
-spell-run : (w : ℕ) (ws : List ℕ) (p : Place) (bs : List ℕ) → SpellRuns w ws p bs (startsWith (w ∷ ws) bs)
-unfolding startsWith
-spell-run w ws p [] = unfold run finish in refl
-spell-run w [] p (b ∷ bs) = pick-by (SpellRuns w [] p (b ∷ bs)) (eqb b w) (λ e. unfold run step spell in rw e) (λ e. unfold run step spell finish in rw e (ap finish (run-failed 1 bs)))
-spell-run w (v ∷ ws) p (b ∷ bs) =
-    pick-by (SpellRuns w (v ∷ ws) p (b ∷ bs)) (eqb b w)
-    (λ e. spell-on w v b ws p bs (startsWith (v ∷ ws) bs) e (spell-run v ws p bs)) (λ e. unfold run step spell finish in rw e (ap finish (run-failed 1 bs)))
+pub from-start : (k : ℕ) → 0 + k ≡ k
+from-start k = omega arith
+
+-- no LF stands before the end of the two words
+in-first : (k : ℕ) → k < 6 → startFrom 0 0 (take k (112 ∷ 97 ∷ 114 ∷ 116 ∷ 115 ∷ 32 ∷ [])) ≡ 0
+unfolding startFrom
+in-first zero h = refl
+in-first (suc zero) h = refl
+in-first (suc (suc zero)) h = refl
+in-first (suc (suc (suc zero))) h = refl
+in-first (suc (suc (suc (suc zero)))) h = refl
+in-first (suc (suc (suc (suc (suc zero))))) h = refl
+in-first (suc (suc (suc (suc (suc (suc k)))))) h = absurd (omega arith)
+
+in-word : (i k : ℕ) → k < 6 → startFrom 0 i (take k (32 ∷ 100 ∷ 97 ∷ 121 ∷ 115 ∷ 10 ∷ [])) ≡ 0
+unfolding startFrom
+in-word i zero h = refl
+in-word i (suc zero) h = refl
+in-word i (suc (suc zero)) h = refl
+in-word i (suc (suc (suc zero))) h = refl
+in-word i (suc (suc (suc (suc zero)))) h = refl
+in-word i (suc (suc (suc (suc (suc zero))))) h = refl
+in-word i (suc (suc (suc (suc (suc (suc k)))))) h = absurd (omega arith)
+
+behind-word : (i : ℕ) → startFrom 0 i (32 ∷ 100 ∷ 97 ∷ 121 ∷ 115 ∷ 10 ∷ []) ≡ i + 6
+unfolding startFrom
+behind-word i = let q : i + 1 + 1 + 1 + 1 + 1 + 1 ≡ i + 6 = omega arith in q
 
 module _ (s : List ℕ) where
-  abbrev FirstRuns : State → List ℕ → FirstLine → Type 0
-  FirstRuns σ bs (first.Read n m start) = run σ bs ≡ run (First (Head (begun n m))) (drop start s)
-  FirstRuns σ bs first.Wrong = finish (run σ bs) ≡ Wrong 1
+  abbrev pub FirstRuns : State → ℕ → FirstLine → Type 0
+  FirstRuns σ at (first.Read n m start) = fate s σ 0 at ≡ fate s (First (Head (begun n m))) start start
+  FirstRuns σ at (first.Wrong place) = fate s σ 0 at ≡ Stopped 1 place 0
 
-  first-on : (σ τ : State) (bs cs : List ℕ) (F : FirstLine) → run σ bs ≡ run τ cs → FirstRuns τ cs F → FirstRuns σ bs F
-  first-on σ τ bs cs (first.Read n m start) e r = e ∙ r
-  first-on σ τ bs cs first.Wrong e r = ap finish e ∙ r
+  first-on : (σ τ : State) (at next : ℕ) (F : FirstLine) → fate s σ 0 at ≡ fate s τ 0 next → FirstRuns τ next F → FirstRuns σ at F
+  first-on σ τ at next (first.Read n m start) e r = e ∙ r
+  first-on σ τ at next (first.Wrong place) e r = e ∙ r
 
   module _ (n next : ℕ) (d : 10 ≤ digitOf (getD s next 0)) where
     -- behind the number of parts, the word or nothing
     abbrev wordly : State
     wordly = Spelling (word ++ 10 ∷ []) (Head (begun n spoken))
 
-    to-word : next < length s → eqb (getD s next 0) 10 ≡ false → run (Within Vertices n) (drop next s) ≡ run wordly (drop next s)
+    to-word : next < length s → eqb (getD s next 0) 10 ≡ false → fate s (Within Vertices n) 0 next ≡ fate s wordly 0 next
     to-word h e =
         let q : step (Within Vertices n) (getD s next 0) ≡ step wordly (getD s next 0) = number-ended s Vertices n next d ∙ (unfold ended step in rw e) in
-        run-step (Within Vertices n) s next h ∙ ap (λ (σ : State). run σ (drop (next + 1) s)) q ∙ sym (run-step wordly s next h)
+        let c = drop-cons s next 0 h in
+        ap (λ (bs : List ℕ). fateFrom (Within Vertices n) bs 0 next) c
+        ∙ fate-alike (Within Vertices n) (getD s next 0) (drop (suc next) s) 0 next wordly q
+        ∙ sym (ap (λ (bs : List ℕ). fateFrom wordly bs 0 next) c)
 
-    word-named : (c : Bool) → startsWith (word ++ 10 ∷ []) (drop next s) ≡ c → next < length s → eqb (getD s next 0) 10 ≡ false
-        → FirstRuns (Within Vertices n) (drop next s) (pick c (first.Read n spoken (next + length (word ++ 10 ∷ []))) first.Wrong)
-    unfolding word
-    word-named true q h e =
-        let r : SpellRuns 32 (100 ∷ 97 ∷ 121 ∷ 115 ∷ 10 ∷ []) (Head (begun n spoken)) (drop next s) true =
-        subst (SpellRuns 32 (100 ∷ 97 ∷ 121 ∷ 115 ∷ 10 ∷ []) (Head (begun n spoken)) (drop next s)) q
-        (spell-run 32 (100 ∷ 97 ∷ 121 ∷ 115 ∷ 10 ∷ []) (Head (begun n spoken)) (drop next s)) in
-        to-word h e ∙ r ∙ ap (run (First (Head (begun n spoken)))) (drop-drop 6 next s)
-    word-named false q h e =
-        let r : SpellRuns 32 (100 ∷ 97 ∷ 121 ∷ 115 ∷ 10 ∷ []) (Head (begun n spoken)) (drop next s) false =
-        subst (SpellRuns 32 (100 ∷ 97 ∷ 121 ∷ 115 ∷ 10 ∷ []) (Head (begun n spoken)) (drop next s)) q
-        (spell-run 32 (100 ∷ 97 ∷ 121 ∷ 115 ∷ 10 ∷ []) (Head (begun n spoken)) (drop next s)) in
-        ap finish (to-word h e) ∙ r
+    abbrev named : ℕ
+    named = agreeing (word ++ 10 ∷ []) (drop next s)
 
-    word-missing : length s ≤ next → FirstRuns (Within Vertices n) (drop next s) (pick (startsWith (word ++ 10 ∷ []) (drop next s)) (first.Read n spoken (next + length (word ++ 10 ∷ []))) first.Wrong)
-    unfolding word startsWith finish lineAt
-    word-missing h = rw (drop-of-length-le s h) (unfold run in refl)
+    -- at the text's end no byte of the word stands
+    unnamed : length s ≤ next → named ≡ 0
+    unfolding word agreeing
+    unnamed h = ap (agreeing (word ++ 10 ∷ [])) (drop-of-length-le s h)
 
-    word-run : eqb (getD s next 0) 10 ≡ false
-        → FirstRuns (Within Vertices n) (drop next s) (pick (startsWith (word ++ 10 ∷ []) (drop next s)) (first.Read n spoken (next + length (word ++ 10 ∷ []))) first.Wrong)
-    word-run e = go (ltb next (length s)) refl
+    word-stops : eqb (getD s next 0) 10 ≡ false → named < 6 → fate s (Within Vertices n) 0 next ≡ Stopped 1 (next + named) 0
+    word-stops e l = go (ltb next (length s)) refl
       where
-        go : (c : Bool) → ltb next (length s) ≡ c
-            → FirstRuns (Within Vertices n) (drop next s) (pick (startsWith (word ++ 10 ∷ []) (drop next s)) (first.Read n spoken (next + length (word ++ 10 ∷ []))) first.Wrong)
-        go true q = word-named (startsWith (word ++ 10 ∷ []) (drop next s)) refl (ltb-true _ _ q) e
-        go false q = word-missing (ltb-false _ _ q)
+        inside : next < length s → fate s (Within Vertices n) 0 next ≡ Stopped 1 (next + named) 0
+        inside h = unfold word in
+            to-word h e ∙ spell-stops 32 (100 ∷ 97 ∷ 121 ∷ 115 ∷ 10 ∷ []) (Head (begun n spoken)) (drop next s) 0 next l
+            ∙ ap (Stopped 1 (next + named)) (in-word next named l)
 
-    silent-run : getD s next 0 ≡ 10 → run (Within Vertices n) (drop next s) ≡ run (First (Head (begun n default))) (drop (next + 1) s)
+        unended : finish (Within Vertices n) ≡ Wrong 1
+        unended = unfold finish lineAt in refl
+
+        behind : length s ≤ next → fate s (Within Vertices n) 0 next ≡ Stopped 1 (next + named) 0
+        behind h =
+            let z = unnamed h in
+            let q : next ≡ next + named = omega arith in
+            fate-past (Within Vertices n) s 0 next h ∙ ap (λ (P : Parse). fateOf P next 0) unended ∙ ap (λ (k : ℕ). Stopped 1 k 0) q
+
+        go : (c : Bool) → ltb next (length s) ≡ c → fate s (Within Vertices n) 0 next ≡ Stopped 1 (next + named) 0
+        go true q = inside (ltb-true _ _ q)
+        go false q = behind (ltb-false _ _ q)
+
+    word-passes : eqb (getD s next 0) 10 ≡ false → 6 ≤ named → fate s (Within Vertices n) 0 next ≡ fate s (First (Head (begun n spoken))) (next + 6) (next + 6)
+    word-passes e l = go (ltb next (length s)) refl
+      where
+        inside : next < length s → fate s (Within Vertices n) 0 next ≡ fate s (First (Head (begun n spoken))) (next + 6) (next + 6)
+        inside h = unfold word in
+            to-word h e ∙ spell-passes 32 (100 ∷ 97 ∷ 121 ∷ 115 ∷ 10 ∷ []) (Head (begun n spoken)) (drop next s) 0 next l
+            ∙ ap₂ (λ (bs : List ℕ) (k : ℕ). fateFrom (First (Head (begun n spoken))) bs k (next + 6)) (drop-drop 6 next s) (behind-word next)
+
+        go : (c : Bool) → ltb next (length s) ≡ c → fate s (Within Vertices n) 0 next ≡ fate s (First (Head (begun n spoken))) (next + 6) (next + 6)
+        go true q = inside (ltb-true _ _ q)
+        go false q = absurd (let z = unnamed (ltb-false _ _ q) in omega arith)
+
+    word-run : eqb (getD s next 0) 10 ≡ false → FirstRuns (Within Vertices n) next (onWord n next named)
+    unfolding word
+    word-run e = pick-by (FirstRuns (Within Vertices n) next) (ltb named 6) (λ l. word-stops e (ltb-true _ _ l)) (λ l. word-passes e (ltb-false _ _ l))
+
+    silent-run : getD s next 0 ≡ 10 → fate s (Within Vertices n) 0 next ≡ fate s (First (Head (begun n default))) (next + 1) (next + 1)
     silent-run e =
         let q : ended Vertices n 10 ≡ First (Head (begun n default)) = unfold ended in refl in
-        run-step (Within Vertices n) s next (byte-within s next 10 e (omega arith)) ∙ ap (λ (σ : State). run σ (drop (next + 1) s)) (number-ended s Vertices n next d ∙ ap (ended Vertices n) e ∙ q)
+        fate-line (Within Vertices n) s 0 next (First (Head (begun n default))) (byte-within s next 10 e (omega arith))
+        (number-ended s Vertices n next d ∙ ap (ended Vertices n) e ∙ q) refl e
 
-    count-run : FirstRuns (Within Vertices n) (drop next s) (onCount s (Number n next))
-    count-run = pick-by (FirstRuns (Within Vertices n) (drop next s)) (eqb (getD s next 0) 10) (λ e. silent-run (eqb-true _ _ e)) word-run
+    count-run : FirstRuns (Within Vertices n) next (onCount s next (Number n))
+    count-run = pick-by (FirstRuns (Within Vertices n) next) (eqb (getD s next 0) 10) (λ e. silent-run (eqb-true _ _ e)) word-run
 
-  counted-run : (at : ℕ) (F : Found) → NumberRuns s Vertices (First Vertices) (drop at s) F → FirstRuns (First Vertices) (drop at s) (onCount s F)
-  counted-run at (Number n next) r = first-on (First Vertices) (Within Vertices n) (drop at s) (drop next s) (onCount s (Number n next)) (r .0) (count-run n next (r .1))
-  counted-run at NotANumber r = unfold lineAt in r
+  counted-run : (at stop : ℕ) (F : Found) → NumberRuns s Vertices 0 (First Vertices) at stop F → FirstRuns (First Vertices) at (onCount s stop F)
+  counted-run at stop (Number n) r = first-on (First Vertices) (Within Vertices n) at stop (onCount s stop (Number n)) (r .0) (count-run n stop (r .1))
+  counted-run at stop NotANumber r = unfold lineAt in r
 
-  first-run : FirstRuns begin s (firstLine s)
-  first-run = unfold firstLine in go (startsWith firstWord s) refl
-    where
-      opened : SpellRuns 112 (97 ∷ 114 ∷ 116 ∷ 115 ∷ 32 ∷ []) Vertices s (startsWith firstWord s)
-      opened = unfold firstWord in spell-run 112 (97 ∷ 114 ∷ 116 ∷ 115 ∷ 32 ∷ []) Vertices s
+  pub first-run : FirstRuns begin 0 (firstLine s)
+  unfolding firstLine firstWord
+  first-run =
+      let K = agreeing firstWord s in
+      let T = numberAt s 6 (mostVertices + 1) in
+      pick-by (FirstRuns begin 0) (ltb K 6)
+      (λ l. spell-stops 112 (97 ∷ 114 ∷ 116 ∷ 115 ∷ 32 ∷ []) Vertices s 0 0 (ltb-true _ _ l) ∙ ap₂ (Stopped 1) (from-start K) (in-first K (ltb-true _ _ l)))
+      (λ l. first-on begin (First Vertices) 0 6 (onCounted s T)
+      (unfold startFrom in spell-passes 112 (97 ∷ 114 ∷ 116 ∷ 115 ∷ 32 ∷ []) Vertices s 0 0 (ltb-false _ _ l))
+      (counted-run 6 (T .stop) (T .found) (unfold limit finish instead lineAt in number-run s Vertices 0 6 (λ g. refl) refl)))
 
-      counted : NumberRuns s Vertices (First Vertices) (drop (length firstWord) s) (numberAt s (length firstWord) (mostVertices + 1))
-      counted = unfold limit finish instead lineAt in number-run s Vertices (length firstWord) (λ l. refl) refl
+  scan-first : (F : FirstLine) → FirstRuns begin 0 F → onFirst s F ≡ parsed (fate s begin 0 0)
+  scan-first (first.Read n m start) r = scan-run s mostEdges start (begun n m) (omega arith) ∙ sym (ap parsed r)
+  scan-first (first.Wrong place) r = sym (ap parsed r)
 
-      go : (c : Bool) → startsWith firstWord s ≡ c → FirstRuns begin s (pick c (onCount s (numberAt s (length firstWord) (mostVertices + 1))) first.Wrong)
-      go true e = unfold firstWord in
-          first-on begin (First Vertices) s (drop 6 s) (onCount s (numberAt s (length firstWord) (mostVertices + 1)))
-          (subst (SpellRuns 112 (97 ∷ 114 ∷ 116 ∷ 115 ∷ 32 ∷ []) Vertices s) e opened)
-          (counted-run 6 (numberAt s (length firstWord) (mostVertices + 1)) counted)
-      go false e = unfold firstWord in subst (SpellRuns 112 (97 ∷ 114 ∷ 116 ∷ 115 ∷ 32 ∷ []) Vertices s) e opened
-
-  scan-first : (F : FirstLine) → FirstRuns begin s F → onFirst s F ≡ finish (run begin s)
-  scan-first (first.Read n m start) r = scan-run s mostEdges start (begun n m) (omega arith) ∙ sym (ap finish r)
-  scan-first first.Wrong r = sym r
+  parsed-of : (P : Parse) (k a : ℕ) → parsed (fateOf P k a) ≡ P
+  parsed-of (Whole t) k a = refl
+  parsed-of (Wrong l) k a = refl
 
   pub scan-is-parse : scan s ≡ parse s
-  unfolding scan parse
-  scan-is-parse = scan-first (firstLine s) first-run
+  unfolding scan parse fateFrom
+  scan-is-parse = scan-first (firstLine s) first-run ∙ parsed-of (parse s) _ _
+
+-- The column ---------------------------------------------------------------------------------------------------------------------------------
+
+-- the start of the line is not behind the bytes, and the column counts from it
+abbrev Counted : (a i : ℕ) → List ℕ → Type 0
+Counted a i bs = (startFrom a i bs ≤ i + length bs) × (i + length bs - startFrom a i bs + 1 ≡ columnFrom (i - a + 1) bs)
+
+one-counted : (a i b : ℕ) (bs : List ℕ) → a ≤ i → ((c j : ℕ) → c ≤ j → Counted c j bs) → Counted a i (b ∷ bs)
+unfolding startFrom columnFrom
+one-counted a i b bs h rec = go (eqb b 10)
+  where
+    go : (c : Bool) → let x = startFrom (pick c (i + 1) a) (i + 1) bs in
+        (x ≤ i + suc (length bs)) × (i + suc (length bs) - x + 1 ≡ columnFrom (pick c 1 (suc (i - a + 1))) bs)
+    go true =
+        let r = rec (i + 1) (i + 1) (omega arith) in
+        let l = r .0 in
+        let q : i + suc (length bs) ≡ i + 1 + length bs = omega arith in
+        let c : i + 1 - (i + 1) + 1 ≡ 1 = omega arith in
+        (omega arith, ap (λ (k : ℕ). k - startFrom (i + 1) (i + 1) bs + 1) q ∙ r .1 ∙ ap (λ (k : ℕ). columnFrom k bs) c)
+    go false =
+        let r = rec a (i + 1) (omega arith) in
+        let l = r .0 in
+        let q : i + suc (length bs) ≡ i + 1 + length bs = omega arith in
+        let c : i + 1 - a + 1 ≡ suc (i - a + 1) = omega arith in
+        (omega arith, ap (λ (k : ℕ). k - startFrom a (i + 1) bs + 1) q ∙ r .1 ∙ ap (λ (k : ℕ). columnFrom k bs) c)
+
+counts-column : (bs : List ℕ) (a i : ℕ) → a ≤ i → Counted a i bs
+unfolding startFrom columnFrom
+counts-column [] a i h = (omega arith, omega arith)
+counts-column (b ∷ bs) a i h = one-counted a i b bs h (λ c j g. counts-column bs c j g)
+
+-- what a text that is stopped at is refused with
+pub record Refuses (s : List ℕ) (line place start : ℕ) : Type 0 where
+  pub wrong : parse s ≡ Wrong line
+  pub column : place - start + 1 ≡ columnOf s
+  pub behind-start : start ≤ place
+  pub inside : place ≤ length s
+
+stopped-by : (P : Parse) (k a l k′ a′ : ℕ) → fateOf P k a ≡ Stopped l k′ a′ → (P ≡ Wrong l) × (k ≡ k′) × (a ≡ a′)
+stopped-by (Whole t) k a l k′ a′ e = absurd (let z : _≡_ {A = ℕ} 0 1 = cc in omega arith)
+stopped-by (Wrong m) k a l k′ a′ e = let q : m ≡ l = cc in (ap Wrong q, cc, cc)
+
+pub stopped : (s : List ℕ) (l k a : ℕ) → fate s begin 0 0 ≡ Stopped l k a → Refuses s l k a
+unfolding fateFrom parse columnOf
+stopped s l k a e =
+    let K = failingAt s in
+    let r = stopped-by (finish (run begin s)) (0 + K) (startFrom 0 0 (take K s)) l k a e in
+    let m : length (take K s) ≡ K = length-take-le K s (survived-inside begin s) in
+    let c = counts-column (take K s) 0 0 (omega arith) in
+    let b = c .0 in
+    let x = r .1 in
+    let y = r .2 in
+    let i = survived-inside begin s in
+    record {
+      wrong = r .0;
+      column = ap₂ (λ (j z : ℕ). j - z + 1) (let q : k ≡ 0 + length (take K s) = omega arith in q) (sym y) ∙ c .1;
+      behind-start = omega arith;
+      inside = omega arith;
+    }

@@ -6,8 +6,8 @@ use mathlib.Core.Bool.{Bool, true, false}
 use Prim.Native.Nat.{ℕ, zero, suc, _+_, _-_, _≤_, _<_, min}
 use native.Mathlib.Omega.{arith}
 use lib.ListN.{length, getD, drop, length-append, length-drop}
-use lib.Dec.{eqb}
-use borrow.Author.Tests.{lt-ltb, le-ltb, eqb-true}
+use lib.Dec.{ltb, eqb}
+use borrow.Author.Tests.{lt-ltb, le-ltb, ltb-false, eqb-true}
 use Rattle.weights.specs.declared.Measure.{Measure}
 use Rattle.weights.specs.declared.Vertex.{Vertex}
 use Rattle.weights.specs.declared.Weight.{Weight}
@@ -16,14 +16,15 @@ use Rattle.weights.specs.Choice.{pick}
 use Rattle.columns.specs.Acceptance.{mostVertices, mostEdges, mostListed, longestTail}
 use Rattle.text.specs.Tables.{Edge, Table, listedInAll}
 use Rattle.text.specs.Render.{spoken, word, firstWord}
-use Rattle.text.specs.Machine.{begun, withEdge, nextLine, mayList, Whole, Wrong}
+use Rattle.text.specs.Machine.{Head, First, begun, withEdge, nextLine, mayList, Whole, Wrong, begin}
 use Rattle.text.proofs.Digits.{pick-by}
 use Rattle.text.proofs.Rows.{total-snoc}
 use Rattle.cursor.specs.declared.Found.{Found}
 use Rattle.cursor.specs.declared.Found.the-variants.{Number, NotANumber}
+use Rattle.cursor.specs.declared.Token.{Token}
 use Rattle.cursor.specs.declared.FoundWeight.{FoundWeight}
 use Rattle.cursor.specs.declared.FoundWeight.the-variants as weight
-use Rattle.cursor.specs.Cursor.{numberAt, weightAt}
+use Rattle.cursor.specs.Cursor.{token, numberAt, weightToken, weightAt}
 use Rattle.cursor.proofs.Counts.{byte-within, number-counts, weight-counts}
 use Rattle.reading.specs.declared.FirstLine.{FirstLine}
 use Rattle.reading.specs.declared.FirstLine.the-variants as first
@@ -31,17 +32,22 @@ use Rattle.reading.specs.declared.Stem.{Stem}
 use Rattle.reading.specs.declared.Stem.the-variants as stem
 use Rattle.reading.specs.declared.Line.the-variants as line
 use Rattle.reading.specs.Lines.{
-  startsWith,
+  agreeing,
+  onWord,
   onCount,
+  onCounted,
   firstLine,
   onOwn,
+  onOwned,
   onHead,
+  onHeaded,
   stemAt,
   Listing,
   Ends,
   Breaks,
   listEnd,
   onVertex,
+  onListed,
   listedFrom,
   Row,
   Holds,
@@ -55,27 +61,29 @@ use Rattle.reading.specs.Lines.{
   onFirst,
   scan,
 }
+use Rattle.reading.proofs.Scanned.{Stopped, fate, RowRuns, row-run, row-over, FirstRuns, first-run}
 
 -- Places: the next line begins later, and within the text ------------------------------------------------------------------------------------
 
 module _ (s : List ℕ) where
   abbrev StemCounts : ℕ → Stem → Type 0
   StemCounts at (stem.Read h o k next) = (at < next) × (next ≤ length s)
-  StemCounts at stem.Wrong = Unit {0}
+  StemCounts at (stem.Wrong place) = Unit {0}
 
-  own-counts : (at h from : ℕ) (F : FoundWeight) → at < from → weightAt s from ≡ F → StemCounts at (onOwn h F)
-  own-counts at h from (weight.Own w k next) l e = let r = weight-counts s from w k next e in let a = r .2 in (omega arith, r .3)
-  own-counts at h from weight.NotAWeight l e = tt
+  own-counts : (at h from start stop : ℕ) (F : FoundWeight) → at < from → weightAt s from ≡ weightToken start stop F → StemCounts at (onOwn h stop F)
+  own-counts at h from start stop (weight.Own w k) l e = let r = weight-counts s from start stop w k e in let a = r .2 in (omega arith, r .3)
+  own-counts at h from start stop weight.NotAWeight l e = tt
 
-  head-counts : (n at : ℕ) (F : Found) → numberAt s at n ≡ F → StemCounts at (onHead s F)
-  head-counts n at (Number h a) e =
-      let l = number-counts s at n h a e .1 in
-      pick-by (StemCounts at) (eqb (getD s a 0) 32) (λ _. own-counts at h (a + 1) (weightAt s (a + 1)) (omega arith) refl) (λ _. tt)
-  head-counts n at NotANumber e = tt
+  head-counts : (n at start stop : ℕ) (F : Found) → numberAt s at n ≡ token start stop F → StemCounts at (onHead s stop F)
+  head-counts n at start stop (Number h) e =
+      let l = number-counts s at n start stop h e .1 in
+      let W = weightAt s (stop + 1) in
+      pick-by (StemCounts at) (eqb (getD s stop 0) 32) (λ _. own-counts at h (stop + 1) (W .start) (W .stop) (W .found) (omega arith) refl) (λ _. tt)
+  head-counts n at start stop NotANumber e = tt
 
   abbrev ListCounts : (at most : ℕ) → Listing → Type 0
   ListCounts at most (Ends xs next) = (length xs ≤ most) × (at < next) × (next ≤ length s)
-  ListCounts at most (Breaks xs) = Unit {0}
+  ListCounts at most (Breaks xs place) = Unit {0}
 
   end-counts : (at most : ℕ) (xs : List ℕ) → length xs ≤ most → ListCounts at most (listEnd s at xs)
   end-counts at most xs h =
@@ -83,70 +91,73 @@ module _ (s : List ℕ) where
 
   later : (at at′ most : ℕ) (L : Listing) → at < at′ → ListCounts at′ most L → ListCounts at most L
   later at at′ most (Ends xs next) h c = let l = c .1 in (c .0, omega arith, c .2)
-  later at at′ most (Breaks xs) h c = tt
+  later at at′ most (Breaks xs place) h c = tt
 
-  vertex-counts : (at n most : ℕ) (xs : List ℕ) (F : Found) (more : List ℕ → ℕ → Listing) → numberAt s (at + 1) n ≡ F
-      → ((v next : ℕ) → ListCounts next most (more (xs ++ v ∷ []) next)) → ListCounts at most (onVertex xs F more)
-  vertex-counts at n most xs (Number v next) more e k = let l = number-counts s (at + 1) n v next e .1 in later at next most (more (xs ++ v ∷ []) next) (omega arith) (k v next)
-  vertex-counts at n most xs NotANumber more e k = tt
+  vertex-counts : (at n most : ℕ) (xs : List ℕ) (start stop : ℕ) (F : Found) (more : List ℕ → ℕ → Listing) → numberAt s (at + 1) n ≡ token start stop F
+      → ((v next : ℕ) → ListCounts next most (more (xs ++ v ∷ []) next)) → ListCounts at most (onVertex xs stop F more)
+  vertex-counts at n most xs start stop (Number v) more e k =
+      let l = number-counts s (at + 1) n start stop v e .1 in later at stop most (more (xs ++ v ∷ []) stop) (omega arith) (k v stop)
+  vertex-counts at n most xs start stop NotANumber more e k = tt
 
   list-counts : (left n at most : ℕ) (xs : List ℕ) → length xs + left ≡ most → ListCounts at most (listedFrom left s n at xs)
   unfolding listedFrom
   list-counts zero n at most xs h = pick-by (ListCounts at most) (eqb (getD s at 0) 32) (λ e. tt) (λ e. end-counts at most xs (omega arith))
   list-counts (suc left) n at most xs h =
       let more : List ℕ → ℕ → Listing = λ ys next. listedFrom left s n next ys in
+      let T = numberAt s (at + 1) n in
       pick-by (ListCounts at most) (eqb (getD s at 0) 32)
-      (λ e. vertex-counts at n most xs (numberAt s (at + 1) n) more refl (λ v next. list-counts left n next most (xs ++ v ∷ []) (let l = length-append xs (v ∷ []) in omega arith)))
+      (λ e. vertex-counts at n most xs (T .start) (T .stop) (T .found) more refl (λ v next. list-counts left n next most (xs ++ v ∷ []) (let l = length-append xs (v ∷ []) in omega arith)))
       (λ e. end-counts at most xs (omega arith))
 
   abbrev RowCounts : (at most : ℕ) → Row → Type 0
   RowCounts at most (Holds e next) = (length (e .tail) ≤ most) × (at < next) × (next ≤ length s)
-  RowCounts at most (Fails xs) = Unit {0}
+  RowCounts at most (Fails xs place) = Unit {0}
 
   listing-counts : (at from most : ℕ) (h : Vertex) (o : Weight) (k : Mark) (L : Listing) → at < from → ListCounts from most L → RowCounts at most (onListing h o k L)
   listing-counts at from most h o k (Ends xs next) l c = let a = c .1 in (c .0, omega arith, c .2)
-  listing-counts at from most h o k (Breaks xs) l c = tt
+  listing-counts at from most h o k (Breaks xs place) l c = tt
 
   stem-row : (n at most : ℕ) (S : Stem) → StemCounts at S → RowCounts at most (onStem s n most S)
   stem-row n at most (stem.Read h o k from) c = listing-counts at from most h o k (listedFrom most s n from []) (c .0) (list-counts most n from most [] (omega arith))
-  stem-row n at most stem.Wrong c = tt
+  stem-row n at most (stem.Wrong place) c = tt
 
   row-count : (n most at : ℕ) → RowCounts at most (rowAt s n most at)
   unfolding rowAt stemAt
-  row-count n most at = stem-row n at most (stemAt s n at) (head-counts n at (numberAt s at n) refl)
+  row-count n most at = let T = numberAt s at n in stem-row n at most (stemAt s n at) (head-counts n at (T .start) (T .stop) (T .found) refl)
 
   pub row-counts : (n most at : ℕ) (e : Edge) (next : ℕ) → rowAt s n most at ≡ Holds e next → (length (e .tail) ≤ most) × (at < next) × (next ≤ length s)
   row-counts n most at e next q = subst (RowCounts at most) q (row-count n most at)
 
   abbrev FirstCounts : FirstLine → Type 0
   FirstCounts (first.Read n m start) = start ≤ length s
-  FirstCounts first.Wrong = Unit {0}
+  FirstCounts (first.Wrong place) = Unit {0}
 
-pub starts-length : (w s : List ℕ) → startsWith w s ≡ true → length w ≤ length s
-unfolding startsWith
-starts-length [] s e = omega arith
-starts-length (w ∷ ws) [] e = absurd (let z : _≡_ {A = ℕ} 0 1 = cc in omega arith)
-starts-length (w ∷ ws) (b ∷ s) e = go (eqb b w) e (starts-length ws s)
-  where
-    go : (c : Bool) → pick c (startsWith ws s) false ≡ true → (startsWith ws s ≡ true → length ws ≤ length s) → length (w ∷ ws) ≤ length (b ∷ s)
-    go true q k = let l = k q in omega arith
-    go false q k = absurd (let z : _≡_ {A = ℕ} 0 1 = cc in omega arith)
+-- no more bytes agree than stand there
+pub agrees-within : (w s : List ℕ) → agreeing w s ≤ length s
+unfolding agreeing
+agrees-within [] s = omega arith
+agrees-within (w ∷ ws) [] = omega arith
+agrees-within (w ∷ ws) (b ∷ s) = pick-by (λ (k : ℕ). k ≤ length (b ∷ s)) (eqb b w) (λ e. let l = agrees-within ws s in omega arith) (λ e. omega arith)
 
 module _ (s : List ℕ) where
-  word-counts : (n next : ℕ) (c : Bool) → startsWith (word ++ 10 ∷ []) (drop next s) ≡ c → FirstCounts s (pick c (first.Read n spoken (next + length (word ++ 10 ∷ []))) first.Wrong)
+  word-counts : (n stop : ℕ) → FirstCounts s (onWord n stop (agreeing (word ++ 10 ∷ []) (drop stop s)))
   unfolding word
-  word-counts n next true e = let l = starts-length (word ++ 10 ∷ []) (drop next s) e in let m = length-drop next s in omega arith
-  word-counts n next false e = tt
+  word-counts n stop =
+      let k = agreeing (word ++ 10 ∷ []) (drop stop s) in
+      let l = agrees-within (word ++ 10 ∷ []) (drop stop s) in
+      let m = length-drop stop s in
+      pick-by (FirstCounts s) (ltb k 6) (λ _. tt) (λ f. let g = ltb-false k 6 f in omega arith)
 
-  count-counts : (F : Found) → FirstCounts s (onCount s F)
-  count-counts (Number n next) =
-      pick-by (FirstCounts s) (eqb (getD s next 0) 10) (λ e. let l = byte-within s next 10 (eqb-true _ _ e) (omega arith) in omega arith)
-      (λ e. word-counts n next (startsWith (word ++ 10 ∷ []) (drop next s)) refl)
-  count-counts NotANumber = tt
+  count-counts : (stop : ℕ) (F : Found) → FirstCounts s (onCount s stop F)
+  count-counts stop (Number n) =
+      pick-by (FirstCounts s) (eqb (getD s stop 0) 10) (λ e. let l = byte-within s stop 10 (eqb-true _ _ e) (omega arith) in omega arith) (λ e. word-counts n stop)
+  count-counts stop NotANumber = tt
 
   first-count : FirstCounts s (firstLine s)
   unfolding firstLine
-  first-count = pick-by (FirstCounts s) (startsWith firstWord s) (λ e. count-counts (numberAt s (length firstWord) (mostVertices + 1))) (λ e. tt)
+  first-count =
+      let T = numberAt s (length firstWord) (mostVertices + 1) in
+      pick-by (FirstCounts s) (ltb (agreeing firstWord s) (length firstWord)) (λ e. tt) (λ e. count-counts (T .stop) (T .found))
 
   pub first-counts : (n : ℕ) (m : Measure) (start : ℕ) → firstLine s ≡ first.Read n m start → start ≤ length s
   first-counts n m start e = subst (FirstCounts s) e first-count
@@ -160,11 +171,11 @@ pub record Tells (R : Row) (k next : ℕ) : Type 0 where
 
 pub tells : (R : Row) (h : Vertex) (o : Weight) (b : Mark) (k next : ℕ) → line.Edge h o b k next ≡ lineOf R → Tells R k next
 tells (Holds e j) h o b k next q = let a : next ≡ j = cc in record { edge-is = e; row = ap (Holds e) (sym a); count = cc }
-tells (Fails xs) h o b k next q = absurd (let z : _≡_ {A = ℕ} 0 1 = cc in omega arith)
+tells (Fails xs place) h o b k next q = absurd (let z : _≡_ {A = ℕ} 0 1 = cc in omega arith)
 
-pub fails : (R : Row) → line.Wrong ≡ lineOf R → (xs : List ℕ) × (R ≡ Fails xs)
-fails (Holds e j) q = absurd (let z : _≡_ {A = ℕ} 0 1 = cc in omega arith)
-fails (Fails xs) q = (xs, refl)
+pub fails : (R : Row) (place : ℕ) → line.Wrong place ≡ lineOf R → (xs : List ℕ) × (R ≡ Fails xs place)
+fails (Holds e j) place q = absurd (let z : _≡_ {A = ℕ} 0 1 = cc in omega arith)
+fails (Fails xs k) place q = let z : place ≡ k = cc in (xs, ap (Fails xs) (sym z))
 
 -- A pass over the lines ------------------------------------------------------------------------------------------------------------------------
 
@@ -178,10 +189,11 @@ pub record Scanning (s : List ℕ) (n : ℕ) (m : Measure) (at edges listed : �
   pub few-listed : listed ≤ mostListed
   pub within : at ≤ length s
   pub same : scanFrom (mostEdges - edges) s at so-far ≡ scan s
+  pub fated : fate s (First (Head so-far)) at at ≡ fate s begin 0 0
 
-pub scan-unopened : (s : List ℕ) → firstLine s ≡ first.Wrong → scan s ≡ Wrong 1
+pub scan-unopened : (s : List ℕ) (place : ℕ) → firstLine s ≡ first.Wrong place → scan s ≡ Wrong 1
 unfolding scan
-scan-unopened s e = ap (onFirst s) e
+scan-unopened s place e = ap (onFirst s) e
 
 pub scan-begun : (s : List ℕ) (n : ℕ) (m : Measure) (start : ℕ) → firstLine s ≡ first.Read n m start → Scanning s n m start 0 0
 unfolding scan listedInAll
@@ -195,6 +207,7 @@ scan-begun s n m start e = record {
   few-listed = omega arith;
   within = first-counts s n m start e;
   same = sym (ap (onFirst s) e);
+  fated = sym (subst (FirstRuns s begin 0) e (first-run s));
 }
 
 pub scan-begun-edges : (s : List ℕ) (n : ℕ) (m : Measure) (start : ℕ) (e : firstLine s ≡ first.Read n m start) → scan-begun s n m start e .so-far .edges ≡ []
@@ -225,6 +238,10 @@ module _ (s : List ℕ) (n : ℕ) (m : Measure) (at edges listed : ℕ) (g : Sca
   pub scan-full : at < length s → mostEdges ≤ edges → scan s ≡ Wrong (edges + 2)
   scan-full h l = sym (g .same) ∙ from-full s at (g .so-far) (mostEdges - edges) (omega arith) h ∙ ap Wrong line-is
 
+  -- the first byte of a line too many fails
+  pub full-fate : at < length s → mostEdges ≤ edges → fate s begin 0 0 ≡ Stopped (edges + 2) at at
+  full-fate h l = let c = g .counted in sym (g .fated) ∙ row-over s (g .so-far) at h (omega arith) ∙ ap (λ (k : ℕ). Stopped k at at) line-is
+
   pub scan-end : length s ≤ at → scan s ≡ Whole (g .so-far)
   scan-end h = sym (g .same) ∙ from-end s at (g .so-far) (mostEdges - edges) h
 
@@ -236,8 +253,16 @@ module _ (s : List ℕ) (n : ℕ) (m : Measure) (at edges listed : ℕ) (g : Sca
     by-row : scan s ≡ onRow (g .so-far) R (λ u next. scanFrom (mostEdges - edges - 1) s next u)
     by-row = sym (g .same) ∙ from-row s at (g .so-far) (mostEdges - edges) (omega arith) h ∙ ap (λ (Q : Row). onRow (g .so-far) Q (λ u next. scanFrom (mostEdges - edges - 1) s next u)) (this-row ∙ e)
 
-    pub scan-fails : (xs : List ℕ) → R ≡ Fails xs → scan s ≡ Wrong (edges + 2)
-    scan-fails xs q = by-row ∙ ap (λ (Q : Row). onRow (g .so-far) Q (λ u next. scanFrom (mostEdges - edges - 1) s next u)) q ∙ ap Wrong line-is
+    pub scan-fails : (xs : List ℕ) (place : ℕ) → R ≡ Fails xs place → scan s ≡ Wrong (edges + 2)
+    scan-fails xs place q = by-row ∙ ap (λ (Q : Row). onRow (g .so-far) Q (λ u next. scanFrom (mostEdges - edges - 1) s next u)) q ∙ ap Wrong line-is
+
+    -- what the line is read to be, byte by byte
+    row-fate : RowRuns s (g .so-far) at (First (Head (g .so-far))) at R
+    row-fate = let c = g .counted in subst (RowRuns s (g .so-far) at (First (Head (g .so-far))) at) (this-row ∙ e) (row-run s (g .so-far) at h (omega arith))
+
+    pub fails-fate : (xs : List ℕ) (place : ℕ) → R ≡ Fails xs place → fate s begin 0 0 ≡ Stopped (edges + 2) place at
+    fails-fate xs place q =
+        sym (g .fated) ∙ subst (RowRuns s (g .so-far) at (First (Head (g .so-far))) at) q row-fate ∙ ap (λ (k : ℕ). Stopped k place at) line-is
 
     pub scan-next : (x : Edge) (next : ℕ) → R ≡ Holds x next → Scanning s n m next (edges + 1) (listed + length (x .tail))
     scan-next x next q =
@@ -255,6 +280,7 @@ module _ (s : List ℕ) (n : ℕ) (m : Measure) (at edges listed : ℕ) (g : Sca
           few-listed = omega arith;
           within = c .2;
           same = ap (λ (k : ℕ). scanFrom k s next (withEdge (g .so-far) x)) (sym z) ∙ sym (by-row ∙ ap (λ (Q : Row). onRow (g .so-far) Q (λ u next. scanFrom (mostEdges - edges - 1) s next u)) q);
+          fated = sym (subst (RowRuns s (g .so-far) at (First (Head (g .so-far))) at) q row-fate) ∙ g .fated;
         }
 
     pub scan-next-edges : (x : Edge) (next : ℕ) (q : R ≡ Holds x next) → scan-next x next q .so-far .edges ≡ g .so-far .edges ++ x ∷ []

@@ -10,6 +10,7 @@ use cursor::weight_at;
 use refusal::Header;
 use refusal::Reading;
 use refusal::Refusal;
+use refusal::TextColumn;
 use refusal::TextLine;
 use text::WORD;
 use text::default_measure;
@@ -23,92 +24,104 @@ ghost use mathlib.Core.List.{[]};
 ghost use Prim.Native.Nat.{min};
 ghost use lib.ListN.{length};
 ghost use Rattle.text.specs.Machine.{parse};
-ghost use Rattle.reading.specs.Lines.{startsWith, firstLine, stemAt, listedFrom, ReadsTail, rowAt, ReadsLine, readingOf};
+ghost use Rattle.reading.specs.declared.FirstLine.the-variants.{Read};
+ghost use Rattle.reading.specs.Lines.{agreeing, firstLine, stemAt, listedFrom, ReadsTail, lineWith, rowAt, ReadsLine, readingOf};
 
-// The first line: how many vertices there are, the measure, and the place of the next line.
+// The first line: how many vertices there are, the measure, and the place of the next line; or the
+// place of the first byte that can't stand there.
 pub enum FirstLine {
     Read(u64, Measure, usize),
-    Wrong,
+    Wrong(usize),
 }
 
-// A hyperedge's head, own weight and strike mark, and the place behind them.
+// A hyperedge's head, own weight and strike mark, and the place behind them; or that of the byte that
+// fails.
 pub enum Stem {
     Read(Vertex, Weight, Mark, usize),
-    Wrong,
+    Wrong(usize),
 }
 
-// The listed vertices: how many, and the place of the next line.
+// The listed vertices: how many, and the place of the next line; or that of the byte that fails.
 pub enum Tail {
     Ends(usize, usize),
-    Wrong,
+    Wrong(usize),
 }
 
 // A whole line: head, own weight, strike mark, how many vertices it lists, and the place of the next
-// line.
+// line; or that of the byte that fails.
 pub enum Line {
     Edge(Vertex, Weight, Mark, usize, usize),
-    Wrong,
+    Wrong(usize),
 }
 
-// Whether a text starts with a word.
-fn starts_with(text: &[u8], word: &[u8]) -> bool
-    ensures { λ r. ⌜ r ≡ startsWith (now (word .entry)) (now (text .entry)) ⌝ }
+// With how many bytes of a word a text starts.
+fn agree(text: &[u8], word: &[u8]) -> usize
+    ensures { λ r. ⌜ r ≡ agreeing (now (word .entry)) (now (text .entry)) ⌝ }
 {
     let mut i = 0;
     while i < word.len() {
         if i >= text.len() {
-            return false;
+            return i;
         }
         if text[i] != word[i] {
-            return false;
+            return i;
         }
         i += 1;
     }
-    true
+    i
 }
 
 // `parts N` means the default measure, and the word behind it names the other.
 pub fn first_line(text: &[u8]) -> FirstLine
     ensures { λ r. ⌜ r ≡ firstLine (now (text .entry)) ⌝ }
 {
-    if !starts_with(text, b"parts ") {
-        return FirstLine::Wrong;
+    let same = agree(text, b"parts ");
+    if same < 6 {
+        return FirstLine::Wrong(same);
     }
-    let found = number_at(text, 6, MOST_VERTICES + 1);
-    let Found::Number(n, next) = found else {
-        return FirstLine::Wrong;
+    let count = number_at(text, 6, MOST_VERTICES + 1);
+    let next = count.stop;
+    let found = count.found;
+    let Found::Number(n) = found else {
+        return FirstLine::Wrong(next);
     };
     if byte_at(text, next) == b'\n' {
         let start = next + 1;
         return FirstLine::Read(n, default_measure(), start);
     }
-    if starts_with(&text[next..], &WORD) {
-        let start = next + WORD.len();
-        return FirstLine::Read(n, named_measure(), start);
+    let named = agree(&text[next..], &WORD);
+    if named < WORD.len() {
+        let place = next + named;
+        return FirstLine::Wrong(place);
     }
-    FirstLine::Wrong
+    let start = next + WORD.len();
+    FirstLine::Read(n, named_measure(), start)
 }
 
 pub fn stem_at(text: &[u8], at: usize, n: u64) -> Stem
     ensures { λ r. ⌜ r ≡ stemAt (now (text .entry)) n at ⌝ }
 {
-    let found = number_at(text, at, n);
-    let Found::Number(head, a) = found else {
-        return Stem::Wrong;
+    let head = number_at(text, at, n);
+    let a = head.stop;
+    let found = head.found;
+    let Found::Number(v) = found else {
+        return Stem::Wrong(a);
     };
     if byte_at(text, a) != b' ' {
-        return Stem::Wrong;
+        return Stem::Wrong(a);
     }
     let from = a + 1;
     let weight = weight_at(text, from);
-    let FoundWeight::Own(own, mark, next) = weight else {
-        return Stem::Wrong;
+    let next = weight.stop;
+    let figure = weight.found;
+    let FoundWeight::Own(own, mark) = figure else {
+        return Stem::Wrong(next);
     };
-    Stem::Read(Vertex(head), own, mark, next)
+    Stem::Read(Vertex(v), own, mark, next)
 }
 
 // The vertices listed from a place on, each behind a space, are stored from the room's start. There
-// may be `most`, and no more than the room has places.
+// may be `most`, and no more than the room has places: the space before one too many can't stand.
 fn tail_at(text: &[u8], at: usize, n: u64, most: usize, room: &mut [u64]) -> Tail
     ensures { λ r. ⌜ ReadsTail (listedFrom (min most (length (now (room .entry)))) (now (text .entry)) n at []) (now (room .entry)) r (now (room .exit)) ⌝ }
 {
@@ -116,25 +129,37 @@ fn tail_at(text: &[u8], at: usize, n: u64, most: usize, room: &mut [u64]) -> Tai
     let mut next = at;
     while byte_at(text, next) == b' ' {
         if k >= most {
-            return Tail::Wrong;
+            return Tail::Wrong(next);
         }
         if k >= room.len() {
-            return Tail::Wrong;
+            return Tail::Wrong(next);
         }
         let from = next + 1;
-        let found = number_at(text, from, n);
-        let Found::Number(v, behind) = found else {
-            return Tail::Wrong;
+        let vertex = number_at(text, from, n);
+        let behind = vertex.stop;
+        let found = vertex.found;
+        let Found::Number(v) = found else {
+            return Tail::Wrong(behind);
         };
         room[k] = v;
         k += 1;
         next = behind;
     }
     if byte_at(text, next) != b'\n' {
-        return Tail::Wrong;
+        return Tail::Wrong(next);
     }
     let behind = next + 1;
     Tail::Ends(k, behind)
+}
+
+// The line of a head, an own weight and a mark, by its listed vertices.
+fn line_with(head: Vertex, own: Weight, mark: Mark, tail: Tail) -> Line
+    ensures { λ r. ⌜ r ≡ lineWith head own mark tail ⌝ }
+{
+    match tail {
+        Tail::Ends(listed, next) => Line::Edge(head, own, mark, listed, next),
+        Tail::Wrong(place) => Line::Wrong(place),
+    }
 }
 
 // A line, whose listed vertices are stored from the room's start.
@@ -142,31 +167,27 @@ pub fn line_at(text: &[u8], at: usize, n: u64, most: usize, room: &mut [u64]) ->
     ensures { λ r. ⌜ ReadsLine (rowAt (now (text .entry)) n (min most (length (now (room .entry)))) at) (now (room .entry)) r (now (room .exit)) ⌝ }
 {
     let stem = stem_at(text, at, n);
-    let Stem::Read(head, own, mark, a) = stem else {
-        return Line::Wrong;
-    };
-    let tail = tail_at(text, a, n, most, room);
-    let Tail::Ends(listed, next) = tail else {
-        return Line::Wrong;
-    };
-    Line::Edge(head, own, mark, listed, next)
+    match stem {
+        Stem::Wrong(place) => Line::Wrong(place),
+        Stem::Read(head, own, mark, a) => {
+            let tail = tail_at(text, a, n, most, room);
+            line_with(head, own, mark, tail)
+        }
+    }
 }
 
-fn wrong(line: TextLine) -> Reading
-    ensures { λ r. ⌜ r ≡ Reading.Refused (Refusal.Text line) ⌝ }
+fn wrong(line: TextLine, column: TextColumn) -> Reading
+    ensures { λ r. ⌜ r ≡ Reading.Refused (Refusal.Text line column) ⌝ }
 {
-    Reading::Refused(Refusal::Text(line))
+    Reading::Refused(Refusal::Text(line, column))
 }
 
-// What a text holds, or the first text line that breaks a rule. The vertices of a line go into an
-// array of its own: nothing lent is written.
-pub fn check_text(text: &[u8]) -> Reading
-    ensures { λ r. ⌜ r ≡ readingOf (parse (now (text .entry))) ⌝ }
+// The lines behind the first: what they hold, or the first byte that breaks a rule, in the line that
+// is read. The vertices of a line go into an array of its own: nothing lent is written.
+fn check_lines(text: &[u8], n: u64, measure: Measure, start: usize) -> Reading
+    requires { ⌜ firstLine (now text) ≡ Read n measure start ⌝ }
+    ensures { λ r. ⌜ r ≡ readingOf (now (text .entry)) (parse (now (text .entry))) ⌝ }
 {
-    let first = first_line(text);
-    let FirstLine::Read(n, measure, start) = first else {
-        return wrong(TextLine(1));
-    };
     let mut room = [0u64; 16];
     let mut at = start;
     let mut edges: usize = 0;
@@ -175,16 +196,21 @@ pub fn check_text(text: &[u8]) -> Reading
         let number = edges as u64 + 2;
         let here = TextLine(number);
         if edges >= MOST_EDGES {
-            return wrong(here);
+            return wrong(here, TextColumn(1));
         }
         let most = MOST_LISTED - listed;
         let line = line_at(text, at, n, most, &mut room);
-        let Line::Edge(_, _, _, count, next) = line else {
-            return wrong(here);
-        };
-        edges += 1;
-        listed += count;
-        at = next;
+        match line {
+            Line::Wrong(place) => {
+                let column = (place - at) as u64 + 1;
+                return wrong(here, TextColumn(column));
+            }
+            Line::Edge(_, _, _, count, next) => {
+                edges += 1;
+                listed += count;
+                at = next;
+            }
+        }
     }
     Reading::Table(Header {
         vertices: n,
@@ -192,4 +218,19 @@ pub fn check_text(text: &[u8]) -> Reading
         edges: edges as u64,
         listed: listed as u64,
     })
+}
+
+// What a text holds, or the line and the column of the first byte that can't stand where it stands;
+// one past the last byte, if the text merely ends too early.
+pub fn check_text(text: &[u8]) -> Reading
+    ensures { λ r. ⌜ r ≡ readingOf (now (text .entry)) (parse (now (text .entry))) ⌝ }
+{
+    let first = first_line(text);
+    match first {
+        FirstLine::Wrong(place) => {
+            let column = place as u64 + 1;
+            wrong(TextLine(1), TextColumn(column))
+        }
+        FirstLine::Read(n, measure, start) => check_lines(text, n, measure, start),
+    }
 }

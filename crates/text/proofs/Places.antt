@@ -64,7 +64,7 @@ pub data Moved (σ : State) (b : ℕ) : State → Type 0 where
   stays : {τ : State} → eqb b 10 ≡ false → lineOf τ ≡ lineOf σ → Moved σ b τ
   ends : {t : Table} → eqb b 10 ≡ true → lineOf (First (Head t)) ≡ suc (lineOf σ) → Moved σ b (First (Head t))
 
-digit-stays : (b : ℕ) → ltb (digitOf b) 10 ≡ true → eqb b 10 ≡ false
+pub digit-stays : (b : ℕ) → ltb (digitOf b) 10 ≡ true → eqb b 10 ≡ false
 unfolding digitOf
 digit-stays b e = ne-eqb b 10 (λ q. ten (subst (λ (x : ℕ). digitOf x < 10) q (ltb-true _ _ e)))
   where

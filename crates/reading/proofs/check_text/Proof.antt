@@ -1,107 +1,39 @@
--- `reading::check_text` meets its contract. The invariant: the lines passed make a table, and what is left has the answer of the whole. Assumes nothing.
-use mathlib.Core.Path.{_≡_, sym, _∙_}
-use Prim.Native.Nat.{_+_, _-_, _≤_, _<_}
+-- `reading::check_text` meets its contract. Assumes nothing.
+use mathlib.Core.Path.{_≡_, sym, _∙_, ap}
+use Prim.Native.Nat.{_+_, _-_, _*_, _^_, _<_}
 use native.Mathlib.Omega.{arith}
 use borrow.Author.Needs.{needs}
 use lib.ListN.{length}
-use Rattle.columns.specs.Acceptance.{longestTail}
-use Rattle.text.specs.Machine.{Wrong}
-use Rattle.reading.proofs.Scanning.{Scanning, scan-unopened, scan-begun, scan-full}
-use Rattle.reading.proofs.Laws.{told, all-told, line-wrong, line-next}
+use Rattle.reading.proofs.Scanned.{Refuses}
+use Rattle.reading.proofs.Laws.{refusedWith, refused-there, first-refused}
 use Rattle.reading.proofs.check_text.Statement.{statement}
 use Rattle.reading.proofs.check_text.Tie as tie
 
-abbrev Inv-loop : tie.InvT-loop
-Inv-loop text n measure start room₀ at₀ edges₀ listed₀ room at edges listed = (length room ≡ longestTail) × Scanning text n measure at edges listed
+-- no first line
+fault : (c : tie.After-known-told) → Refuses (c .before .before .before .before .before .args .text .now) 1 (c .before .first .given .0 .0) 0
+fault c = first-refused _ _ (sym (c .before .before .before .first-line .ensures) ∙ c .before .first .given .1)
 
-abbrev μ-loop : tie.MeasureT-loop
-μ-loop text n measure start room₀ at₀ edges₀ listed₀ room at edges listed = length text - at
+-- a text takes less than 2^63 bytes
+add-column : tie.Need-add-column
+add-column c =
+    let b = c .before .before .before .before .before in
+    let g : length (b .args .text .now) * 1 < 2 ^ 63 = b .good .0 .1 in
+    let h = fault c .inside in
+    omega arith
 
-enum-told : tie.Need-enum-told Inv-loop μ-loop
-enum-told c = search needs
+returns : tie.Need-returns
+returns c =
+    let place = c .before .before .first .given .0 .0 in
+    let q : place + 1 ≡ place - 0 + 1 = omega arith in
+    c .wrong .ensures ∙ ap (refusedWith 1) q ∙ refused-there _ _ _ _ (fault (c .before))
 
-returns : tie.Need-returns Inv-loop μ-loop
-returns c = c .wrong .ensures ∙ told _ (Wrong 1) (scan-unopened _ (sym (c .before .before .before .first-line .ensures) ∙ c .before .enum-told .given .1))
+check-lines-requires : tie.Need-check-lines-requires
+check-lines-requires c κs = sym (c .before .before .before .first-line .ensures) ∙ c .before .first2 .given .1
 
-loop-holds : tie.Need-loop-holds Inv-loop μ-loop
-loop-holds c = (search needs, scan-begun _ _ _ _ (sym (c .before .before .before .first-line .ensures) ∙ c .before .first .given .1))
-
-add-number : tie.Need-add-number Inv-loop μ-loop
-add-number c = let f = c .before .loop .inv .1 .few in omega arith
-
-returns-2 : tie.Need-returns-2 Inv-loop μ-loop
-returns-2 c = let t = c .before in
-    let l = t .before .before in
-    c .wrong2 .ensures ∙ told _ (Wrong (l .loop .edges + 2)) (scan-full _ _ _ _ _ _ (l .loop .inv .1) (t .before .loop-test .taken) (t .if1 .taken))
-
-sub-most : tie.Need-sub-most Inv-loop μ-loop
-sub-most c = c .before .before .loop .inv .1 .few-listed
-
-slice-aggregate-line-at : tie.Need-slice-aggregate-line-at Inv-loop μ-loop
-slice-aggregate-line-at c = sym (c .before .before .before .loop .inv .0)
-
-returns-3 : tie.Need-returns-3 Inv-loop μ-loop
-returns-3 c =
-    let a = c .before .before .before .before in
-    let e = a .before .before in
-    let l = e .before .before in
-    c .wrong3 .ensures
-    ∙ told _ (Wrong (l .loop .edges + 2))
-    (line-wrong _ _ _ _ _ _ (l .loop .inv .1) (e .before .loop-test .taken) (e .if1 .left) _ (l .loop .inv .0) _ (a .line-at .ensures .answer) (c .before .enum-told2 .given .1))
-
--- a line was read
-next-line : (c : tie.After-known-told2 Inv-loop μ-loop) →
-    let e = c .before .before .before .before .before .before in
-    let l = e .before .before in
-    let f = l .before .before .first .given in
-    let r = c .before .line .given .0 .1 .1 .1 in
-    (l .loop .at < r .1 .0) × (r .0 ≤ 16384 - l .loop .listed)
-    × Scanning (l .before .before .before .before .before .before .args .text .now) (f .0 .0) (f .0 .1 .0) (r .1 .0) (l .loop .edges + 1) (l .loop .listed + r .0)
-next-line c =
-    let a = c .before .before .before .before in
-    let e = a .before .before in
-    let l = e .before .before in
-    line-next _ _ _ _ _ _ (l .loop .inv .1) (e .before .loop-test .taken) (e .if1 .left) _ (l .loop .inv .0) _ (a .line-at .ensures .answer) _ _ _ _ _ (c .before .line .given .1)
-
-add-edges : tie.Need-add-edges Inv-loop μ-loop
-add-edges c = let f = next-line c .2 .few in omega arith
-
-add-listed : tie.Need-add-listed Inv-loop μ-loop
-add-listed c = let f = next-line c .2 .few-listed in omega arith
-
-loop-less : tie.Need-loop-less Inv-loop μ-loop
-loop-less c = let n = next-line c in let h = n .0 in let w = n .2 .within in omega arith
-
-loop-again : tie.Need-loop-again Inv-loop μ-loop
-loop-again c = (search needs, next-line c .2)
-
-returns-4 : tie.Need-returns-4 Inv-loop μ-loop
-returns-4 c = all-told _ _ _ _ _ _ (c .before .loop .inv .1) (c .loop-test .left)
+returns-2 : tie.Need-returns-2
+returns-2 c = c .check-lines .ensures
 
 pub check-text-spec : {M : Type 1} → statement M
 check-text-spec =
     tie.close
-    (tie.spec
-    Inv-loop
-    μ-loop
-    (λ c κs. search needs)
-    (λ c. search needs)
-    enum-told
-    (λ c κs. search needs)
-    returns
-    loop-holds
-    add-number
-    (λ c κs. search needs)
-    returns-2
-    sub-most
-    slice-aggregate-line-at
-    (λ c κs. search needs)
-    (λ c. search needs)
-    (λ c. search needs)
-    (λ c κs. search needs)
-    returns-3
-    add-edges
-    add-listed
-    loop-less
-    loop-again
-    returns-4)
+    (tie.spec (λ c κs. search needs) (λ c. search needs) add-column (λ c κs. search needs) (λ c. search needs) check-lines-requires returns returns-2)

@@ -1,48 +1,53 @@
 -- `reading::first_line` meets its contract. Assumes nothing.
-use mathlib.Core.Path.{_≡_, sym, _∙_, ap}
+use mathlib.Core.Path.{_≡_, sym, _∙_, ap, subst}
 use mathlib.Core.List.{List, _++_, [], _∷_}
-use Prim.Native.Nat.{ℕ, _+_}
+use Prim.Native.Nat.{ℕ, _+_, _≤_, _<_}
 use native.Mathlib.Omega.{arith}
 use borrow.Author.Needs.{needs}
-use borrow.Author.Tests.{not-true, not-false}
-use lib.ListN.{getD, drop, length-drop}
+use lib.ListN.{length, getD, drop, length-drop}
 use Rattle.weights.specs.declared.Measure.{Measure}
 use Rattle.columns.specs.Acceptance.{mostVertices}
 use Rattle.text.specs.Render.{word, firstWord}
 use Rattle.columns.proofs.Filled.{part-whole}
 use Rattle.cursor.specs.declared.Found.the-variants.{Number}
-use Rattle.cursor.specs.Cursor.{numberAt}
+use Rattle.cursor.specs.Cursor.{token, numberAt}
 use Rattle.cursor.proofs.Counts.{byte-within, number-counts}
 use Rattle.reading.specs.declared.FirstLine.the-variants as first
-use Rattle.reading.specs.Lines.{startsWith, onCount, firstLine}
-use Rattle.reading.proofs.Scanning.{starts-length}
+use Rattle.reading.specs.Lines.{agreeing, onCount, onCounted, firstLine}
+use Rattle.reading.proofs.Scanning.{agrees-within}
 use Rattle.reading.proofs.Laws.{first-unopened, first-opened, count-silent, count-named, count-unnamed}
 use Rattle.reading.proofs.first_line.Statement.{statement}
 use Rattle.reading.proofs.first_line.Tie as tie
 
 returns : tie.Need-returns
 unfolding firstWord
-returns c = first-unopened _ (sym (c .before .starts-with .ensures) ∙ not-true _ (c .if1 .taken))
+returns c = let e = c .before .agree .ensures in ap first.Wrong e ∙ first-unopened _ (subst (λ (k : ℕ). k < 6) e (c .if1 .taken))
 
 -- behind the firstWord the number of vertices decides
-opened : (c : tie.Else1) → let s = c .before .before .before .before .args .text .now in onCount s (numberAt s 6 (mostVertices + 1)) ≡ firstLine s
+opened : (c : tie.Else1) → let s = c .before .before .before .before .args .text .now in onCounted s (numberAt s 6 (mostVertices + 1)) ≡ firstLine s
 unfolding firstWord
-opened c = first-opened _ (sym (c .before .starts-with .ensures) ∙ not-false _ (c .if1 .left))
-
-enum-told : tie.Need-enum-told
-enum-told c = search needs
+opened c = first-opened _ (subst (λ (k : ℕ). 6 ≤ k) (c .before .agree .ensures) (c .if1 .left))
 
 returns-2 : tie.Need-returns-2
-returns-2 c = ap (onCount _) (sym (c .enum-told .given .1) ∙ c .before .before .number-at .ensures) ∙ opened (c .before .before .before)
+returns-2 c =
+    let n = c .before .before in
+    let s = n .before .before .before .before .before .args .text .now in
+    ap (onCount s (n .number-at .result .stop)) (sym (c .enum-told .given .1)) ∙ ap (onCounted s) (n .number-at .ensures) ∙ opened (n .before)
 
 abbrev text : tie.After-known-told → List ℕ
 text c = c .before .before .before .before .before .before .before .before .args .text .now
 
 abbrev behind : tie.After-known-told → ℕ
-behind c = c .before .found .given .0 .1 .0
+behind c = c .before .before .before .number-at .result .stop
 
-counted : (c : tie.After-known-told) → numberAt (text c) 6 (mostVertices + 1) ≡ Number (c .before .found .given .0 .0) (behind c)
-counted c = sym (c .before .before .before .number-at .ensures) ∙ c .before .found .given .1
+counted : (c : tie.After-known-told) →
+    numberAt (text c) 6 (mostVertices + 1) ≡ token (c .before .before .before .number-at .result .start) (behind c) (Number (c .before .found .given .0 .0))
+counted c =
+    let n = c .before .before .before in
+    sym (n .number-at .ensures) ∙ ap (token (n .number-at .result .start) (n .number-at .result .stop)) (c .before .found .given .1)
+
+inside : (c : tie.After-known-told) → behind c ≤ length (text c)
+inside c = number-counts _ _ _ _ _ _ (counted c) .2
 
 ended : (c : tie.Then2) → let k = c .before .before in getD (text k) (behind k) 0 ≡ 10
 ended c = sym (c .before .byte-at .ensures) ∙ c .if2 .taken
@@ -58,38 +63,48 @@ returns-3 c =
     let t = c .before in
     let k = t .before .before in
     ap (λ (m : Measure). first.Read (k .before .found .given .0 .0) m (behind k + 1)) (c .default-measure .ensures)
-    ∙ count-silent _ _ _ _ (counted k) (ended t) ∙ opened (k .before .before .before .before)
+    ∙ count-silent _ _ _ _ _ (counted k) (ended t) ∙ opened (k .before .before .before .before)
 
-sub-starts-with : tie.Need-sub-starts-with
-sub-starts-with c = number-counts _ _ _ _ _ (counted (c .before .before)) .2
+sub-agree : tie.Need-sub-agree
+sub-agree c = inside (c .before .before)
 
-part-starts-with-start : tie.Need-part-starts-with-start
-part-starts-with-start c = let h = number-counts _ _ _ _ _ (counted (c .before .before)) .2 in search (needs, h)
+part-agree-start : tie.Need-part-agree-start
+part-agree-start c = let h = inside (c .before .before) in search (needs, h)
 
 -- the word, looked for in the part of the text behind the number
-named : (c : tie.After-starts-with2) → let k = c .before .before .before .before .before in c .starts-with2 .result ≡ startsWith (word ++ 10 ∷ []) (drop (behind k) (text k))
+named : (c : tie.After-agree2) → let k = c .before .before .before .before .before in c .agree2 .result ≡ agreeing (word ++ 10 ∷ []) (drop (behind k) (text k))
 unfolding word
-named c = let k = c .before .before .before .before .before in c .starts-with2 .ensures ∙ ap (startsWith (word ++ 10 ∷ [])) (part-whole (text k) (behind k))
+named c = let k = c .before .before .before .before .before in c .agree2 .ensures ∙ ap (agreeing (word ++ 10 ∷ [])) (part-whole (text k) (behind k))
 
-add-start-2 : tie.Need-add-start-2
-unfolding word
-add-start-2 c =
-    let k = c .before .before .before .before .before .before in
-    let l = starts-length (word ++ 10 ∷ []) (drop (behind k) (text k)) (sym (named (c .before)) ∙ c .if3 .taken) in
-    omega (arith, length-drop (behind k) (text k), l)
+-- what agrees stands in the text
+named-inside : (c : tie.After-agree2) → let k = c .before .before .before .before .before in behind k + c .agree2 .result ≤ length (text k)
+named-inside c =
+    let k = c .before .before .before .before .before in
+    let h = inside k in
+    let e = named c in
+    omega (arith, length-drop (behind k) (text k), agrees-within (word ++ 10 ∷ []) (drop (behind k) (text k)))
+
+add-place : tie.Need-add-place
+add-place c = omega (arith, named-inside (c .before))
 
 returns-4 : tie.Need-returns-4
 returns-4 c =
+    let e = c .before .before .before .before in
+    let k = e .before .before in
+    let q = named (c .before) in
+    ap (λ (j : ℕ). first.Wrong (behind k + j)) q
+    ∙ count-unnamed _ _ _ _ _ (counted k) (unended e) (subst (λ (j : ℕ). j < 6) q (c .if3 .taken)) ∙ opened (k .before .before .before .before)
+
+add-start-2 : tie.Need-add-start-2
+add-start-2 c = let h = c .if3 .left in omega (arith, named-inside (c .before))
+
+returns-5 : tie.Need-returns-5
+returns-5 c =
     let t = c .before in
     let e = t .before .before .before .before in
     let k = e .before .before in
     ap (λ (m : Measure). first.Read (k .before .found .given .0 .0) m (behind k + 6)) (c .named-measure .ensures)
-    ∙ count-named _ _ _ _ (counted k) (unended e) (sym (named (t .before)) ∙ t .if3 .taken) ∙ opened (k .before .before .before .before)
-
-returns-5 : tie.Need-returns-5
-returns-5 c = let e = c .before .before .before .before in
-    let k = e .before .before in
-    count-unnamed _ _ _ _ (counted k) (unended e) (sym (named (c .before)) ∙ c .if3 .left) ∙ opened (k .before .before .before .before)
+    ∙ count-named _ _ _ _ _ (counted k) (unended e) (subst (λ (j : ℕ). 6 ≤ j) (named (t .before)) (t .if3 .left)) ∙ opened (k .before .before .before .before)
 
 pub first-line-spec : {M : Type 1} → statement M
 first-line-spec =
@@ -101,18 +116,19 @@ first-line-spec =
     (λ c. search needs)
     (λ c κs. search needs)
     (λ c. search needs)
-    enum-told
+    (λ c. search needs)
     returns-2
     (λ c κs. search needs)
     add-start
     (λ c κs. search needs)
     returns-3
-    sub-starts-with
-    part-starts-with-start
+    sub-agree
+    part-agree-start
     (λ c. search needs)
     (λ c. search needs)
     (λ c κs. search needs)
+    add-place
+    returns-4
     add-start-2
     (λ c κs. search needs)
-    returns-4
     returns-5)

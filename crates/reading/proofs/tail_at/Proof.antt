@@ -1,11 +1,11 @@
 -- `reading::tail_at` meets its contract. The invariant: k vertices are listed and stored, and what follows has the answer of the whole. Assumes nothing.
-use mathlib.Core.Path.{_≡_, sym, _∙_}
+use mathlib.Core.Path.{_≡_, sym, _∙_, ap}
 use Prim.Native.Nat.{_+_, _-_, _<_, min}
 use native.Mathlib.Omega.{arith}
 use borrow.Author.Needs.{needs}
 use lib.ListN.{length, getD}
 use Rattle.cursor.specs.declared.Found.the-variants.{Number}
-use Rattle.cursor.specs.Cursor.{numberAt}
+use Rattle.cursor.specs.Cursor.{token, numberAt}
 use Rattle.cursor.proofs.Counts.{byte-within, number-counts}
 use Rattle.reading.proofs.Laws.{Listed, listed-none, list-full, list-none, list-more, list-broken, list-ends}
 use Rattle.reading.proofs.tail_at.Statement.{statement}
@@ -59,20 +59,27 @@ same-length-3 c = c .before .before .before .before .before .before .before .loo
 
 returns-3 : tie.Need-returns-3 Inv-loop μ-loop
 returns-3 c =
-    let e = c .before .before .before in
-    list-none _ _ _ _ _ _ _ _ (e .before .before .before .before .loop .inv) (spaced (e .before .before)) (roomy e) (sym (c .before .before .number-at .ensures) ∙ c .enum-told .given .1)
+    let n = c .before .before in
+    let e = n .before in
+    let t = n .number-at .result in
+    list-none _ _ _ _ _ _ _ _ (e .before .before .before .before .loop .inv) _ _ (spaced (e .before .before)) (roomy e)
+    (sym (n .number-at .ensures) ∙ ap (token (t .start) (t .stop)) (c .enum-told .given .1))
 
 -- the vertex that was found
 listed : (c : tie.After-known-told Inv-loop μ-loop) → let l = c .before .before .before .before .before .before .before .before in
     let a = l .before .before .before .args in
-    numberAt (a .text .now) (l .loop .next + 1) (a .n) ≡ Number (c .before .found .given .0 .0) (c .before .found .given .0 .1 .0)
-listed c = sym (c .before .before .before .number-at .ensures) ∙ c .before .found .given .1
+    let t = c .before .before .before .number-at .result in
+    numberAt (a .text .now) (l .loop .next + 1) (a .n) ≡ token (t .start) (t .stop) (Number (c .before .found .given .0 .0))
+listed c =
+    let n = c .before .before .before in
+    let t = n .number-at .result in
+    sym (n .number-at .ensures) ∙ ap (token (t .start) (t .stop)) (c .before .found .given .1)
 
 loop-less : tie.Need-loop-less Inv-loop μ-loop
-loop-less c = let h = number-counts _ _ _ _ _ (listed c) in let a = h .1 in let b = h .2 in omega arith
+loop-less c = let h = number-counts _ _ _ _ _ _ (listed c) in let a = h .1 in let b = h .2 in omega arith
 
 loop-again : tie.Need-loop-again Inv-loop μ-loop
-loop-again c = let e = c .before .before .before .before in list-more _ _ _ _ _ _ _ _ (e .before .before .before .before .loop .inv) _ _ (spaced (e .before .before)) (roomy e) (listed c)
+loop-again c = let e = c .before .before .before .before in list-more _ _ _ _ _ _ _ _ (e .before .before .before .before .loop .inv) _ _ _ (spaced (e .before .before)) (roomy e) (listed c)
 
 same-length-4 : tie.Need-same-length-4 Inv-loop μ-loop
 same-length-4 c = c .before .before .before .before .loop .inv .long
