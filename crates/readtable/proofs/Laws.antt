@@ -40,6 +40,7 @@ use Rattle.reading.specs.Lines.{
   Breaks,
   listEnd,
   onVertex,
+  onListed,
   listedFrom,
   Row,
   Holds,
@@ -65,14 +66,14 @@ pub ruleset tests = (lt-ltb, le-ltb, le-leb, lt-leb, eq-eqb, ne-eqb)
 
 -- More room for a list changes nothing ---------------------------------------------------------------------------------------------------
 
-no-ends : {xs ys : List ℕ} {next : ℕ} → Breaks xs ≡ Ends ys next → ⊥
-no-ends {xs} {ys} {next} e = let z : _≡_ {A = ℕ} 0 1 = cc in omega arith
+no-ends : {xs ys : List ℕ} {place next : ℕ} → Breaks xs place ≡ Ends ys next → ⊥
+no-ends {xs} {ys} {place} {next} e = let z : _≡_ {A = ℕ} 0 1 = cc in omega arith
 
 module _ (s : List ℕ) (n : ℕ) where
   end-grows : (at : ℕ) (xs ys : List ℕ) (next : ℕ) → listEnd s at xs ≡ Ends ys next → xs ≡ ys
   end-grows at xs ys next e = go (eqb (getD s at 0) 10) e
     where
-      go : (c : Bool) → pick c (Ends xs (at + 1)) (Breaks xs) ≡ Ends ys next → xs ≡ ys
+      go : (c : Bool) → pick c (Ends xs (at + 1)) (Breaks xs at) ≡ Ends ys next → xs ≡ ys
       go true q = cc
       go false q = absurd (no-ends q)
 
@@ -81,7 +82,7 @@ module _ (s : List ℕ) (n : ℕ) where
   unfolding listedFrom
   grows zero at xs ys next e = go (eqb (getD s at 0) 32) e
     where
-      go : (c : Bool) → pick c (Breaks xs) (listEnd s at xs) ≡ Ends ys next → length xs ≤ length ys
+      go : (c : Bool) → pick c (Breaks xs at) (listEnd s at xs) ≡ Ends ys next → length xs ≤ length ys
       go true q = absurd (no-ends q)
       go false q = let z = ap length (end-grows at xs ys next q) in omega arith
   grows (suc left) at xs ys next e = go (eqb (getD s at 0) 32) e (λ v j q. grows left j (xs ++ v ∷ []) ys next q)
@@ -89,13 +90,13 @@ module _ (s : List ℕ) (n : ℕ) where
       more : List ℕ → ℕ → Listing
       more us j = listedFrom left s n j us
 
-      found : (F : Found) → onVertex xs F more ≡ Ends ys next → ((v j : ℕ) → listedFrom left s n j (xs ++ v ∷ []) ≡ Ends ys next → length (xs ++ v ∷ []) ≤ length ys) → length xs ≤ length ys
-      found (Number v j) q k = let l = k v j q in let m = length-append xs (v ∷ []) in omega arith
-      found NotANumber q k = absurd (no-ends q)
+      found : (stop : ℕ) (F : Found) → onVertex xs stop F more ≡ Ends ys next → ((v j : ℕ) → listedFrom left s n j (xs ++ v ∷ []) ≡ Ends ys next → length (xs ++ v ∷ []) ≤ length ys) → length xs ≤ length ys
+      found j (Number v) q k = let l = k v j q in let m = length-append xs (v ∷ []) in omega arith
+      found j NotANumber q k = absurd (no-ends q)
 
-      go : (c : Bool) → pick c (onVertex xs (numberAt s (at + 1) n) more) (listEnd s at xs) ≡ Ends ys next
+      go : (c : Bool) → pick c (onListed xs (numberAt s (at + 1) n) more) (listEnd s at xs) ≡ Ends ys next
           → ((v j : ℕ) → listedFrom left s n j (xs ++ v ∷ []) ≡ Ends ys next → length (xs ++ v ∷ []) ≤ length ys) → length xs ≤ length ys
-      go true q k = found (numberAt s (at + 1) n) q k
+      go true q k = let T = numberAt s (at + 1) n in found (T .stop) (T .found) q k
       go false q k = let z = ap length (end-grows at xs ys next q) in omega arith
 
   to-end : (left at : ℕ) (xs : List ℕ) → eqb (getD s at 0) 32 ≡ false → listedFrom left s n at xs ≡ listEnd s at xs
@@ -103,11 +104,11 @@ module _ (s : List ℕ) (n : ℕ) where
   to-end zero at xs e = rw e
   to-end (suc left) at xs e = rw e
 
-  to-vertex : (left at : ℕ) (xs : List ℕ) → eqb (getD s at 0) 32 ≡ true → listedFrom (suc left) s n at xs ≡ onVertex xs (numberAt s (at + 1) n) (λ us j. listedFrom left s n j us)
+  to-vertex : (left at : ℕ) (xs : List ℕ) → eqb (getD s at 0) 32 ≡ true → listedFrom (suc left) s n at xs ≡ onListed xs (numberAt s (at + 1) n) (λ us j. listedFrom left s n j us)
   unfolding listedFrom
   to-vertex left at xs e = rw e
 
-  to-none : (at : ℕ) (xs : List ℕ) → eqb (getD s at 0) 32 ≡ true → listedFrom zero s n at xs ≡ Breaks xs
+  to-none : (at : ℕ) (xs : List ℕ) → eqb (getD s at 0) 32 ≡ true → listedFrom zero s n at xs ≡ Breaks xs at
   unfolding listedFrom
   to-none at xs e = rw e
 
@@ -119,29 +120,29 @@ module _ (s : List ℕ) (n : ℕ) where
       go false q = to-end left′ at xs q ∙ sym (to-end zero at xs q) ∙ e
   enough (suc left) zero at xs ys next e l = go (eqb (getD s at 0) 32) refl
     where
-      found : (F : Found) → onVertex xs F (λ us j. listedFrom left s n j us) ≡ Ends ys next → ⊥
-      found (Number v j) q = let g = grows left j (xs ++ v ∷ []) ys next q in let m = length-append xs (v ∷ []) in omega arith
-      found NotANumber q = no-ends q
+      found : (stop : ℕ) (F : Found) → onVertex xs stop F (λ us j. listedFrom left s n j us) ≡ Ends ys next → ⊥
+      found j (Number v) q = let g = grows left j (xs ++ v ∷ []) ys next q in let m = length-append xs (v ∷ []) in omega arith
+      found j NotANumber q = no-ends q
 
       go : (c : Bool) → eqb (getD s at 0) 32 ≡ c → listedFrom zero s n at xs ≡ Ends ys next
-      go true q = absurd (found (numberAt s (at + 1) n) (sym (to-vertex left at xs q) ∙ e))
+      go true q = let T = numberAt s (at + 1) n in absurd (found (T .stop) (T .found) (sym (to-vertex left at xs q) ∙ e))
       go false q = to-end zero at xs q ∙ sym (to-end (suc left) at xs q) ∙ e
   enough (suc left) (suc left′) at xs ys next e l = go (eqb (getD s at 0) 32) refl (λ v j q. enough left left′ j (xs ++ v ∷ []) ys next q (let m = length-append xs (v ∷ []) in omega arith))
     where
-      found : (F : Found) → onVertex xs F (λ us j. listedFrom left s n j us) ≡ Ends ys next
+      found : (stop : ℕ) (F : Found) → onVertex xs stop F (λ us j. listedFrom left s n j us) ≡ Ends ys next
           → ((v j : ℕ) → listedFrom left s n j (xs ++ v ∷ []) ≡ Ends ys next → listedFrom left′ s n j (xs ++ v ∷ []) ≡ Ends ys next)
-          → onVertex xs F (λ us j. listedFrom left′ s n j us) ≡ Ends ys next
-      found (Number v j) q k = k v j q
-      found NotANumber q k = q
+          → onVertex xs stop F (λ us j. listedFrom left′ s n j us) ≡ Ends ys next
+      found j (Number v) q k = k v j q
+      found j NotANumber q k = q
 
       go : (c : Bool) → eqb (getD s at 0) 32 ≡ c
           → ((v j : ℕ) → listedFrom left s n j (xs ++ v ∷ []) ≡ Ends ys next → listedFrom left′ s n j (xs ++ v ∷ []) ≡ Ends ys next)
           → listedFrom (suc left′) s n at xs ≡ Ends ys next
-      go true q k = to-vertex left′ at xs q ∙ found (numberAt s (at + 1) n) (sym (to-vertex left at xs q) ∙ e) k
+      go true q k = let T = numberAt s (at + 1) n in to-vertex left′ at xs q ∙ found (T .stop) (T .found) (sym (to-vertex left at xs q) ∙ e) k
       go false q k = to-end (suc left′) at xs q ∙ sym (to-end (suc left) at xs q) ∙ e
 
-  no-row : {us : List ℕ} {x : Edge} {next : ℕ} → Fails us ≡ Holds x next → ⊥
-  no-row {us} {x} {next} e = let z : _≡_ {A = ℕ} 0 1 = cc in omega arith
+  no-row : {us : List ℕ} {x : Edge} {place next : ℕ} → Fails us place ≡ Holds x next → ⊥
+  no-row {us} {x} {place} {next} e = let z : _≡_ {A = ℕ} 0 1 = cc in omega arith
 
   pub row-enough : (most most′ at : ℕ) (x : Edge) (next : ℕ) → rowAt s n most at ≡ Holds x next → length (x .tail) ≤ most′ → rowAt s n most′ at ≡ Holds x next
   unfolding rowAt
@@ -153,11 +154,11 @@ module _ (s : List ℕ) (n : ℕ) where
           let r : edge (h .0) (o .0) (b .0) xs ≡ x = cc in
           let z : length xs ≡ length (x .tail) = ap (λ (y : Edge). length (y .tail)) r in
           ap (onListing h o b) (enough most most′ from [] xs j p (omega arith)) ∙ q
-      listed h o b from (Breaks xs) p q = absurd (no-row q)
+      listed h o b from (Breaks xs place) p q = absurd (no-row q)
 
       stemmed : (S : Stem) → onStem s n most S ≡ Holds x next → onStem s n most′ S ≡ Holds x next
       stemmed (stem.Read h o b from) q = listed h o b from (listedFrom most s n from []) refl q
-      stemmed stem.Wrong q = absurd (no-row q)
+      stemmed (stem.Wrong place) q = absurd (no-row q)
 
 -- The lines still to come ------------------------------------------------------------------------------------------------------------------
 
@@ -191,7 +192,7 @@ scan-grows s (suc left) at t u e = go (ltb at (length s)) e (λ x next q. scan-g
   where
     row : (R : Row) → onRow t R (λ w next. scanFrom left s next w) ≡ Whole u → ((x : Edge) (next : ℕ) → scanFrom left s next (withEdge t x) ≡ Whole u → Grown (withEdge t x) u) → Grown t u
     row (Holds x next) q k = one-grown t x u (k x next q)
-    row (Fails xs) q k = absurd (never q)
+    row (Fails xs place) q k = absurd (never q)
 
     go : (c : Bool) → pick c (onRow t (rowAt s (t .vertices) (mayList t) at) (λ w next. scanFrom left s next w)) (Whole t) ≡ Whole u
         → ((x : Edge) (next : ℕ) → scanFrom left s next (withEdge t x) ≡ Whole u → Grown (withEdge t x) u) → Grown t u
@@ -246,7 +247,7 @@ module _ (s : List ℕ) (n : ℕ) (m : Measure) (at i k : ℕ) (u : Table) (g : 
             edges-left = omega arith;
             listed-left = omega arith;
           }
-      go (Fails xs) q = absurd (never (sym (scan-fails s n m at i k g h few (Fails xs) q xs refl) ∙ w))
+      go (Fails xs place) q = absurd (never (sym (scan-fails s n m at i k g h few (Fails xs place) q xs place refl) ∙ w))
 
 -- Columns of one hyperedge more ------------------------------------------------------------------------------------------------------------
 
@@ -393,10 +394,10 @@ module _ (s : List ℕ) (n : ℕ) (h₀ o₀ ms₀ s₀ t₀ h o ms sp t : List 
     this-line : r ≡ lineOf (Holds (here .this) (here .next))
     this-line = g .answer ∙ ap lineOf this-row
 
-    pub never-wrong : r ≡ line.Wrong → ⊥
-    never-wrong q = no-line (sym q ∙ this-line)
+    pub never-wrong : (place : ℕ) → r ≡ line.Wrong place → ⊥
+    never-wrong place q = no-line (sym q ∙ this-line)
       where
-        no-line : line.Wrong ≡ lineOf (Holds (here .this) (here .next)) → ⊥
+        no-line : line.Wrong place ≡ lineOf (Holds (here .this) (here .next)) → ⊥
         no-line e = let z : _≡_ {A = ℕ} 0 1 = cc in omega arith
 
     -- the column, with the vertices of the line
@@ -409,7 +410,7 @@ module _ (s : List ℕ) (n : ℕ) (h₀ o₀ ms₀ s₀ t₀ h o ms sp t : List 
     abbrev pub Behind : Line → Type 0
     Behind (line.Edge v w m c next) = (at < next) × Filling s n h₀ o₀ ms₀ s₀ t₀ (set h i (v .0)) (set o i (w .0)) (set ms i (m .0)) (set (set sp (2 * i) k) (2 * i + 1) c)
         (take k t ++ (new ++ drop (length t - k) (drop k t))) next (i + 1) (k + c)
-    Behind line.Wrong = Unit {0}
+    Behind (line.Wrong place) = Unit {0}
 
     pub filling-next : (v : Vertex) (w : Weight) (m : Mark) (c next : ℕ) → r ≡ line.Edge v w m c next → Behind (line.Edge v w m c next)
     filling-next v w m c next q =
@@ -433,11 +434,11 @@ no-table : {x : Refusal} {header : Header} → reading.Refused x ≡ reading.Tab
 no-table {x} {header} e = let z : _≡_ {A = ℕ} 0 1 = cc in omega arith
 
 -- the text is refused by 14
-pub read-wrong : (s : List ℕ) (r : Reading) (x : Refusal) (h o ms sp t : List ℕ) → r ≡ readingOf (parse s) → r ≡ reading.Refused x → readOutcome r h o ms sp t ≡ readTable s h o ms sp t
+pub read-wrong : (s : List ℕ) (r : Reading) (x : Refusal) (h o ms sp t : List ℕ) → r ≡ readingOf s (parse s) → r ≡ reading.Refused x → readOutcome r h o ms sp t ≡ readTable s h o ms sp t
 unfolding readInto
 read-wrong s r x h o ms sp t e q = go (parse s) e
   where
-    go : (P : Parse) → r ≡ readingOf P → readOutcome r h o ms sp t ≡ readInto P h o ms sp t
+    go : (P : Parse) → r ≡ readingOf s P → readOutcome r h o ms sp t ≡ readInto s P h o ms sp t
     go (Whole u) p = absurd (no-table (sym q ∙ p))
     go (Wrong l) p = ap (λ (z : Reading). readOutcome z h o ms sp t) p
 
@@ -447,12 +448,12 @@ pub record Holding (s : List ℕ) (header : Header) : Type 0 where
   pub whole : parse s ≡ Whole table
   pub header-is : header ≡ headerOf table
 
-pub holding : (s : List ℕ) (r : Reading) (header : Header) → r ≡ readingOf (parse s) → r ≡ reading.Table header → Holding s header
+pub holding : (s : List ℕ) (r : Reading) (header : Header) → r ≡ readingOf s (parse s) → r ≡ reading.Table header → Holding s header
 holding s r header e q = go (parse s) refl
   where
     go : (P : Parse) → parse s ≡ P → Holding s header
-    go (Whole u) p = record { table = u; whole = p; header-is = let z : reading.Table header ≡ reading.Table (headerOf u) = sym q ∙ e ∙ ap readingOf p in cc }
-    go (Wrong l) p = absurd (no-table (sym (e ∙ ap readingOf p) ∙ q))
+    go (Whole u) p = record { table = u; whole = p; header-is = let z : reading.Table header ≡ reading.Table (headerOf u) = sym q ∙ e ∙ ap (readingOf s) p in cc }
+    go (Wrong l) p = absurd (no-table (sym (e ∙ ap (readingOf s) p) ∙ q))
 
 both : (a b : Bool) → pick a b false ≡ true → (a ≡ true) × (b ≡ true)
 both true b e = (refl, e)
@@ -486,6 +487,6 @@ module _ (s : List ℕ) (header : Header) (g : Holding s header) (h o ms sp t : 
 
   -- the table is in the columns
   pub read-whole : (h′ o′ ms′ sp′ t′ : List ℕ) → true ≡ roomFor header (length h) (length o) (length ms) (length sp) (length t)
-      → Fills (edgesIn (parse s)) h o ms sp t h′ o′ ms′ sp′ t′ → (r : Reading) → r ≡ readingOf (parse s) → readOutcome r h′ o′ ms′ sp′ t′ ≡ readTable s h o ms sp t
+      → Fills (edgesIn (parse s)) h o ms sp t h′ o′ ms′ sp′ t′ → (r : Reading) → r ≡ readingOf s (parse s) → readOutcome r h′ o′ ms′ sp′ t′ ≡ readTable s h o ms sp t
   unfolding readInto
   read-whole h′ o′ ms′ sp′ t′ e f r q = rw (f .heads, f .own, f .strikes, f .spans, f .tails, q, g .whole, roomed true e)

@@ -46,17 +46,17 @@ roomFor header heads own strikes spans tails =
     (leb (header .listed) tails)
     false) false) false) false
 
--- by what the text holds: 14 with the text line; 15; or the table, its columns filled from their start
-unfoldable pub readInto : Parse → (heads own strikes spans tails : List ℕ) → ReadOutcome
-readInto (Wrong l) h o m s t = readOutcome (readingOf (Wrong l)) h o m s t
-readInto (Whole u) h o m s t =
+-- by what the text holds: 14 with line and column; 15; or the table, its columns filled from their start
+unfoldable pub readInto : (text : List ℕ) → Parse → (heads own strikes spans tails : List ℕ) → ReadOutcome
+readInto text (Wrong l) h o m s t = readOutcome (readingOf text (Wrong l)) h o m s t
+readInto text (Whole u) h o m s t =
     pick (roomFor (headerOf u) (length h) (length o) (length m) (length s) (length t))
-    (readOutcome (readingOf (Whole u)) (filled (headsOf (u .edges)) h) (filled (ownsOf (u .edges)) o) (filled (marksOf (u .edges)) m)
+    (readOutcome (readingOf text (Whole u)) (filled (headsOf (u .edges)) h) (filled (ownsOf (u .edges)) o) (filled (marksOf (u .edges)) m)
     (filled (spansFrom 0 (u .edges)) s) (filled (tailsOf (u .edges)) t))
     (readOutcome (reading.Refused TextRoom) h o m s t)
 
 abbrev pub readTable : (text heads own strikes spans tails : List ℕ) → ReadOutcome
-readTable text h o m s t = readInto (parse text) h o m s t
+readTable text h o m s t = readInto text (parse text) h o m s t
 
 -- Filling --------------------------------------------------------------------------------------------------------------------------------------
 

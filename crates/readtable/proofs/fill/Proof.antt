@@ -24,7 +24,7 @@ enum-told c = search needs
 returns : tie.Need-returns Inv-loop μ-loop
 returns c =
     let b = c .before .before .before .before .before .before .before .before .before in
-    absurd (never (sym (scan-unopened (b .args .text .now) (sym (c .before .before .first-line .ensures) ∙ c .enum-told .given .1)) ∙ scan-is-parse (b .args .text .now) ∙ b .pre .whole))
+    absurd (never (sym (scan-unopened (b .args .text .now) _ (sym (c .before .before .first-line .ensures) ∙ c .enum-told .given .1)) ∙ scan-is-parse (b .args .text .now) ∙ b .pre .whole))
 
 loop-holds : tie.Need-loop-holds Inv-loop μ-loop
 loop-holds c =
@@ -81,7 +81,7 @@ not-here : (c : tie.After-enum-told2 Inv-loop μ-loop) → ⊥
 not-here c =
     let a = c .before .before .before .before in
     let l = a .before .before in
-    never-wrong _ _ _ _ _ _ _ _ _ _ _ _ _ _ _ (l .before .loop .inv) (start l .pre) (l .loop-test .taken) _ _ (a .line-at .ensures) (c .enum-told2 .given .1)
+    never-wrong _ _ _ _ _ _ _ _ _ _ _ _ _ _ _ (l .before .loop .inv) (start l .pre) (l .loop-test .taken) _ _ (a .line-at .ensures) _ (c .enum-told2 .given .1)
 
 same-length-5 : tie.Need-same-length-5 Inv-loop μ-loop
 same-length-5 c = absurd (not-here c)
