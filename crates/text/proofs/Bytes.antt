@@ -18,7 +18,7 @@ use Rattle.text.proofs.Digits.{pick-by}
 use Rattle.text.proofs.Sound.{Reached, begin-reached, step-reached, run-reached}
 use Rattle.text.proofs.Complete.{run-append}
 use Rattle.text.proofs.Places.{lineOf, Moved, moved, run-failed, wrong-at}
-use Rattle.text.proofs.Permitted.{read-permitted, unpermitted-wrong}
+use Rattle.text.proofs.Permitted.{read-permitted, wrong-unpermitted, unpermitted-wrong}
 use Rattle.text.proofs.Prefixes.{failed-begins-none, others-begin-one}
 
 pub survived-inside : (σ : State) (bs : List ℕ) → survived σ bs ≤ length bs
@@ -43,7 +43,8 @@ unfolding survived run lineFrom
 survive σ [] s r n = record { inside = omega arith; goes-on = n; stops = λ h. absurd (omega arith); line = λ l e. whole-line σ l e }
 survive σ (b ∷ bs) s r n = go (step σ b) refl (moved σ b s r) (λ m. survive (step σ b) bs (s ++ b ∷ []) (step-reached σ b s r) m)
   where
-    on : (τ : State) → step σ b ≡ τ → NotFailed τ → isFailed τ ≡ false → lineOf τ ≡ pick (eqb b 10) (suc (lineOf σ)) (lineOf σ) → Survives (step σ b) bs (survived (step σ b) bs) → Survives σ (b ∷ bs) (suc (survived (step σ b) bs))
+    on : (τ : State) → step σ b ≡ τ → NotFailed τ → isFailed τ ≡ false → lineOf τ ≡ pick (eqb b 10) (suc (lineOf σ)) (lineOf σ)
+        → Survives (step σ b) bs (survived (step σ b) bs) → Survives σ (b ∷ bs) (suc (survived (step σ b) bs))
     on τ q m f e S = record {
       inside = omega (arith, S .inside);
       goes-on = S .goes-on;
@@ -71,39 +72,44 @@ survive σ (b ∷ bs) s r n = go (step σ b) refl (moved σ b s r) (λ m. surviv
     next-line (Moved.stays n e) m = rw n e
     next-line (Moved.ends y e) m = rw y e
 
-    more : (τ : State) → step σ b ≡ τ → Moved σ b τ → NotFailed τ → isFailed τ ≡ false → (NotFailed (step σ b) → Survives (step σ b) bs (survived (step σ b) bs)) → Survives σ (b ∷ bs) (pick (isFailed (step σ b)) 0 (suc (survived (step σ b) bs)))
+    more : (τ : State) → step σ b ≡ τ → Moved σ b τ → NotFailed τ → isFailed τ ≡ false
+        → (NotFailed (step σ b) → Survives (step σ b) bs (survived (step σ b) bs)) → Survives σ (b ∷ bs) (pick (isFailed (step σ b)) 0 (suc (survived (step σ b) bs)))
     more τ q v m f S =
         let z : isFailed (step σ b) ≡ false = ap isFailed q ∙ f in
         rw z (on τ q m f (next-line v m) (S (subst NotFailed (sym q) m)))
 
-    go : (τ : State) → step σ b ≡ τ → Moved σ b τ → (NotFailed (step σ b) → Survives (step σ b) bs (survived (step σ b) bs)) → Survives σ (b ∷ bs) (pick (isFailed (step σ b)) 0 (suc (survived (step σ b) bs)))
+    go : (τ : State) → step σ b ≡ τ → Moved σ b τ → (NotFailed (step σ b) → Survives (step σ b) bs (survived (step σ b) bs))
+        → Survives σ (b ∷ bs) (pick (isFailed (step σ b)) 0 (suc (survived (step σ b) bs)))
     go (Failed l) q v S = let z : isFailed (step σ b) ≡ true = ap isFailed q in rw z (stop l q (failed-of v))
     go (Spelling ws p) q v S = more (Spelling ws p) q v tt refl S
     go (First p) q v S = more (First p) q v tt refl S
     go (Within p x) q v S = more (Within p x) q v tt refl S
 
 -- the place: the line that was told before, and the column of the first byte that fails
-pub first-byte : (s : List ℕ) → (Permitted s → ⊥) → (l : ℕ) × (parse s ≡ Wrong l) × FirstWrong s l × FirstByte s l (columnOf s)
+pub wrong-byte : (s : List ℕ) (l : ℕ) → parse s ≡ Wrong l → FirstByte s l (columnOf s)
 unfolding parse columnOf lineOf
-first-byte s n =
-    let u = unpermitted-wrong s n in
+wrong-byte s l e =
     let S = survive begin s [] begin-reached tt in
-    (u .0, u .1, u .2, record {
+    record {
       at = failingAt s;
       inside = S .inside;
       begins = others-begin-one (take (failingAt s) s) (S .goes-on);
       stops = λ h b. failed-begins-none (take (suc (failingAt s)) s) (S .stops h .0) (S .stops h .1) b;
-      unfinished = λ _. n;
-      line-is = S .line (u .0) (u .1);
+      unfinished = λ _. wrong-unpermitted s l e;
+      line-is = S .line l e;
       column-is = refl;
-    })
+    }
+
+pub first-byte : (s : List ℕ) → (Permitted s → ⊥) → (l : ℕ) × (parse s ≡ Wrong l) × FirstWrong s l × FirstByte s l (columnOf s)
+first-byte s n = let u = unpermitted-wrong s n in (u .0, u .1, u .2, wrong-byte s (u .0) (u .1))
 
 -- a beginning of what begins a permitted text begins one
 begins-less : (s : List ℕ) (j k : ℕ) → j ≤ k → Begins (take k s) → Begins (take j s)
-begins-less s j k h b = record {
-  rest = drop j (take k s) ++ b .rest;
-  whole = subst Permitted (ap (λ (z : List ℕ). z ++ b .rest) (sym (take-drop j (take k s))) ∙ ap (λ (z : List ℕ). (z ++ drop j (take k s)) ++ b .rest) (take-take s j k h) ∙ append-assoc (take j s) (drop j (take k s)) (b .rest)) (b .whole);
-}
+begins-less s j k h b =
+    let p = take k s in
+    let cut = ap (λ (z : List ℕ). z ++ b .rest) (sym (take-drop j p)) in
+    let less = ap (λ (z : List ℕ). (z ++ drop j p) ++ b .rest) (take-take s j k h) in
+    record { rest = drop j p ++ b .rest; whole = subst Permitted (cut ∙ less ∙ append-assoc (take j s) (drop j p) (b .rest)) (b .whole) }
   where
     take-drop : (i : ℕ) (xs : List ℕ) → take i xs ++ drop i xs ≡ xs
     take-drop zero xs = refl
@@ -125,7 +131,8 @@ first-byte-unique s p q =
     let a = not-before s p q in
     let b = not-before s q p in
     let e : p .at ≡ q .at = omega arith in
-    (p .line-is ∙ ap (λ (k : ℕ). lineAfter (take k s)) e ∙ sym (q .line-is), p .column-is ∙ ap (λ (k : ℕ). columnAfter (take k s)) e ∙ sym (q .column-is))
+    (p .line-is ∙ ap (λ (k : ℕ). lineAfter (take k s)) e ∙ sym (q .line-is),
+      p .column-is ∙ ap (λ (k : ℕ). columnAfter (take k s)) e ∙ sym (q .column-is))
 
 -- a text that is not permitted and begins a permitted one does not end in LF: one past its last byte is in that byte's line
 ends-whole : (σ τ : State) (s : List ℕ) → run begin (s ++ 10 ∷ []) ≡ τ → Moved σ 10 τ → (Permitted (s ++ 10 ∷ []) → ⊥) → Begins (s ++ 10 ∷ []) → ⊥
