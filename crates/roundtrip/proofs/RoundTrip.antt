@@ -128,7 +128,7 @@ held text h o ms s t g e = go (parse text) refl e
     whole u p true b q = record { table = u; whole = p; header-of = let z : headerOf u ≡ g = cc in sym z; outcome = unfold readInto in rw (p, b) }
     whole u p false b q = absurd (no-table q)
 
-    go : (P : Parse) → parse text ≡ P → readInto P h o ms s t .answer ≡ reading.Table g → Held text h o ms s t g
+    go : (P : Parse) → parse text ≡ P → readInto text P h o ms s t .answer ≡ reading.Table g → Held text h o ms s t g
     go (Whole u) p q = whole u p (roomFor (headerOf u) (length h) (length o) (length ms) (length s) (length t)) refl (unfold readInto in q)
     go (Wrong l) p q = absurd (no-table (unfold readInto in q))
 

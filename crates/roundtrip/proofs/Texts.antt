@@ -1,11 +1,10 @@
 -- What reading gives, for every text and every five columns: exactly one of three. A permitted text with room for its table is read; a permitted one without is
--- refused by 15; what is not permitted is refused by 14 at the first wrong line; and a refusal leaves every column as it was. Assumes nothing.
-use mathlib.Core.Path.{_≡_, refl, sym, _∙_, ap, subst}
+-- refused by 15; what is not permitted is refused by 14 at the first byte that can't stand there; and a refusal leaves every column as it was. Assumes nothing.
+use mathlib.Core.Path.{_≡_, refl, sym, _∙_, ap, ap₂, subst}
 use mathlib.Core.Bool.{Bool, true, false}
 use mathlib.Core.List.{List}
-use Prim.Native.Nat.{ℕ, suc, _*_, _≤_}
+use Prim.Native.Nat.{ℕ, _*_}
 use native.Mathlib.Omega.{arith}
-use native.Mathlib.Decide.{decLe}
 use lib.ListN.{length}
 use lib.Dec.{leb}
 use borrow.Author.Tests.{leb-true}
@@ -20,7 +19,8 @@ use Rattle.text.specs.Render.{Permitted}
 use Rattle.text.specs.Machine.{Parse, Whole, Wrong, parse}
 use Rattle.text.proofs.Rows.{length-heads, length-owns, length-marks, length-spans, length-tails}
 use Rattle.text.proofs.Permitted.{permitted-read, read-permitted, wrong-unpermitted, wrong-place}
-use Rattle.text.specs.Permitted.{FirstWrong}
+use Rattle.text.specs.Bytes.{columnOf}
+use Rattle.text.proofs.Bytes.{wrong-byte, first-byte-unique}
 use Rattle.reading.specs.Lines.{headerOf}
 use Rattle.readtable.specs.Read.{readOutcome, roomFor, readInto, readTable}
 use Rattle.roundtrip.specs.RoundTrip.{Room}
@@ -68,8 +68,9 @@ module _ (text h o ms s t : List ℕ) where
           let p = read-permitted text u e in
           of-table p (roomFor (headerOf (tableOf (p .measure) (p .table))) (length h) (length o) (length ms) (length s) (length t)) refl
       go (Wrong k) e =
-          let q : readTable text h o ms s t ≡ refusedAt k h o ms s t = unfold readInto in rw e in
-          subst (ReadOwes text (lent h o ms s t)) (sym q) (Owed.refused (WrongRead.form k (wrong-unpermitted text k e) (wrong-place text k e)))
+          let q : readTable text h o ms s t ≡ refusedAt k (columnOf text) h o ms s t = unfold readInto in rw e in
+          let w = WrongRead.form k (columnOf text) (wrong-unpermitted text k e) (wrong-place text k e) (wrong-byte text k e) in
+          subst (ReadOwes text (lent h o ms s t)) (sym q) (Owed.refused w)
 
 -- No two of the three --------------------------------------------------------------------------------------------------------------------------
 
@@ -80,22 +81,14 @@ same-table e = cc
 pub permitted-same : (text : List ℕ) (p q : Permitted text) → closed (p .table) ≡ closed (q .table)
 permitted-same text p q = ap (λ (u : Table). columnsOf (u .vertices) (u .edges)) (same-table (sym (permitted-read text p) ∙ permitted-read text q))
 
--- and one first wrong line
-first-wrong-one : (text : List ℕ) (j k : ℕ) → FirstWrong text j → FirstWrong text k → j ≡ k
-first-wrong-one text j k a b = go (decLe (suc j) k) (decLe (suc k) j)
-  where
-    go : Dec (suc j ≤ k) → Dec (suc k ≤ j) → j ≡ k
-    go (yes h) d = absurd (a .wrong (b .right j (a .counted) h))
-    go (no h) (yes l) = absurd (b .wrong (a .right k (b .counted) l))
-    go (no h) (no l) = omega arith
-
 module _ (text : List ℕ) (l : Lent) where
   pub read-or-refused : {r : Refusal} → RightRead text l → ¬ WrongRead text l r
-  read-or-refused g (WrongRead.form k n f) = n (g .permitted)
+  read-or-refused g (WrongRead.form k c n f b) = n (g .permitted)
   read-or-refused g (WrongRead.room p n) = n (subst (λ (c : Columns). Room c (l .heads) (l .own) (l .strikes) (l .spans) (l .tails)) (permitted-same text (g .permitted) p) (g .room))
 
   pub refused-once : {r s : Refusal} → WrongRead text l r → WrongRead text l s → r ≡ s
-  refused-once (WrongRead.form j n f) (WrongRead.form k m g) = ap (λ (i : ℕ). Text (record { 0 = i })) (first-wrong-one text j k f g)
-  refused-once (WrongRead.form j n f) (WrongRead.room p m) = absurd (n p)
-  refused-once (WrongRead.room p n) (WrongRead.form k m g) = absurd (m p)
+  refused-once (WrongRead.form j c n f a) (WrongRead.form k d m g b) =
+      let u = first-byte-unique text a b in ap₂ (λ (x y : ℕ). Text (record { 0 = x }) (record { 0 = y })) (u .0) (u .1)
+  refused-once (WrongRead.form j c n f a) (WrongRead.room p m) = absurd (n p)
+  refused-once (WrongRead.room p n) (WrongRead.form k d m g b) = absurd (m p)
   refused-once (WrongRead.room p n) (WrongRead.room q m) = refl

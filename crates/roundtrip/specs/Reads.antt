@@ -10,6 +10,7 @@ use Rattle.columns.specs.Owed.{Owed}
 use Rattle.text.specs.Tables.{closed}
 use Rattle.text.specs.Render.{Permitted}
 use Rattle.text.specs.Permitted.{FirstWrong}
+use Rattle.text.specs.Bytes.{FirstByte}
 use Rattle.readtable.specs.Read.{ReadOutcome}
 use Rattle.roundtrip.specs.RoundTrip.{Room, headerFor}
 
@@ -29,9 +30,9 @@ pub record RightRead (text : List ℕ) (l : Lent) : Type 0 where
   pub permitted : Permitted text
   pub room : Room (closed (permitted .table)) (l .heads) (l .own) (l .strikes) (l .spans) (l .tails)
 
--- a text that is not permitted, at the first line that breaks a rule; then a permitted one for which a column is too short
+-- a text that is not permitted, at the first line that breaks a rule and the first byte that can't stand in it; then a permitted one for which a column is too short
 pub data WrongRead (text : List ℕ) (l : Lent) : Refusal → Type 0 where
-  form : (k : ℕ) → ¬ Permitted text → FirstWrong text k → WrongRead text l (Text (record { 0 = k }))
+  form : (k c : ℕ) → ¬ Permitted text → FirstWrong text k → FirstByte text k c → WrongRead text l (Text (record { 0 = k }) (record { 0 = c }))
   room : (p : Permitted text) → ¬ Room (closed (p .table)) (l .heads) (l .own) (l .strikes) (l .spans) (l .tails) → WrongRead text l TextRoom
 
 -- demand 1 of reading: "Reading returns n, the measure and the counts, and writes that many places of each column; the rest keep theirs"
