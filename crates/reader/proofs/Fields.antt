@@ -2,13 +2,13 @@
 use Prim.Native.Nat.{ℕ, zero, suc, _+_, _*_, _≤_, _<_}
 use mathlib.Core.Path.{_≡_, refl, sym, _∙_, ap, ap₂, subst}
 use mathlib.Core.List.{List, [], _∷_, _++_, append-assoc}
-use mathlib.Core.Bool.{Bool, true, false}
+use mathlib.Core.Bool.{false}
 use native.Mathlib.Numerals.{add-one}
 use native.Mathlib.Omega.{arith}
 use lib.ListN.{length, getD, drop, length-append}
 use lib.Seq.{append-snoc, drop-cons, drop-drop, drop-append-seam, getD-drop}
 use lib.Dec.{ltb, eqb}
-use borrow.Author.Tests.{lt-ltb, le-ltb, ltb-true, eqb-true, eq-eqb, ne-eqb}
+use borrow.Author.Tests.{lt-ltb, le-ltb, ltb-true, ltb-false, eqb-true, eq-eqb, ne-eqb}
 use Rattle.weights.specs.declared.Measure.{Measure}
 use Rattle.weights.specs.declared.Measure.the-variants.{Cost, Days}
 use Rattle.weights.specs.declared.Mark.{Mark}
@@ -20,15 +20,17 @@ use Rattle.text.specs.Machine.{digitOf}
 use Rattle.text.proofs.Digits.{pick-by, digits-one, digits-more, by-digits, digit-byte, byte-digit}
 use Rattle.cursor.specs.declared.Found.{Found}
 use Rattle.cursor.specs.declared.Found.the-variants.{Number, NotANumber}
+use Rattle.cursor.specs.declared.Token.{Token}
+use Rattle.cursor.specs.declared.WeightToken.{WeightToken}
 use Rattle.cursor.specs.declared.FoundWeight.{FoundWeight}
 use Rattle.cursor.specs.declared.FoundWeight.the-variants.{Own, NotAWeight}
 use Rattle.cursor.specs.declared.Separator.{Separator}
 use Rattle.cursor.specs.declared.Separator.the-variants.{Space, LineEnd, Neither}
-use Rattle.cursor.specs.Cursor.{digitsFrom, numberOf, numberAt, asWeight, weightAt, separatorAt}
+use Rattle.cursor.specs.Cursor.{token, digitsFrom, numberOf, numberAt, asWeight, weightToken, markedFrom, weightAt, separatorAt}
 use Rattle.cursor.proofs.Counts.{byte-within, number-counts}
 use Rattle.reading.specs.declared.FirstLine.{FirstLine}
 use Rattle.reading.specs.declared.FirstLine.the-variants as first
-use Rattle.reading.specs.Lines.{startsWith, onCount, firstLine}
+use Rattle.reading.specs.Lines.{agreeing, onCount, onCounted, firstLine}
 
 -- Bytes ------------------------------------------------------------------------------------------------------------------------------------
 
@@ -75,9 +77,12 @@ module _ (s : List ℕ) (at : ℕ) where
 -- Numbers ------------------------------------------------------------------------------------------------------------------------------------
 
 -- the bytes bs are a number and what is behind it
-abbrev NumberText : (s bs : List ℕ) → Found → Type 0
-NumberText s bs (Number v next) = bs ≡ digits v ++ drop next s
-NumberText s bs NotANumber = Unit {0}
+abbrev NumberText : (s bs : List ℕ) → (stop : ℕ) → Found → Type 0
+NumberText s bs stop (Number v) = bs ≡ digits v ++ drop stop s
+NumberText s bs stop NotANumber = Unit {0}
+
+abbrev TokenText : (s bs : List ℕ) → Token → Type 0
+TokenText s bs t = NumberText s bs (t .stop) (t .found)
 
 rest-of : (s bs : List ℕ) (i b : ℕ) → drop i s ≡ b ∷ bs → drop (i + 1) s ≡ bs
 rest-of s bs i b e = behind s (b ∷ []) bs i e
@@ -88,58 +93,58 @@ one-more v b bs pos h =
     ∙ append-snoc (digits v) (48 + digitOf b) bs
     ∙ ap (λ (x : ℕ). digits v ++ x ∷ bs) (sym (digit-byte b h))
 
-digits-text : (s bs : List ℕ) (i limit v : ℕ) → drop i s ≡ bs → NumberText s (digits v ++ bs) (digitsFrom bs i limit v)
+digits-text : (s bs : List ℕ) (start i limit v : ℕ) → drop i s ≡ bs → TokenText s (digits v ++ bs) (digitsFrom bs start i limit v)
 unfolding digitsFrom
-digits-text s [] i limit v e = ap (λ (l : List ℕ). digits v ++ l) (sym e)
-digits-text s (b ∷ bs) i limit v e =
-    let P : Found → Type 0 = NumberText s (digits v ++ b ∷ bs) in
+digits-text s [] start i limit v e = ap (λ (l : List ℕ). digits v ++ l) (sym e)
+digits-text s (b ∷ bs) start i limit v e =
+    let P : Token → Type 0 = TokenText s (digits v ++ b ∷ bs) in
     let w = 10 * v + digitOf b in
-    let rec : NumberText s (digits w ++ bs) (digitsFrom bs (i + 1) limit w) = digits-text s bs (i + 1) limit w (rest-of s bs i b e) in
+    let rec : TokenText s (digits w ++ bs) (digitsFrom bs start (i + 1) limit w) = digits-text s bs start (i + 1) limit w (rest-of s bs i b e) in
     pick-by P (ltb (digitOf b) 10) (λ d.
     pick-by P (ltb 0 v) (λ z.
     pick-by P (ltb w limit)
-    (λ l. subst (λ (x : List ℕ). NumberText s x (digitsFrom bs (i + 1) limit w)) (one-more v b bs (ltb-true _ _ z) (ltb-true _ _ d)) rec)
+    (λ l. subst (λ (x : List ℕ). TokenText s x (digitsFrom bs start (i + 1) limit w)) (one-more v b bs (ltb-true _ _ z) (ltb-true _ _ d)) rec)
     (λ l. tt)) (λ z. tt)) (λ d. ap (λ (l : List ℕ). digits v ++ l) (sym e))
 
-number-text-of : (s bs : List ℕ) (at limit : ℕ) → drop at s ≡ bs → NumberText s bs (numberOf bs at limit)
+number-text-of : (s bs : List ℕ) (at limit : ℕ) → drop at s ≡ bs → TokenText s bs (numberOf bs at limit)
 unfolding numberOf
 number-text-of s [] at limit e = tt
 number-text-of s (b ∷ bs) at limit e =
-    let P : Found → Type 0 = NumberText s (b ∷ bs) in
-    let F = digitsFrom bs (at + 1) limit (digitOf b) in
-    let rec : NumberText s (digits (digitOf b) ++ bs) F = digits-text s bs (at + 1) limit (digitOf b) (rest-of s bs at b e) in
+    let P : Token → Type 0 = TokenText s (b ∷ bs) in
+    let F = digitsFrom bs at (at + 1) limit (digitOf b) in
+    let rec : TokenText s (digits (digitOf b) ++ bs) F = digits-text s bs at (at + 1) limit (digitOf b) (rest-of s bs at b e) in
     pick-by P (ltb (digitOf b) 10) (λ d.
-    pick-by P (ltb (digitOf b) limit) (λ l. subst (λ (x : List ℕ). NumberText s x F) (single (ltb-true _ _ d)) rec) (λ l. tt)) (λ d. tt)
+    pick-by P (ltb (digitOf b) limit) (λ l. subst (λ (x : List ℕ). TokenText s x F) (single (ltb-true _ _ d)) rec) (λ l. tt)) (λ d. tt)
   where
     single : digitOf b < 10 → digits (digitOf b) ++ bs ≡ b ∷ bs
     single h = ap (λ (ds : List ℕ). ds ++ bs) (digits-one (digitOf b) h) ∙ ap (λ (x : ℕ). x ∷ bs) (sym (digit-byte b h))
 
-pub number-text : (s : List ℕ) (at limit v next : ℕ) → numberAt s at limit ≡ Number v next → drop at s ≡ digits v ++ drop next s
+pub number-text : (s : List ℕ) (at limit start next v : ℕ) → numberAt s at limit ≡ token start next (Number v) → drop at s ≡ digits v ++ drop next s
 unfolding numberAt
-number-text s at limit v next e = subst (NumberText s (drop at s)) e (number-text-of s (drop at s) at limit refl)
+number-text s at limit start next v e = subst (TokenText s (drop at s)) e (number-text-of s (drop at s) at limit refl)
 
 -- no digit goes on
 abbrev pub Stops : List ℕ → Type 0
 Stops [] = Unit {0}
 Stops (b ∷ bs) = 10 ≤ digitOf b
 
-digits-stop : (bs : List ℕ) (i limit v : ℕ) → Stops bs → digitsFrom bs i limit v ≡ Number v i
+digits-stop : (bs : List ℕ) (start i limit v : ℕ) → Stops bs → digitsFrom bs start i limit v ≡ token start i (Number v)
 unfolding digitsFrom
-digits-stop [] i limit v h = refl
-digits-stop (b ∷ bs) i limit v h = rw (le-ltb (digitOf b) 10 h)
+digits-stop [] start i limit v h = refl
+digits-stop (b ∷ bs) start i limit v h = rw (le-ltb (digitOf b) 10 h)
 
-digits-step : (rest : List ℕ) (i limit v d : ℕ) → 0 < v → d < 10 → 10 * v + d < limit → digitsFrom ((48 + d) ∷ rest) i limit v ≡ digitsFrom rest (i + 1) limit (10 * v + d)
+digits-step : (rest : List ℕ) (start i limit v d : ℕ) → 0 < v → d < 10 → 10 * v + d < limit → digitsFrom ((48 + d) ∷ rest) start i limit v ≡ digitsFrom rest start (i + 1) limit (10 * v + d)
 unfolding digitsFrom
-digits-step rest i limit v d pos h l = rw (byte-digit d h, lt-ltb d 10 h, lt-ltb 0 v pos, lt-ltb _ _ l)
+digits-step rest start i limit v d pos h l = rw (byte-digit d h, lt-ltb d 10 h, lt-ltb 0 v pos, lt-ltb _ _ l)
 
-number-first : (rest : List ℕ) (at limit d : ℕ) → d < 10 → d < limit → numberOf ((48 + d) ∷ rest) at limit ≡ digitsFrom rest (at + 1) limit d
+number-first : (rest : List ℕ) (at limit d : ℕ) → d < 10 → d < limit → numberOf ((48 + d) ∷ rest) at limit ≡ digitsFrom rest at (at + 1) limit d
 unfolding numberOf
 number-first rest at limit d h l = rw (byte-digit d h, lt-ltb d 10 h, lt-ltb d limit l)
 
 -- a number's digits are read to their end
-number-read : (at limit v : ℕ) (rest : List ℕ) → v < limit → numberOf (digits v ++ rest) at limit ≡ digitsFrom rest (at + length (digits v)) limit v
+number-read : (at limit v : ℕ) (rest : List ℕ) → v < limit → numberOf (digits v ++ rest) at limit ≡ digitsFrom rest at (at + length (digits v)) limit v
 number-read at limit =
-    by-digits (λ (v : ℕ). (rest : List ℕ) → v < limit → numberOf (digits v ++ rest) at limit ≡ digitsFrom rest (at + length (digits v)) limit v)
+    by-digits (λ (v : ℕ). (rest : List ℕ) → v < limit → numberOf (digits v ++ rest) at limit ≡ digitsFrom rest at (at + length (digits v)) limit v)
     (λ d h rest l. rw (digits-one d h) (number-first rest at limit d h l))
     (λ v d pos h rec rest l.
     let q = ap length (digits-more v d pos h) ∙ length-append (digits v) ((48 + d) ∷ []) in
@@ -147,36 +152,42 @@ number-read at limit =
     ap (λ (ds : List ℕ). numberOf (ds ++ rest) at limit) (digits-more v d pos h)
     ∙ ap (λ (z : List ℕ). numberOf z at limit) (append-snoc (digits v) (48 + d) rest)
     ∙ rec ((48 + d) ∷ rest) (omega arith)
-    ∙ digits-step rest (at + length (digits v)) limit v d pos h l
-    ∙ ap (λ (k : ℕ). digitsFrom rest k limit (10 * v + d)) place)
+    ∙ digits-step rest at (at + length (digits v)) limit v d pos h l
+    ∙ ap (λ (k : ℕ). digitsFrom rest at k limit (10 * v + d)) place)
 
-pub number-found : (s rest : List ℕ) (at limit v : ℕ) → drop at s ≡ digits v ++ rest → v < limit → Stops rest → numberAt s at limit ≡ Number v (at + length (digits v))
+pub number-found : (s rest : List ℕ) (at limit v : ℕ) → drop at s ≡ digits v ++ rest → v < limit → Stops rest → numberAt s at limit ≡ token at (at + length (digits v)) (Number v)
 unfolding numberAt
 number-found s rest at limit v e l h =
-    ap (λ (z : List ℕ). numberOf z at limit) e ∙ number-read at limit v rest l ∙ digits-stop rest (at + length (digits v)) limit v h
+    ap (λ (z : List ℕ). numberOf z at limit) e ∙ number-read at limit v rest l ∙ digits-stop rest at (at + length (digits v)) limit v h
 
 -- Own figures --------------------------------------------------------------------------------------------------------------------------------
 
-abbrev WeightText : List ℕ → ℕ → FoundWeight → Type 0
-WeightText s at (Own w k next) = drop at s ≡ ownText (w .0) (k .0) ++ drop next s
-WeightText s at NotAWeight = Unit {0}
+abbrev WeightText : List ℕ → (at stop : ℕ) → FoundWeight → Type 0
+WeightText s at stop (Own w k) = drop at s ≡ ownText (w .0) (k .0) ++ drop stop s
+WeightText s at stop NotAWeight = Unit {0}
+
+abbrev OwnText : List ℕ → (at : ℕ) → WeightToken → Type 0
+OwnText s at t = WeightText s at (t .stop) (t .found)
 
 -- a number behind the bytes of a mark
-marked-text : (s : List ℕ) (at from : ℕ) (k : Mark) (F : Found) → numberAt s from (greatest + 1) ≡ F → drop at s ≡ markText (k .0) ++ drop from s → WeightText s at (asWeight k F)
+marked-text : (s : List ℕ) (at from : ℕ) (k : Mark) (start stop : ℕ) (F : Found) → numberAt s from (greatest + 1) ≡ token start stop F → drop at s ≡ markText (k .0) ++ drop from s
+    → WeightText s at stop (asWeight k F)
 unfolding ownText
-marked-text s at from k (Number v next) e q =
-    q ∙ ap (λ (l : List ℕ). markText (k .0) ++ l) (number-text s from (greatest + 1) v next e) ∙ sym (append-assoc (markText (k .0)) (digits v) (drop next s))
-marked-text s at from k NotANumber e q = tt
+marked-text s at from k start stop (Number v) e q =
+    q ∙ ap (λ (l : List ℕ). markText (k .0) ++ l) (number-text s from (greatest + 1) start stop v e) ∙ sym (append-assoc (markText (k .0)) (digits v) (drop stop s))
+marked-text s at from k start stop NotANumber e q = tt
 
-weight-text-of : (s : List ℕ) (at : ℕ) → WeightText s at (weightAt s at)
+weight-text-of : (s : List ℕ) (at : ℕ) → OwnText s at (weightAt s at)
 unfolding weightAt markText
 weight-text-of s at =
-    pick-by (WeightText s at) (eqb (getD s at 0) 45)
-    (λ e. marked-text s at (at + 1) (record { 0 = struckMark }) (numberAt s (at + 1) (greatest + 1)) refl (here s at 45 (eqb-true _ _ e) (omega arith)))
-    (λ e. marked-text s at at (record { 0 = standing }) (numberAt s at (greatest + 1)) refl refl)
+    let S = numberAt s (at + 1) (greatest + 1) in
+    let N = numberAt s at (greatest + 1) in
+    pick-by (OwnText s at) (eqb (getD s at 0) 45)
+    (λ e. marked-text s at (at + 1) (record { 0 = struckMark }) (S .start) (S .stop) (S .found) refl (here s at 45 (eqb-true _ _ e) (omega arith)))
+    (λ e. marked-text s at at (record { 0 = standing }) (N .start) (N .stop) (N .found) refl refl)
 
-pub weight-text : (s : List ℕ) (at o k next : ℕ) → weightAt s at ≡ Own (record { 0 = o }) (record { 0 = k }) next → drop at s ≡ ownText o k ++ drop next s
-weight-text s at o k next e = subst (WeightText s at) e (weight-text-of s at)
+pub weight-text : (s : List ℕ) (at o k start next : ℕ) → weightAt s at ≡ weightToken start next (Own (record { 0 = o }) (record { 0 = k })) → drop at s ≡ ownText o k ++ drop next s
+weight-text s at o k start next e = subst (OwnText s at) e (weight-text-of s at)
 
 -- a number begins with a digit
 first-digit : (v : ℕ) (rest : List ℕ) → 48 ≤ getD (digits v ++ rest) 0 0
@@ -186,21 +197,22 @@ first-digit =
     (λ v d pos h rec rest. rw (digits-more v d pos h, append-snoc (digits v) (48 + d) rest) (rec ((48 + d) ∷ rest)))
 
 module _ (s rest : List ℕ) (at o : ℕ) (h : Stops rest) (l : o ≤ greatest) where
-  plain-found : drop at s ≡ digits o ++ rest → weightAt s at ≡ Own (record { 0 = o }) (record { 0 = standing }) (at + length (digits o))
+  plain-found : drop at s ≡ digits o ++ rest → weightAt s at ≡ weightToken at (at + length (digits o)) (Own (record { 0 = o }) (record { 0 = standing }))
   unfolding weightAt
   plain-found e =
       let b = byte-of s (digits o ++ rest) at e in
       let f = first-digit o rest in
-      rw (ne-eqb (getD s at 0) 45 (λ q. omega arith), number-found s rest at (greatest + 1) o e (omega arith) h)
+      rw (ne-eqb (getD s at 0) 45 (λ q. omega arith)) (ap (markedFrom at (record { 0 = standing })) (number-found s rest at (greatest + 1) o e (omega arith) h))
 
-  struck-found : drop at s ≡ 45 ∷ (digits o ++ rest) → weightAt s at ≡ Own (record { 0 = o }) (record { 0 = struckMark }) (at + length (45 ∷ digits o))
+  struck-found : drop at s ≡ 45 ∷ (digits o ++ rest) → weightAt s at ≡ weightToken at (at + length (45 ∷ digits o)) (Own (record { 0 = o }) (record { 0 = struckMark }))
   unfolding weightAt
   struck-found e =
       let place : at + 1 + length (digits o) ≡ at + length (45 ∷ digits o) = omega arith in
-      rw (byte-of s (45 ∷ (digits o ++ rest)) at e, number-found s rest (at + 1) (greatest + 1) o (behind s (45 ∷ []) (digits o ++ rest) at e) (omega arith) h)
-      (ap (Own (record { 0 = o }) (record { 0 = struckMark })) place)
+      let found = number-found s rest (at + 1) (greatest + 1) o (behind s (45 ∷ []) (digits o ++ rest) at e) (omega arith) h in
+      rw (byte-of s (45 ∷ (digits o ++ rest)) at e)
+      (ap (markedFrom at (record { 0 = struckMark })) found ∙ ap (λ (j : ℕ). weightToken at j (Own (record { 0 = o }) (record { 0 = struckMark }))) place)
 
-  pub weight-found : (k : ℕ) → k ≤ struckMark → drop at s ≡ ownText o k ++ rest → weightAt s at ≡ Own (record { 0 = o }) (record { 0 = k }) (at + length (ownText o k))
+  pub weight-found : (k : ℕ) → k ≤ struckMark → drop at s ≡ ownText o k ++ rest → weightAt s at ≡ weightToken at (at + length (ownText o k)) (Own (record { 0 = o }) (record { 0 = k }))
   unfolding markText ownText
   weight-found zero m e = plain-found e
   weight-found (suc zero) m e = struck-found e
@@ -208,25 +220,26 @@ module _ (s rest : List ℕ) (at o : ℕ) (h : Stops rest) (l : o ≤ greatest) 
 
 -- The first line -----------------------------------------------------------------------------------------------------------------------------
 
-starts-text : (w s : List ℕ) → startsWith w s ≡ true → s ≡ w ++ drop (length w) s
-unfolding startsWith
-starts-text [] s e = refl
-starts-text (w ∷ ws) [] e = absurd (let z : _≡_ {A = ℕ} 0 1 = cc in omega arith)
-starts-text (w ∷ ws) (b ∷ s) e = go (eqb b w) refl e (starts-text ws s)
-  where
-    go : (c : Bool) → eqb b w ≡ c → pick c (startsWith ws s) false ≡ true → (startsWith ws s ≡ true → s ≡ ws ++ drop (length ws) s) → b ∷ s ≡ w ∷ (ws ++ drop (length ws) s)
-    go true f q k = ap₂ (λ (x : ℕ) (l : List ℕ). x ∷ l) (eqb-true b w f) (k q)
-    go false f q k = absurd (let z : _≡_ {A = ℕ} 0 1 = cc in omega arith)
+starts-text : (w s : List ℕ) → length w ≤ agreeing w s → s ≡ w ++ drop (length w) s
+unfolding agreeing
+starts-text [] s = λ h. refl
+starts-text (w ∷ ws) [] = λ h. absurd (omega arith)
+starts-text (w ∷ ws) (b ∷ s) =
+    pick-by (λ (k : ℕ). length (w ∷ ws) ≤ k → b ∷ s ≡ w ∷ (ws ++ drop (length ws) s)) (eqb b w)
+    (λ e h. ap₂ (λ (x : ℕ) (l : List ℕ). x ∷ l) (eqb-true b w e) (starts-text ws s (omega arith))) (λ e h. absurd (omega arith))
 
-text-starts : (w rest : List ℕ) → startsWith w (w ++ rest) ≡ true
-unfolding startsWith
+text-starts : (w rest : List ℕ) → agreeing w (w ++ rest) ≡ length w
+unfolding agreeing
 text-starts [] rest = refl
-text-starts (w ∷ ws) rest = rw (eq-eqb w w refl) (text-starts ws rest)
+text-starts (w ∷ ws) rest = rw (eq-eqb w w refl) (ap suc (text-starts ws rest))
+
+whole-word : (w s rest : List ℕ) → s ≡ w ++ rest → ltb (agreeing w s) (length w) ≡ false
+whole-word w s rest e = let q = ap (agreeing w) e ∙ text-starts w rest in le-ltb (agreeing w s) (length w) (omega arith)
 
 module _ (s : List ℕ) where
   abbrev FirstText : FirstLine → Type 0
   FirstText (first.Read n m start) = (n ≤ mostVertices) × (s ≡ header n m ++ drop start s)
-  FirstText first.Wrong = Unit {0}
+  FirstText (first.Wrong place) = Unit {0}
 
   -- the pieces of the first line, joined
   joined : (n next start : ℕ) (m : Measure) → s ≡ firstWord ++ drop (length firstWord) s → drop (length firstWord) s ≡ digits n ++ drop next s
@@ -239,25 +252,27 @@ module _ (s : List ℕ) where
       ∙ sym (append-assoc (firstWord ++ digits n) (measureText m) (drop start s) ∙ append-assoc firstWord (digits n) (measureText m ++ drop start s))
 
   -- behind the number of parts: LF, or the word and LF
-  named-text : (next : ℕ) → startsWith (word ++ 10 ∷ []) (drop next s) ≡ true → drop next s ≡ measureText spoken ++ drop (next + length (word ++ 10 ∷ [])) s
+  named-text : (next : ℕ) → length (word ++ 10 ∷ []) ≤ agreeing (word ++ 10 ∷ []) (drop next s) → drop next s ≡ measureText spoken ++ drop (next + length (word ++ 10 ∷ [])) s
   unfolding measureText
   named-text next e = starts-text (word ++ 10 ∷ []) (drop next s) e ∙ ap (λ (l : List ℕ). (word ++ 10 ∷ []) ++ l) (drop-drop (length (word ++ 10 ∷ [])) next s)
 
-  count-text : (F : Found) → numberAt s (length firstWord) (mostVertices + 1) ≡ F → s ≡ firstWord ++ drop (length firstWord) s → FirstText (onCount s F)
-  count-text (Number n next) e a =
-      let l = number-counts s (length firstWord) (mostVertices + 1) n next e .0 in
-      let b = number-text s (length firstWord) (mostVertices + 1) n next e in
-      let W = startsWith (word ++ 10 ∷ []) (drop next s) in
+  count-text : (start next : ℕ) (F : Found) → numberAt s (length firstWord) (mostVertices + 1) ≡ token start next F → s ≡ firstWord ++ drop (length firstWord) s → FirstText (onCount s next F)
+  count-text start next (Number n) e a =
+      let l = number-counts s (length firstWord) (mostVertices + 1) start next n e .0 in
+      let b = number-text s (length firstWord) (mostVertices + 1) start next n e in
+      let W = agreeing (word ++ 10 ∷ []) (drop next s) in
       pick-by FirstText (eqb (getD s next 0) 10)
       (λ q. (omega arith, joined n next (next + 1) default a b (unfold measureText in here s next 10 (eqb-true _ _ q) (omega arith))))
-      (λ q. pick-by FirstText W (λ w. (omega arith, joined n next (next + length (word ++ 10 ∷ [])) spoken a b (named-text next w))) (λ w. tt))
-  count-text NotANumber e a = tt
+      (λ q. pick-by FirstText (ltb W (length (word ++ 10 ∷ []))) (λ w. tt)
+      (λ w. (omega arith, joined n next (next + length (word ++ 10 ∷ [])) spoken a b (named-text next (ltb-false _ _ w)))))
+  count-text start next NotANumber e a = tt
 
   first-text-of : FirstText (firstLine s)
   unfolding firstLine
   first-text-of =
-      pick-by FirstText (startsWith firstWord s)
-      (λ e. count-text (numberAt s (length firstWord) (mostVertices + 1)) refl (starts-text firstWord s e)) (λ e. tt)
+      let T = numberAt s (length firstWord) (mostVertices + 1) in
+      pick-by FirstText (ltb (agreeing firstWord s) (length firstWord)) (λ e. tt)
+      (λ e. count-text (T .start) (T .stop) (T .found) refl (starts-text firstWord s (ltb-false _ _ e)))
 
   pub first-text : (n start : ℕ) (m : Measure) → firstLine s ≡ first.Read n m start → (n ≤ mostVertices) × (s ≡ header n m ++ drop start s)
   first-text n start m e = subst FirstText e first-text-of
@@ -268,13 +283,12 @@ unfolding measureText word digitOf
 measure-stops Cost rest = omega arith
 measure-stops Days rest = omega arith
 
-count-found : (s rest : List ℕ) (n next : ℕ) (m : Measure) → drop next s ≡ measureText m ++ rest → onCount s (Number n next) ≡ first.Read n m (next + length (measureText m))
+count-found : (s rest : List ℕ) (n next : ℕ) (m : Measure) → drop next s ≡ measureText m ++ rest → onCount s next (Number n) ≡ first.Read n m (next + length (measureText m))
 unfolding measureText
 count-found s rest n next Cost e = rw (byte-of s (10 ∷ rest) next e)
 count-found s rest n next Days e =
     let b : getD s next 0 ≡ 32 = byte-of s ((word ++ 10 ∷ []) ++ rest) next e ∙ (unfold word in refl) in
-    let w : startsWith (word ++ 10 ∷ []) (drop next s) ≡ true = ap (startsWith (word ++ 10 ∷ [])) e ∙ text-starts (word ++ 10 ∷ []) rest in
-    rw (b, w)
+    rw (b, whole-word (word ++ 10 ∷ []) (drop next s) rest e)
 
 pub first-found : (rest : List ℕ) (n : ℕ) (m : Measure) → n ≤ mostVertices → firstLine (header n m ++ rest) ≡ first.Read n m (length (header n m))
 unfolding firstLine header
@@ -282,11 +296,11 @@ first-found rest n m h =
     let tail = measureText m ++ rest in
     let s = header n m ++ rest in
     let q : s ≡ firstWord ++ (digits n ++ tail) = append-assoc (firstWord ++ digits n) (measureText m) rest ∙ append-assoc firstWord (digits n) tail in
-    let opened : startsWith firstWord s ≡ true = ap (startsWith firstWord) q ∙ text-starts firstWord (digits n ++ tail) in
+    let opened = whole-word firstWord s (digits n ++ tail) q in
     let a : drop (length firstWord) s ≡ digits n ++ tail = ap (drop (length firstWord)) q ∙ drop-append-seam firstWord (digits n ++ tail) in
     let f = number-found s tail (length firstWord) (mostVertices + 1) n a (omega arith) (measure-stops m rest) in
     let c = count-found s rest n (length firstWord + length (digits n)) m (behind s (digits n) tail (length firstWord) a) in
     let l = length-append (firstWord ++ digits n) (measureText m) in
     let k = length-append firstWord (digits n) in
     let place : length firstWord + length (digits n) + length (measureText m) ≡ length (header n m) = omega arith in
-    rw (opened, f) (c ∙ ap (first.Read n m) place)
+    rw opened (ap (onCounted s) f ∙ c ∙ ap (first.Read n m) place)

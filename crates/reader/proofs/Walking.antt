@@ -36,8 +36,8 @@ module _ (s : List ℕ) (n : ℕ) where
   parts-text (no-part {at} {next} e) = (refl, end-text s at next e)
   parts-text (part {at} {from} {after} {next} {v} {vs} e f r) =
       let rec = parts-text r in
-      let below = number-counts s from n v after f .0 in
-      let listed = number-text s from n v after f ∙ ap (λ (l : List ℕ). digits v ++ l) (rec .1) ∙ join-part (digits v) (tailText vs) (10 ∷ []) (drop next s) in
+      let below = number-counts s from n from after v f .0 in
+      let listed = number-text s from n from after v f ∙ ap (λ (l : List ℕ). digits v ++ l) (rec .1) ∙ join-part (digits v) (tailText vs) (10 ∷ []) (drop next s) in
       (rw (lt-ltb v n below) (rec .0), space-text s at from e ∙ ap (λ (l : List ℕ). 32 ∷ l) listed)
 
   line-text : {at next : ℕ} {e : Edge} → Line s n at e next → EdgeFormed n e × (drop at s ≡ (edgeText e ++ 10 ∷ []) ++ drop next s)
@@ -45,11 +45,11 @@ module _ (s : List ℕ) (n : ℕ) where
   line-text {at} {next} {e} l =
       let rec = parts-text (l .parts) in
       let text = ownText (e .own) (e .mark) in
-      let own = weight-text s (l .from) (e .own) (e .mark) (l .behind-own) (l .own) ∙ ap (λ (z : List ℕ). text ++ z) (rec .1) in
+      let own = weight-text s (l .from) (e .own) (e .mark) (l .from) (l .behind-own) (l .own) ∙ ap (λ (z : List ℕ). text ++ z) (rec .1) in
       let spaced = space-text s (l .behind-head) (l .from) (l .space) ∙ ap (λ (z : List ℕ). 32 ∷ z) own in
-      let counts = weight-counts s (l .from) _ _ _ (l .own) in
-      let formed : EdgeFormed n e = record { head = number-counts s at n _ _ (l .head) .0; own = counts .0; mark = counts .1; tail = rec .0 } in
-      (formed, number-text s at n _ _ (l .head) ∙ ap (λ (z : List ℕ). digits (e .head) ++ z) spaced ∙ join-line (digits (e .head)) text (tailText (e .tail)) (drop next s))
+      let counts = weight-counts s (l .from) _ _ _ _ (l .own) in
+      let formed : EdgeFormed n e = record { head = number-counts s at n _ _ _ (l .head) .0; own = counts .0; mark = counts .1; tail = rec .0 } in
+      (formed, number-text s at n _ _ _ (l .head) ∙ ap (λ (z : List ℕ). digits (e .head) ++ z) spaced ∙ join-line (digits (e .head)) text (tailText (e .tail)) (drop next s))
 
   lines-text : {at : ℕ} {es : List Edge} → Lines s n at es → All (EdgeFormed n) es × (drop at s ≡ edgesText es)
   unfolding edgesText

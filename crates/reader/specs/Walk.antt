@@ -13,23 +13,23 @@ use Rattle.text.specs.Rows.{All}
 use Rattle.cursor.specs.declared.Found.the-variants.{Number}
 use Rattle.cursor.specs.declared.FoundWeight.the-variants.{Own}
 use Rattle.cursor.specs.declared.Separator.the-variants.{Space, LineEnd}
-use Rattle.cursor.specs.Cursor.{numberAt, weightAt, separatorAt}
+use Rattle.cursor.specs.Cursor.{token, numberAt, weightToken, weightAt, separatorAt}
 use Rattle.reading.specs.declared.FirstLine.the-variants.{Read}
 use Rattle.reading.specs.Lines.{firstLine}
 
 -- the parts listed from a place on, each behind a space, up to the end of the line
 pub data Parts (s : List ℕ) (n : ℕ) : (at : ℕ) → List ℕ → (next : ℕ) → Type 0 where
   no-part : {at next : ℕ} → separatorAt s at ≡ LineEnd next → Parts s n at [] next
-  part : {at from after next v : ℕ} {vs : List ℕ} → separatorAt s at ≡ Space from → numberAt s from n ≡ Number v after → Parts s n after vs next → Parts s n at (v ∷ vs) next
+  part : {at from after next v : ℕ} {vs : List ℕ} → separatorAt s at ≡ Space from → numberAt s from n ≡ token from after (Number v) → Parts s n after vs next → Parts s n at (v ∷ vs) next
 
 -- a table line: head, single space, own figure with its mark, listed parts
 pub record Line (s : List ℕ) (n at : ℕ) (e : Edge) (next : ℕ) : Type 0 where
   pub behind-head : ℕ
   pub from : ℕ
   pub behind-own : ℕ
-  pub head : numberAt s at n ≡ Number (e .head) behind-head
+  pub head : numberAt s at n ≡ token at behind-head (Number (e .head))
   pub space : separatorAt s behind-head ≡ Space from
-  pub own : weightAt s from ≡ Own (record { 0 = e .own }) (record { 0 = e .mark }) behind-own
+  pub own : weightAt s from ≡ weightToken from behind-own (Own (record { 0 = e .own }) (record { 0 = e .mark }))
   pub parts : Parts s n behind-own (e .tail) next
 
 -- table lines up to the text's end

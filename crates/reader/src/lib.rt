@@ -1,9 +1,9 @@
 // A reader that holds the lent text and its place, for programs that walk a table's text field by
 // field. Each function takes it apart and leaves the work to one on the slice and the number; what a
 // field says of the place behind it is where the reader is moved to.
-use cursor::Found;
-use cursor::FoundWeight;
 use cursor::Separator;
+use cursor::Token;
+use cursor::WeightToken;
 use reading::FirstLine;
 use reading::Line;
 ghost use mathlib.Core.Path.{_≡_};
@@ -55,15 +55,16 @@ pub fn first_line<'a>(r: Reader<'a>) -> FirstLine
     reading::first_line(r.text)
 }
 
-// The number at a reader's place, below the limit: a head or a listed vertex.
-pub fn next_number<'a>(r: Reader<'a>, limit: u64) -> Found
+// The number at a reader's place, below the limit: a head or a listed vertex, with where its reading
+// began and where it stopped.
+pub fn next_number<'a>(r: Reader<'a>, limit: u64) -> Token
     ensures { λ f. ⌜ f ≡ numberAt (now (r .entry .text)) (r .entry .at) limit ⌝ }
 {
     cursor::number_at(r.text, r.at, limit)
 }
 
-// The own weight at a reader's place.
-pub fn next_weight<'a>(r: Reader<'a>) -> FoundWeight
+// The own weight at a reader's place, likewise.
+pub fn next_weight<'a>(r: Reader<'a>) -> WeightToken
     ensures { λ f. ⌜ f ≡ weightAt (now (r .entry .text)) (r .entry .at) ⌝ }
 {
     cursor::weight_at(r.text, r.at)
