@@ -43,6 +43,7 @@ const TESTS: &[&[Test]] = &[
     text::rooms::TESTS,
     text::broken::TESTS,
     text::mutated::TESTS,
+    text::places::TESTS,
     text::unwritten::TESTS,
     statistics::TESTS,
 ];

@@ -21,6 +21,8 @@ extern "C" {
         header_len: usize,
     ) -> u64;
 
+    fn harness_text_column(text: *const u8, text_len: usize) -> u64;
+
     fn harness_write_table(
         measure: u64,
         n: u64,
@@ -77,6 +79,14 @@ pub fn read_table(text: &[u8], room: &Table, header: &[u64]) -> Result<Reading, 
     let header = if written { head.guarded() } else { head.kept() };
     text.kept().and(columns).and(header).map_err(|wrong| format!("read_table, {wrong}"))?;
     Ok(Reading { result, columns: lent.table(room.n), header: head.values().to_vec() })
+}
+
+/// The column at which a text is refused, 0 if it is not.
+pub fn text_column(text: &[u8]) -> Result<u64, String> {
+    let mut text = Column::lend("text", text);
+    let column = unsafe { harness_text_column(text.pointer(), text.len()) };
+    text.kept().map_err(|wrong| format!("text_column, {wrong}"))?;
+    Ok(column)
 }
 
 /// The result, and the room as the call leaves it.

@@ -1,7 +1,8 @@
 //! One case of reading or writing a text, judged by the tests' own reader and writer, and the rooms
 //! that are lent for it.
 
-use crate::calls::texts::{read_table, write_table, HEADER};
+use crate::calls::texts::{read_table, text_column, write_table, HEADER};
+use crate::model::places::place;
 use crate::model::text::*;
 use crate::model::*;
 use crate::random::Rng;
@@ -39,11 +40,20 @@ pub fn reads(text: &[u8], rng: &mut Rng) -> Verdict {
     reads_into(text, &room, &header)
 }
 
-/// Holds if reading returns, writes and leaves alone what it should; a text that is accepted must
-/// be given back by writing.
+/// Holds if a text is refused at this line and column, and a permitted one, which has no place, is
+/// not refused.
+pub fn refused_at(text: &[u8], place: Option<(u64, u64)>) -> Verdict {
+    let (line, column) = place.unwrap_or((0, 0));
+    expect("the line found by the tests' own reader", parse(text).err().unwrap_or(0), line)?;
+    expect("text_column", text_column(text)?, column)
+}
+
+/// Holds if reading returns, writes and leaves alone what it should, and refuses a broken text at
+/// its place; a text that is accepted must be given back by writing.
 pub fn reads_into(text: &[u8], room: &Table, header: &[u64]) -> Verdict {
     let parsed = parse(text);
     let verdict = || {
+        refused_at(text, place(text))?;
         let reading = read_table(text, room, header)?;
         expect("read_table", reading.result, read_result(&parsed, room))?;
         let (measure, table) = match parsed {

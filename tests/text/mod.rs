@@ -5,6 +5,7 @@ pub mod broken;
 pub mod checks;
 pub mod lines;
 pub mod mutated;
+pub mod places;
 pub mod rooms;
 pub mod unwritten;
 

@@ -44,8 +44,8 @@ impl Tried {
     }
 }
 
-/// Small texts in which every kind of line and the bounds of each number occur.
-fn small() -> Vec<Vec<u8>> {
+/// Small permitted texts in which every kind of line and the bounds of each number occur.
+pub fn small() -> Vec<Vec<u8>> {
     let sixteen = format!("parts 2\n0 9{}\n", " 1".repeat(16));
     let texts = [
         WORKED,
