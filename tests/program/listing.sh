@@ -75,18 +75,36 @@ prints 'a part at the ceiling and one over it, in days' "$work/chain" <"$work/ch
 
 # 14 ---------------------------------------------------------------------------------------------------------------------------------------
 
-refuses 'an empty input' 14 1 ''
-refuses 'a word for cost' 14 1 'parts 5 cost\n'
-refuses 'a head that is no part, in text line 2' 14 2 'parts 1\n1 0\n'
-refuses 'a leading zero in text line 3' 14 3 'parts 2\n0 5\n1 05\n1 9\n'
-refuses 'a last line without its LF' 14 3 'parts 5\n0 1200\n1 300'
-refuses 'an LF too many' 14 3 'parts 1\n0 5\n\n'
-refuses 'a dash without a figure' 14 3 'parts 2\n0 5\n1 -\n1 9\n'
-refuses 'a dash and a space' 14 2 'parts 9\n0 - 5\n'
-refuses 'two dashes' 14 2 'parts 1\n0 --5\n'
-refuses 'a leading zero behind a dash' 14 2 'parts 1\n0 -05\n'
-refuses 'a figure above the greatest behind a dash' 14 2 'parts 1\n0 -1000000001\n'
-refuses 'a figure above the greatest' 14 2 'parts 1\n0 1000000001\n'
+refuses 'an empty input' 1 1 ''
+refuses 'an LF alone' 1 1 '\n'
+refuses 'another first word' 1 5 'part 5\n'
+refuses 'a first line without its LF' 1 8 'parts 5'
+refuses 'a leading zero in n' 1 8 'parts 05\n'
+refuses 'n above 1,024' 1 10 'parts 1025\n'
+refuses 'a word for cost' 1 9 'parts 5 cost\n'
+refuses 'a head that is no part, in text line 2' 2 1 'parts 1\n1 0\n'
+refuses 'a leading zero in text line 3' 3 4 'parts 2\n0 5\n1 05\n1 9\n'
+refuses 'a last line without its LF' 3 6 'parts 5\n0 1200\n1 300'
+refuses 'an LF too many' 3 1 'parts 1\n0 5\n\n'
+refuses 'a dash without a figure' 3 4 'parts 2\n0 5\n1 -\n1 9\n'
+refuses 'a dash and a space' 2 4 'parts 9\n0 - 5\n'
+refuses 'two dashes' 2 4 'parts 1\n0 --5\n'
+refuses 'a leading zero behind a dash' 2 5 'parts 1\n0 -05\n'
+refuses 'a figure above the greatest behind a dash' 2 13 'parts 1\n0 -1000000001\n'
+refuses 'a figure above the greatest' 2 12 'parts 1\n0 1000000001\n'
+refuses 'a head alone' 2 2 'parts 5\n0\n'
+refuses 'a head alone at the end' 3 2 'parts 5\n0 1\n0'
+refuses 'two spaces' 2 5 'parts 5\n0 5  1\n'
+refuses 'a needed part that is none' 2 5 'parts 5\n0 5 9\n'
+refuses 'a byte 0' 2 4 'parts 5\n0 5\0000\n'
+refuses 'any line of no parts' 2 1 'parts 0\n0 0\n'
+seventeen=$(printf ' 1%.0s' {1..17})
+refuses 'the space before a 17th part' 2 36 "parts 5\\n0 5$seventeen\\n"
+refuses 'the longest line before its fault' 2 97 "parts 1024\\n1023 -1000000000$(printf ' 1023%.0s' {1..16}) 0\\n"
+{ echo 'parts 1'; yes "0 7$(printf ' 0%.0s' {1..16})" | head -n 1024; echo '0 7 0'; } >"$work/text"
+prints 'the space before the 16,385th part' "$work/text" <<<'refused 14 1026 4'
+{ echo 'parts 1'; yes '0 7' | head -n 4097; } >"$work/text"
+prints 'a 4,097th line' "$work/text" <<<'refused 14 4098 1'
 
 # the mistakes of docs/FORMAT.md, with the refusal that each is said to get
 tried=0

@@ -17,25 +17,26 @@ END
 # Refusals: the file's name, what docs/REFUSALS.md says of the number, and the line made visible -----------------------------------------------
 
 fourteen=$(cell 14 3)
-price 'price explains a refusal' 1 "price: examples/broken.parts, line 4: $fourteen*line 4 is 2 500 0 9<LF>*$(cell 14 5)" examples/broken.parts <<<'refused 14 4'
+price 'price explains a refusal' 1 "price: examples/broken.parts, line 4, column 9: $fourteen*line 4 is 2 500 0 9<LF>*$(cell 14 5)" \
+    examples/broken.parts <<<'refused 14 4 9'
 price 'price explains 17' 1 "price: $work/long: $(cell 17 3)*$(cell 17 5)" "$work/long" <<<'refused 17 0'
 
-# shows NAME PLACE LINE TEXT: of the text, refused at that line, the line is shown so
+# shows NAME LINE COLUMN SHOWN TEXT: of the text, refused there, the line is shown so
 shows() {
-    printf '%b' "$4" >"$work/text"
-    price "price shows $1" 1 "price: $work/text, line $2: $fourteen*line $2 is $3
-*" "$work/text" <<<"refused 14 $2"
+    printf '%b' "$5" >"$work/text"
+    price "price shows $1" 1 "price: $work/text, line $2, column $3: $fourteen*line $2 is $4
+*" "$work/text" <<<"refused 14 $2 $3"
 }
-shows 'a CR' 1 'parts 1<CR><LF>' 'parts 1\r\n0 5\r\n'
-shows 'a tab' 2 '0<tab>5<LF>' 'parts 1\n0\t5\n'
-shows 'a byte order mark' 1 '<byte order mark>parts 1<LF>' '\xEF\xBB\xBFparts 1\n0 5\n'
-shows 'a space at the end' 2 '0 5 <LF>' 'parts 1\n0 5 \n'
-shows 'a blank line' 2 '<LF>' 'parts 1\n\n0 5\n'
-shows 'a missing LF' 2 '0 5<end>' 'parts 1\n0 5'
-shows 'an empty file' 1 '<end>' ''
-shows 'bytes that are no ASCII' 2 '0<C2><A0>5<00><7F><LF>' 'parts 1\n0\xC2\xA05\0000\x7F\n'
-shows 'a backslash and a percent sign' 2 '0 \\n%s\\%d<LF>' 'parts 1\n0 \\n%s\\%d\n'
-shows 'a long line' 2 "0 $(printf '9%.0s' {1..158})..." "parts 1\n0 $(printf '9%.0s' {1..300})\n"
+shows 'a CR' 1 8 'parts 1<CR><LF>' 'parts 1\r\n0 5\r\n'
+shows 'a tab' 2 2 '0<tab>5<LF>' 'parts 1\n0\t5\n'
+shows 'a byte order mark' 1 1 '<byte order mark>parts 1<LF>' '\xEF\xBB\xBFparts 1\n0 5\n'
+shows 'a space at the end' 2 5 '0 5 <LF>' 'parts 1\n0 5 \n'
+shows 'a blank line' 2 1 '<LF>' 'parts 1\n\n0 5\n'
+shows 'a missing LF' 2 4 '0 5<end>' 'parts 1\n0 5'
+shows 'an empty file' 1 1 '<end>' ''
+shows 'bytes that are no ASCII' 2 2 '0<C2><A0>5<00><7F><LF>' 'parts 1\n0\xC2\xA05\0000\x7F\n'
+shows 'a backslash and a percent sign' 2 3 '0 \\n%s\\%d<LF>' 'parts 1\n0 \\n%s\\%d\n'
+shows 'a long line' 2 12 "0 $(printf '9%.0s' {1..158})..." "parts 1\n0 $(printf '9%.0s' {1..300})\n"
 
 # Where the table comes from -------------------------------------------------------------------------------------------------------------------
 
@@ -44,7 +45,7 @@ input=$work/worked price 'price reads -' 0 '' - <<<"$list"
 price 'price reads a pipe' 0 '' <(pieces) <<<"$list"
 ends 'price reads the end of a pipeline' 0 '' bash -c 'cat -- "$1" | bash price' - "$work/worked" <<<"$list"
 printf 'parts' >"$work/text"
-input=$work/text price 'price names standard input' 1 "price: standard input, line 1: $fourteen*line 1 is parts<end>*" - <<<'refused 14 1'
+input=$work/text price 'price names standard input' 1 "price: standard input, line 1, column 6: $fourteen*line 1 is parts<end>*" - <<<'refused 14 1 6'
 price 'price names a file that is missing' 2 'price: there is no file examples/missing.parts' examples/missing.parts </dev/null
 price 'price names a directory' 2 'price: examples is a directory, and a table is a file' examples </dev/null
 input=. price 'price reads no directory' 2 "*price: standard input can't be read" </dev/null

@@ -13,14 +13,14 @@ holds 'an input in pieces of three bytes' "printed $(shown "$work/printed")" [ "
 
 # A read that fails: nothing counts of what came before it, a whole table or a part of one.
 unread='listing: the input could not be read'
-input=. ends 'a standard input that can not be read' 0 "$unread" "$listing" <<<'refused 14 1'
-ends 'no standard input' 0 "$unread" bash -c 'exec "$1" <&-' - "$listing" <<<'refused 14 1'
+input=. ends 'a standard input that can not be read' 0 "$unread" "$listing" <<<'refused 14 1 1'
+ends 'no standard input' 0 "$unread" bash -c 'exec "$1" <&-' - "$listing" <<<'refused 14 1 1'
 for bytes in 0 1 8 15 22 40 "$(wc -c <"$work/worked")"; do
     input=$work/worked ends "a read that fails after $bytes bytes" 0 "$unread" \
-        env FAIL_AFTER="$bytes" LD_PRELOAD="$failing" "$listing" <<<'refused 14 1'
+        env FAIL_AFTER="$bytes" LD_PRELOAD="$failing" "$listing" <<<'refused 14 1 1'
 done
 input=$work/worked ends 'a read that would fail behind the end' 0 '' env FAIL_AFTER=1000 LD_PRELOAD="$failing" "$listing" <<<"$list"
-input=$work/full ends 'a read that fails after 65,535 bytes' 0 "$unread" env FAIL_AFTER=65535 LD_PRELOAD="$failing" "$listing" <<<'refused 14 1'
+input=$work/full ends 'a read that fails after 65,535 bytes' 0 "$unread" env FAIL_AFTER=65535 LD_PRELOAD="$failing" "$listing" <<<'refused 14 1 1'
 input=$work/long ends 'a read that would fail after 65,536 bytes' 0 '' env FAIL_AFTER=65536 LD_PRELOAD="$failing" "$listing" <<<'refused 17 0'
 
 # A write that fails. The pipe's reader has gone before anything is written.
