@@ -6,13 +6,15 @@ use mathlib.Core.List.{List, [], _∷_, _++_}
 use mathlib.Core.Bool.{Bool, true, false}
 use native.Mathlib.Omega.{arith}
 use native.Mathlib.Decide.{ℕ-discrete}
-use lib.ListN.{length, length-append}
-use lib.Dec.{ltb}
+use lib.ListN.{length, take, length-append}
+use lib.Seq.{length-take-le}
+use lib.Dec.{ltb, eqb}
 use borrow.Author.Tests.{ltb-true, ltb-false, ne-eqb}
 use Rattle.weights.specs.declared.Label.{Label}
 use Rattle.weights.specs.declared.Entry.{Entry}
 use Rattle.weights.specs.declared.Measure.{Measure}
 use Rattle.weights.specs.declared.State.{State}
+use Rattle.weights.specs.Choice.{pick}
 use Rattle.weights.specs.Figures.{over, isOver}
 use Rattle.weights.specs.Labels.{unmade, stateOf, entryOf}
 use Rattle.weights.specs.Measures.{algebra}
@@ -20,7 +22,7 @@ use Rattle.weights.proofs.Laws.{lawful, below-over}
 use Rattle.weights.proofs.Weighing.{weigh-within}
 use Rattle.refusal.specs.declared.Refusal.{Refusal}
 use Rattle.refusal.specs.declared.Acceptance.the-variants.{Accepted}
-use Rattle.refusal.specs.Refusals.{numberOf, placeOf}
+use Rattle.refusal.specs.Refusals.{numberOf, placeOf, columnOf}
 use Rattle.refusal.proofs.Refusals.{numbered}
 use Rattle.provenance.specs.Hypergraph.{Derivation, node, weight, weights, root}
 use Rattle.provenance.specs.Means.{Means, underivable, derivable}
@@ -32,15 +34,17 @@ use Rattle.columns.proofs.Accepted.{table-accepted}
 use Rattle.settle.specs.Settling.{answersOf}
 use Rattle.settle.proofs.Demands.{answers-fixpoint, answers-mean}
 use Rattle.text.specs.Tables.{Edge, Table}
-use Rattle.text.specs.Render.{digits}
+use Rattle.text.specs.Render.{digits, tailText}
 use Rattle.text.proofs.Digits.{pick-by}
-use Rattle.text.specs.Machine.{begun, withEdge, mayList, Parse, Whole, Wrong, parse}
+use Rattle.text.specs.Machine.{begun, withEdge, mayList, Parse, Whole, Wrong, begin, parse}
+use Rattle.text.specs.Bytes.{failingAt, columnFrom, columnOf as textColumn}
+use Rattle.text.proofs.Bytes.{survived-inside}
 use Rattle.reading.specs.declared.FirstLine.{FirstLine}
 use Rattle.reading.specs.declared.FirstLine.the-variants as first
 use Rattle.reading.specs.Lines.{firstLine, Row, Holds, Fails, rowAt, onRow, scanFrom, onFirst, scan}
 use Rattle.reading.proofs.Scanned.{scan-is-parse}
 use Rattle.writing.proofs.Widths.{width-one, width-more}
-use Rattle.report.specs.Report.{mostOutput, names, stateWord, row, rows, list, refusedWord, refusedLine}
+use Rattle.report.specs.Report.{mostOutput, names, stateWord, row, rows, list, refusedWord, refusedWith, refusedLine}
 
 -- Numbers ----------------------------------------------------------------------------------------------------------------------------------------
 
@@ -65,6 +69,10 @@ width-2 v h = width-below 1 v h
 pub width-4 : (v : ℕ) → v < 10_000 → length (digits v) ≤ 4
 unfolding tens
 width-4 v h = width-below 3 v h
+
+width-5 : (v : ℕ) → v < 100_000 → length (digits v) ≤ 5
+unfolding tens
+width-5 v h = width-below 4 v h
 
 width-13 : (v : ℕ) → v < 10_000_000_000_000 → length (digits v) ≤ 13
 unfolding tens
@@ -162,17 +170,46 @@ list-most a r n h = let w = rows-most a r n h in let l = length-append names (ro
 
 -- A refusal ------------------------------------------------------------------------------------------------------------------------------------
 
-pub refused-most : (r : Refusal) → placeOf r < 10_000 → length (refusedLine r) ≤ mostOutput
-unfolding refusedLine refusedWord
-refused-most r h =
-    let a : List ℕ = 32 ∷ digits (numberOf r) in
-    let b : List ℕ = 32 ∷ digits (placeOf r) in
+-- a number more, and the word before them all
+tail-one : (v : ℕ) (vs : List ℕ) → length (tailText (v ∷ vs)) ≡ 1 + length (digits v) + length (tailText vs)
+unfolding tailText
+tail-one v vs = let l = length-append (32 ∷ digits v) (tailText vs) in omega arith
+
+with-length : (ns : List ℕ) → length (refusedWith ns) ≡ 8 + length (tailText ns)
+unfolding refusedWith refusedWord
+with-length ns = let p = length-append refusedWord (tailText ns ++ 10 ∷ []) in let q = length-append (tailText ns) (10 ∷ []) in omega arith
+
+pub refused-most : (r : Refusal) → placeOf r < 10_000 → columnOf r < 100_000 → length (refusedLine r) ≤ mostOutput
+unfolding refusedLine tailText
+refused-most r h g =
     let k = numbered r in
-    let m = width-2 (numberOf r) (omega arith) in
-    let n = width-4 (placeOf r) h in
-    let p = length-append refusedWord a in
-    let q = length-append (refusedWord ++ a) b in
-    let s = length-append (refusedWord ++ a ++ b) (10 ∷ []) in
+    let a = numberOf r in
+    let b = placeOf r in
+    let c = columnOf r in
+    let m = width-2 a (omega arith) in
+    let n = width-4 b h in
+    let o = width-5 c g in
+    pick-by (λ (ns : List ℕ). length (refusedWith ns) ≤ mostOutput) (eqb c 0)
+    (λ _. let w = with-length (a ∷ b ∷ []) in let x = tail-one a (b ∷ []) in let y = tail-one b [] in omega arith)
+    (λ _. let w = with-length (a ∷ b ∷ c ∷ []) in let x = tail-one a (b ∷ c ∷ []) in let y = tail-one b (c ∷ []) in let z = tail-one c [] in omega arith)
+
+-- a column is at most the text's length and 1
+column-grows : (c : ℕ) (bs : List ℕ) → 0 < c → columnFrom c bs ≤ c + length bs
+unfolding columnFrom
+column-grows c [] h = omega arith
+column-grows c (b ∷ bs) h =
+    let x = pick (eqb b 10) 1 (suc c) in
+    let l : (0 < x) × (x ≤ suc c) = pick-by (λ (k : ℕ). (0 < k) × (k ≤ suc c)) (eqb b 10) (λ _. (omega arith, omega arith)) (λ _. (omega arith, omega arith)) in
+    let r = column-grows x bs (l .0) in
+    let m = l .1 in
+    omega arith
+
+pub column-most : (s : List ℕ) → textColumn s ≤ length s + 1
+unfolding textColumn
+column-most s =
+    let r = column-grows 1 (take (failingAt s) s) (omega arith) in
+    let l = length-take-le (failingAt s) s (survived-inside begin s) in
+    let i = survived-inside begin s in
     omega arith
 
 -- the text line of a refusal is the first, one of a hyperedge, or the one behind the last that may stand
@@ -182,7 +219,7 @@ PlacedLow (Wrong l) = l ≤ mostEdges + 2
 
 row-low : (t : Table) (R : Row) (rest : Table → ℕ → Parse) → length (t .edges) ≤ mostEdges → ((e : Edge) (next : ℕ) → PlacedLow (rest (withEdge t e) next)) → PlacedLow (onRow t R rest)
 row-low t (Holds e next) rest h k = k e next
-row-low t (Fails xs) rest h k = omega arith
+row-low t (Fails xs place) rest h k = omega arith
 
 scan-low : (left : ℕ) (s : List ℕ) (at : ℕ) (t : Table) → length (t .edges) + left ≤ mostEdges → PlacedLow (scanFrom left s at t)
 unfolding scanFrom
@@ -195,7 +232,7 @@ scan-low (suc left) s at t h =
 
 first-low : (s : List ℕ) (F : FirstLine) → PlacedLow (onFirst s F)
 first-low s (first.Read n m start) = scan-low mostEdges s start (begun n m) (omega arith)
-first-low s first.Wrong = omega arith
+first-low s (first.Wrong place) = omega arith
 
 pub wrong-low : (s : List ℕ) (l : ℕ) → parse s ≡ Wrong l → l ≤ mostEdges + 2
 unfolding scan

@@ -16,9 +16,10 @@ use Rattle.settle.specs.Settling.{answersOf}
 use Rattle.text.specs.Tables.{edgesFrom}
 use Rattle.text.specs.Render.{digitsOn, digits, word, firstWord as opened, measureText, header, markText, ownText, tailText, edgeText, edgesText, tableText, render}
 use Rattle.text.specs.Machine.{run, finish, parse}
+use Rattle.text.specs.Bytes.{survived, columnFrom, columnOf}
 use Rattle.text.specs.Worked.{costText, daysText}
 use Rattle.readtable.specs.Read.{readInto}
-use Rattle.report.specs.Report.{mostInput, names, stateWord, row, rows, list, refusedWord, refusedLine, listedAs, readInput, report}
+use Rattle.report.specs.Report.{mostInput, names, stateWord, row, rows, list, refusedWord, refusedWith, refusedLine, listedAs, readInput, report}
 use Rattle.report.proofs.Reports.{report-short, report-rendered}
 use Rattle.report.specs.Examples.{costList, daysList}
 
@@ -54,7 +55,7 @@ worked-days =
     let s : length (render Days worked) ≤ mostInput = let e = ap length rendered-days in omega arith in
     ap report (sym rendered-days) ∙ report-rendered Days worked accepted s ∙ listed-days
 
--- no byte: `refused 14 1`
-pub empty-refused : report [] ≡ 114 ∷ 101 ∷ 102 ∷ 117 ∷ 115 ∷ 101 ∷ 100 ∷ 32 ∷ 49 ∷ 52 ∷ 32 ∷ 49 ∷ 10 ∷ []
-unfolding run finish parse readInto readInput listedAs digitsOn digits refusedWord refusedLine
+-- no byte: `refused 14 1 1`
+pub empty-refused : report [] ≡ 114 ∷ 101 ∷ 102 ∷ 117 ∷ 115 ∷ 101 ∷ 100 ∷ 32 ∷ 49 ∷ 52 ∷ 32 ∷ 49 ∷ 32 ∷ 49 ∷ 10 ∷ []
+unfolding run finish parse survived columnFrom columnOf readInto readInput listedAs digitsOn digits tailText refusedWord refusedWith refusedLine
 empty-refused = report-short [] (omega arith)

@@ -30,7 +30,7 @@ short-prints input h (Whole u) e =
 short-prints input h (Wrong k) e =
     let n = wrong-unpermitted input k e in
     let u = report-unpermitted input h n in
-    subst (Prints input) (sym (u .1)) (Prints.wrong h n (u .0) (u .2))
+    subst (Prints input) (sym (u .2)) (Prints.wrong h n (u .0) (u .1) (u .3) (u .4))
 
 -- "The listing program reads this on standard input … and prints": for every input
 pub prints : (input : List ℕ) → Prints input (report input)

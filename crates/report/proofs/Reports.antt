@@ -6,14 +6,14 @@ use mathlib.Core.List.{List}
 use native.Mathlib.Omega.{arith}
 use lib.ListN.{length, replicate, length-replicate}
 use lib.Dec.{ltb}
-use borrow.Author.Tests.{lt-ltb, le-ltb}
+use borrow.Author.Tests.{lt-ltb, le-ltb, ltb-false}
 use Rattle.weights.specs.declared.Measure.{Measure}
 use Rattle.refusal.specs.declared.Refusal.the-variants.{Text, InputLength}
 use Rattle.refusal.specs.declared.Header.{Header}
 use Rattle.refusal.specs.declared.Acceptance.the-variants.{Accepted}
 use Rattle.refusal.specs.declared.Reading.{Reading}
 use Rattle.refusal.specs.declared.Reading.the-variants as reading
-use Rattle.refusal.specs.Refusals.{placeOf}
+use Rattle.refusal.specs.Refusals.{placeOf, columnOf}
 use Rattle.columns.specs.Columns.{Answers, Columns}
 use Rattle.provenance.specs.BestFirst.{blank}
 use Rattle.columns.specs.Acceptance.{mostEdges, mostListed, acceptance, lentAcceptance}
@@ -27,6 +27,7 @@ use Rattle.text.proofs.Digits.{pick-by}
 use Rattle.text.proofs.Rows.{closed-accepted, length-heads, length-owns, length-marks, length-spans, length-tails}
 use Rattle.text.proofs.Sound.{sound}
 use Rattle.text.specs.Permitted.{FirstWrong}
+use Rattle.text.specs.Bytes.{FirstByte}
 use Rattle.columns.proofs.Filled.{length-filled}
 use Rattle.reading.specs.Lines.{headerOf}
 use Rattle.readtable.specs.Read.{ReadOutcome, columnsRead, roomFor, readInto}
@@ -36,7 +37,7 @@ use Rattle.roundtrip.proofs.Refused.{unpermitted-is-refused}
 use Rattle.report.specs.Report.{mostInput, mostOutput, list, refusedLine, priced, listedAs, listed, readInput, report}
 use Rattle.report.specs.Pieces.{Lent}
 use Rattle.report.proofs.Closed.{answers-closed, filled-back}
-use Rattle.report.proofs.Bounds.{answers-ranged, list-most, refused-most, wrong-low}
+use Rattle.report.proofs.Bounds.{answers-ranged, list-most, refused-most, column-most, wrong-low}
 
 -- A table that was read ------------------------------------------------------------------------------------------------------------------------
 
@@ -75,29 +76,29 @@ report-short input h = rw (le-ltb mostInput (length input) h)
 
 -- Every output fits the room --------------------------------------------------------------------------------------------------------------------
 
--- the place that a reading tells
-abbrev placeIn : Reading → ℕ
-placeIn (reading.Table g) = 0
-placeIn (reading.Refused r) = placeOf r
+-- the place that a reading tells, line and column
+abbrev Low : Reading → Type 0
+Low (reading.Table g) = Unit {0}
+Low (reading.Refused r) = (placeOf r < 10_000) × (columnOf r < 100_000)
 
-place-low : (h o ms s t : List ℕ) (P : Parse) → ((l : ℕ) → P ≡ Wrong l → l ≤ mostEdges + 2) → placeIn (readInto P h o ms s t .answer) < 10_000
+place-low : (text h o ms s t : List ℕ) (P : Parse) → length text ≤ mostInput → ((l : ℕ) → P ≡ Wrong l → l ≤ mostEdges + 2) → Low (readInto text P h o ms s t .answer)
 unfolding readInto
-place-low h o ms s t (Wrong l) k = let m = k l refl in omega arith
-place-low h o ms s t (Whole u) k =
-    pick-by (λ (x : ReadOutcome). placeIn (x .answer) < 10_000) (roomFor (headerOf u) (length h) (length o) (length ms) (length s) (length t)) (λ _. omega arith) (λ _. omega arith)
+place-low text h o ms s t (Wrong l) short k = let m = k l refl in let c = column-most text in (omega arith, omega arith)
+place-low text h o ms s t (Whole u) short k =
+    pick-by (λ (x : ReadOutcome). Low (x .answer)) (roomFor (headerOf u) (length h) (length o) (length ms) (length s) (length t)) (λ _. tt) (λ _. (omega arith, omega arith))
 
-read-low : (input : List ℕ) → placeIn (readInput input .answer) < 10_000
+read-low : (input : List ℕ) → length input ≤ mostInput → Low (readInput input .answer)
 unfolding readInput
-read-low input = place-low _ _ _ _ _ (parse input) (λ l e. wrong-low input l e)
+read-low input short = place-low input _ _ _ _ _ (parse input) short (λ l e. wrong-low input l e)
 
-listed-fits : (input : List ℕ) → length (listed (readInput input)) ≤ mostOutput
-listed-fits input = go (readInput input .answer) refl
+listed-fits : (input : List ℕ) → length input ≤ mostInput → length (listed (readInput input)) ≤ mostOutput
+listed-fits input short = go (readInput input .answer) refl
   where
     go : (a : Reading) → readInput input .answer ≡ a → length (listed (readInput input)) ≤ mostOutput
     go (reading.Refused r) e =
         let q : listed (readInput input) ≡ refusedLine r = unfold listedAs in ap (λ (a : Reading). listedAs a (readInput input)) e in
-        let p = subst (λ (a : Reading). placeIn a < 10_000) e (read-low input) in
-        subst (λ (z : List ℕ). length z ≤ mostOutput) (sym q) (refused-most r p)
+        let p = subst Low e (read-low input short) in
+        subst (λ (z : List ℕ). length z ≤ mostOutput) (sym q) (refused-most r (p .0) (p .1))
     go (reading.Table g) e =
         let a = input-accepted input g e in
         let m =
@@ -107,7 +108,8 @@ listed-fits input = go (readInput input .answer) refl
 
 pub report-fits : (input : List ℕ) → length (report input) ≤ mostOutput
 unfolding report
-report-fits input = pick-by (λ (z : List ℕ). length z ≤ mostOutput) (ltb mostInput (length input)) (λ _. refused-most InputLength (omega arith)) (λ _. listed-fits input)
+report-fits input = pick-by (λ (z : List ℕ). length z ≤ mostOutput) (ltb mostInput (length input)) (λ _. refused-most InputLength (omega arith) (omega arith))
+    (λ e. listed-fits input (ltb-false mostInput (length input) e))
 
 -- The output of a text -------------------------------------------------------------------------------------------------------------------------
 
@@ -143,12 +145,13 @@ module _ (m : Measure) (c : Columns) (a : acceptance c ≡ Accepted) where
       ∙ ap (λ (z : Columns). list (answersOf m z) (c .vertices)) columns-back
       ∙ ap (λ (z : Answers). list z (c .vertices)) (answers-closed m c a)
 
--- of a text that is not permitted: 14, at the first line that breaks a rule
-pub report-unpermitted : (input : List ℕ) → length input ≤ mostInput → (Permitted input → ⊥) → (k : ℕ) × (report input ≡ refusedLine (Text (record { 0 = k }))) × FirstWrong input k
+-- of a text that is not permitted: 14, at the first line that breaks a rule, and at the first byte that can't stand where it stands
+pub report-unpermitted : (input : List ℕ) → length input ≤ mostInput → (Permitted input → ⊥)
+    → (k c : ℕ) × (report input ≡ refusedLine (Text (record { 0 = k }) (record { 0 = c }))) × FirstWrong input k × FirstByte input k c
 unfolding listedAs readInput
 report-unpermitted input h n =
     let u = unpermitted-is-refused input _ _ _ _ _ n in
-    (u .0, report-short input h ∙ ap listed (u .1), u .2)
+    (u .0, u .1, report-short input h ∙ ap listed (u .2), u .3, u .4)
 
 -- What the code asks ---------------------------------------------------------------------------------------------------------------------------
 

@@ -12,15 +12,18 @@ use Rattle.settle.specs.Settling.{answersOf}
 use Rattle.text.specs.Tables.{closed}
 use Rattle.text.specs.Render.{Permitted}
 use Rattle.text.specs.Permitted.{FirstWrong}
+use Rattle.text.specs.Bytes.{FirstByte}
 use Rattle.readtable.specs.Read.{ReadOutcome, columnsRead}
 use Rattle.roundtrip.specs.RoundTrip.{headerFor}
 use Rattle.report.specs.Report.{mostInput, list, refusedLine}
 
--- 17 for an input that is too long; the list of the answers of the table that a permitted text is of; 14 at the first line that breaks a rule
+-- 17 for an input that is too long; the list of the answers of the table that a permitted text is of; 14 at the first
+-- line that breaks a rule and the first byte that can't stand where it stands
 pub data Prints (input : List ℕ) : List ℕ → Type 0 where
   long : mostInput < length input → Prints input (refusedLine InputLength)
   listed : length input ≤ mostInput → (p : Permitted input) → Prints input (list (answersOf (p .measure) (p .table)) (p .table .vertices))
-  wrong : length input ≤ mostInput → ¬ Permitted input → (k : ℕ) → FirstWrong input k → Prints input (refusedLine (Text (record { 0 = k })))
+  wrong : length input ≤ mostInput → ¬ Permitted input → (k c : ℕ) → FirstWrong input k → FirstByte input k c
+      → Prints input (refusedLine (Text (record { 0 = k }) (record { 0 = c })))
 
 -- what was read is the table with its gaps closed, with the same measure, and has the same answers
 pub record ReadsBack (m : Measure) (c : Columns) (back : ReadOutcome) : Type 0 where

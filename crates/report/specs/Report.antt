@@ -3,7 +3,7 @@
 use Prim.Native.Nat.{ℕ, zero, suc, _*_}
 use mathlib.Core.List.{List, [], _∷_, _++_}
 use lib.ListN.{length, replicate}
-use lib.Dec.{ltb}
+use lib.Dec.{ltb, eqb}
 use Rattle.weights.specs.declared.State.{State}
 use Rattle.weights.specs.declared.State.the-variants.{Made, Over, Unmade}
 use Rattle.weights.specs.declared.Entry.{Entry}
@@ -15,12 +15,12 @@ use Rattle.refusal.specs.declared.Acceptance.{Acceptance}
 use Rattle.refusal.specs.declared.Acceptance.the-variants as answer
 use Rattle.refusal.specs.declared.Reading.{Reading}
 use Rattle.refusal.specs.declared.Reading.the-variants as reading
-use Rattle.refusal.specs.Refusals.{numberOf, placeOf}
+use Rattle.refusal.specs.Refusals.{numberOf, placeOf, columnOf}
 use Rattle.columns.specs.Columns.{Answers}
 use Rattle.provenance.specs.BestFirst.{labels, blank}
 use Rattle.columns.specs.Acceptance.{mostEdges, mostListed}
 use Rattle.settle.specs.Settling.{SettleOutcome, settled}
-use Rattle.text.specs.Render.{digits}
+use Rattle.text.specs.Render.{digits, tailText}
 use Rattle.readtable.specs.Read.{ReadOutcome, columnsRead, readTable}
 
 -- the most bytes of an input; one more is refused by 17
@@ -61,9 +61,16 @@ list a n = names ++ rows a n
 unfoldable pub refusedWord : List ℕ
 refusedWord = 114 ∷ 101 ∷ 102 ∷ 117 ∷ 115 ∷ 101 ∷ 100 ∷ []
 
--- `refused`, number, place
+-- the word and numbers, a single space before each, and an LF
+unfoldable pub refusedWith : List ℕ → List ℕ
+refusedWith ns = refusedWord ++ (tailText ns ++ 10 ∷ [])
+
+-- number and place; document 02, 2026-06, of 14: "The program prints both as the place", line and column, which count from 1
+abbrev pub numbersOf : Refusal → List ℕ
+numbersOf r = pick (eqb (columnOf r) 0) (numberOf r ∷ placeOf r ∷ []) (numberOf r ∷ placeOf r ∷ columnOf r ∷ [])
+
 unfoldable pub refusedLine : Refusal → List ℕ
-refusedLine r = refusedWord ++ (32 ∷ digits (numberOf r)) ++ (32 ∷ digits (placeOf r)) ++ 10 ∷ []
+refusedLine r = refusedWith (numbersOf r)
 
 -- The whole --------------------------------------------------------------------------------------------------------------------------------------
 

@@ -22,7 +22,7 @@ ghost use Rattle.settle.specs.Settling.{settled};
 ghost use Rattle.text.specs.Render.{digits};
 ghost use Rattle.columns.specs.Filled.{filled};
 ghost use Rattle.writing.specs.Written.{Written};
-ghost use Rattle.report.specs.Report.{stateWord, row, rows, list, refusedLine, priced, report};
+ghost use Rattle.report.specs.Report.{stateWord, row, rows, list, refusedWith, refusedLine, priced, report};
 ghost use Rattle.report.specs.Pieces.{Lent, lentColumns};
 
 // The most bytes of an input.
@@ -98,17 +98,30 @@ fn put_list(room: &mut [u8], weights: &[u64], depths: &[u64], edges: &[u64]) -> 
     at + width
 }
 
-// The line of a refusal.
+// The word of a refusal and its numbers, each behind a space.
+fn put_numbers(room: &mut [u8], numbers: &[u64]) -> usize
+    requires { ⌜ length (refusedWith (now numbers)) ≤ length (now room) ⌝ }
+    ensures { λ r. ⌜ Written (refusedWith (now (numbers .entry))) (now (room .entry)) r (now (room .exit)) ⌝ }
+{
+    let at = put_bytes(room, b"refused");
+    let width = put_tail(&mut room[at..], numbers);
+    at + width
+}
+
+// The line of a refusal: the place of 14 is line and column, that of any other one number.
 fn put_refused(room: &mut [u8], refusal: Refusal) -> usize
     requires { ⌜ length (refusedLine refusal) ≤ length (now room) ⌝ }
     ensures { λ r. ⌜ Written (refusedLine refusal) (now (room .entry)) r (now (room .exit)) ⌝ }
 {
     let number = refusal.number();
     let place = refusal.place();
-    let numbers = [number, place];
-    let at = put_bytes(room, b"refused");
-    let width = put_tail(&mut room[at..], &numbers);
-    at + width
+    let column = refusal.column();
+    if column == 0 {
+        let numbers = [number, place];
+        return put_numbers(room, &numbers);
+    }
+    let numbers = [number, place, column];
+    put_numbers(room, &numbers)
 }
 
 // A table is settled into the answer columns and listed.

@@ -1,60 +1,57 @@
--- `report::put_refused` meets its contract: the word, and the numbers in the room behind it. Assumes nothing.
-use mathlib.Core.Path.{_≡_, sym, _∙_, ap, ap₂}
-use mathlib.Core.List.{List, [], _∷_, _++_}
+-- `report::put_refused` meets its contract, by whether the refusal has a column. Assumes nothing.
+use mathlib.Core.Path.{_≡_, sym, subst}
+use mathlib.Core.List.{List, [], _∷_}
 use Prim.Native.Nat.{ℕ, _≤_}
-use native.Mathlib.Omega.{arith}
 use borrow.Author.Needs.{needs}
 use lib.ListN.{length}
-use Rattle.text.specs.Render.{tailText}
-use Rattle.writing.proofs.Written.{lent-room, within, written-part, written-as, first-fits}
-use Rattle.report.specs.Report.{refusedWord, refusedLine}
-use Rattle.report.proofs.Pieces.{refused-split}
+use Rattle.writing.proofs.Written.{written-as}
+use Rattle.report.specs.Report.{refusedWith, refusedLine}
+use Rattle.report.proofs.Pieces.{refused-two, refused-three}
 use Rattle.report.proofs.put_refused.Statement.{statement}
 use Rattle.report.proofs.put_refused.Tie as tie
 
--- the piece behind the word
-abbrev back : tie.After-place → List ℕ
-back s = tailText (s .before .number .result ∷ s .place .result ∷ []) ++ 10 ∷ []
+-- what is to be written
+two : (c : tie.Then1) →
+    let n = c .before .before .before in
+    refusedLine (n .before .before .args .refusal) ≡ refusedWith (n .number .result ∷ c .before .before .place .result ∷ [])
+two c =
+    let k = c .before in
+    let p = k .before in
+    let n = p .before in
+    refused-two (n .before .before .args .refusal) (n .number .result) (p .place .result) (k .column .result) (n .number .ensures) (p .place .ensures) (k .column .ensures) (c .if1 .taken)
 
--- the line in both pieces, and they have room
-split : (c : tie.After-place) → refusedLine (c .before .before .before .args .refusal) ≡ refusedWord ++ back c
-split c = refused-split (c .before .before .before .args .refusal) ∙ ap₂ (λ (a b : ℕ). refusedWord ++ (tailText (a ∷ b ∷ []) ++ 10 ∷ [])) (sym (c .before .number .ensures)) (sym (c .place .ensures))
+three : (c : tie.Else1) →
+    let n = c .before .before .before in
+    refusedLine (n .before .before .args .refusal) ≡ refusedWith (n .number .result ∷ c .before .before .place .result ∷ c .before .column .result ∷ [])
+three c =
+    let k = c .before in
+    let p = k .before in
+    let n = p .before in
+    refused-three (n .before .before .args .refusal) (n .number .result) (p .place .result) (k .column .result) (n .number .ensures) (p .place .ensures) (k .column .ensures) (c .if1 .left)
 
-whole : (c : tie.After-place) → length (refusedWord ++ back c) ≤ length (c .before .before .before .args .room .now)
-whole c = let e = ap length (split c) in let p = c .before .before .before .pre in omega arith
-
-put-bytes-requires : tie.Need-put-bytes-requires
-unfolding refusedWord
-put-bytes-requires c κs = let s = c .before .before in first-fits refusedWord (back s) (s .before .before .before .args .room .now) (whole s)
-
-sub-put-tail : tie.Need-sub-put-tail
-unfolding refusedWord
-sub-put-tail c = let s = c .before .before .before .before .before in within refusedWord _ _ _ (c .before .before .put-bytes .ensures) (back s) (whole s)
-
-part-put-tail-start : tie.Need-part-put-tail-start
-part-put-tail-start c = let r = sub-put-tail c in search (needs, r)
-
-put-tail-requires : tie.Need-put-tail-requires
-unfolding refusedWord
-put-tail-requires c κs = let k = c .before .before in let s = k .before .before .before .before .before in lent-room refusedWord _ _ _ (k .before .before .put-bytes .ensures) (back s) (whole s)
+put-numbers-requires : tie.Need-put-numbers-requires
+put-numbers-requires c κs =
+    let t = c .before .before in
+    let s = t .before .before .before .before .before in
+    subst (λ (z : List ℕ). length z ≤ length (s .args .room .now)) (two t) (s .pre)
 
 returns : tie.Need-returns
-unfolding refusedWord
-returns c =
-    let p = c .before .before in
-    let k = p .before .before .before in
-    let s = k .before .before .before .before .before in
-    written-as _ _ _ (sym (split s)) (written-part refusedWord _ _ _ (k .before .before .put-bytes .ensures) (back s) _ _ (whole s) (p .put-tail .ensures))
-
-add-result : tie.Need-add-result
-add-result c =
-    let s = c .before .before .before .before .before .before .before .before .before .before .before .before .before in
-    let n = returns c .count in
-    let w = s .pre in
-    omega (arith, s .good)
+returns c = written-as _ _ _ (sym (two (c .before .before .before .before .before))) (c .before .before .put-numbers .ensures)
 
 same-length : tie.Need-same-length
 same-length c = returns c .long
+
+put-numbers-requires-2 : tie.Need-put-numbers-requires-2
+put-numbers-requires-2 c κs =
+    let t = c .before .before in
+    let s = t .before .before .before .before .before in
+    subst (λ (z : List ℕ). length z ≤ length (s .args .room .now)) (three t) (s .pre)
+
+returns-2 : tie.Need-returns-2
+returns-2 c = written-as _ _ _ (sym (three (c .before .before .before .before .before))) (c .before .before .put-numbers2 .ensures)
+
+same-length-2 : tie.Need-same-length-2
+same-length-2 c = returns-2 c .long
 
 pub put-refused-spec : {M : Type 1} → statement M
 put-refused-spec =
@@ -62,13 +59,12 @@ put-refused-spec =
     (tie.spec
     (λ c κs. search needs)
     (λ c κs. search needs)
+    (λ c κs. search needs)
     (λ c. search needs)
-    put-bytes-requires
-    sub-put-tail
-    part-put-tail-start
-    (λ c. search needs)
-    (λ c. search needs)
-    put-tail-requires
-    add-result
+    put-numbers-requires
     same-length
-    returns)
+    returns
+    (λ c. search needs)
+    put-numbers-requires-2
+    same-length-2
+    returns-2)
