@@ -9,3 +9,4 @@ pub mod Request02
 pub mod Request03
 pub mod Request04
 pub mod Request05
+pub mod Request06

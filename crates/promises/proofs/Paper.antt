@@ -223,13 +223,13 @@ module _ (text h o ms s t : List ℕ) (g : Header) (p : readTable text h o ms s 
 
 -- A table priced whole ---------------------------------------------------------------------------------------------------------------------------------------------
 
--- what the listing program prints of an input: 17 if it is too long, the list if it is permitted, 14 at the first line that breaks a rule
+-- what the listing program prints of an input: 17 if it is too long, the list if it is permitted, 14 at the first line that breaks a rule, with its column
 pub program-prints : (input : List ℕ) → Prints input (report input)
 program-prints = prints
 
 -- and a list is printed only of an input that was read to its end
 pub program-reads-all : (input : List ℕ) (last : ℤ) → Ended (length input) last
-    → (printed input last ≡ refusedLine (Text (record { 0 = 1 }))) ⊎ ((printed input last ≡ refusedLine InputLength) ⊎ ((last ≡ pos 0) × (printed input last ≡ report input)))
+    → (printed input last ≡ refusedLine (Text (record { 0 = 1 }) (record { 0 = 1 }))) ⊎ ((printed input last ≡ refusedLine InputLength) ⊎ ((last ≡ pos 0) × (printed input last ≡ report input)))
 program-reads-all = whole-reported
 
 -- the worked text and its list, byte for byte, in cost and in days

@@ -29,6 +29,7 @@ use Rattle.text.specs.Tables.{listedInAll}
 use Rattle.text.specs.Render.{word, firstWord, Permitted}
 use Rattle.text.specs.Worked.{costText}
 use Rattle.text.specs.Machine.{limit, lineAt, digitOf, grown, instead, after, spell, ended, step, run, finish, parse}
+use Rattle.text.specs.Bytes.{survived, columnFrom, columnOf}
 use Rattle.text.proofs.Permitted.{wrong-unpermitted}
 use Rattle.readtable.specs.Read.{roomFor, readInto, readTable}
 use Rattle.report.specs.Report.{refusedLine, report}
@@ -107,9 +108,9 @@ pub refusal-13 : billed Cost worked (with-figure 2600) 3 (0 ∷ 0 ∷ 0 ∷ 0 �
 unfolding billed billAcceptance partAcceptance billOf bill bills sameAnswers equal lentAcceptance acceptance edgesAcceptance edgeAcceptance allBelow
 refusal-13 = rw priced refl
 
--- "empty text, place 1"
-pub refusal-14 : readTable [] [] [] [] [] [] .answer ≡ reading.Refused (Text (record { 0 = 1 }))
-unfolding run finish parse readInto
+-- "empty text, place 1"; "For the empty text it is line 1, column 1" (document 02, 2026-06)
+pub refusal-14 : readTable [] [] [] [] [] [] .answer ≡ reading.Refused (Text (record { 0 = 1 }) (record { 0 = 1 }))
+unfolding run finish parse survived columnFrom columnOf readInto
 refusal-14 = refl
 
 -- "`parts 5 cost` is refused"
