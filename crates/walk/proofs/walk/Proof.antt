@@ -11,7 +11,7 @@ use Rattle.text.specs.Machine.{Parse, Whole, Wrong, parse}
 use Rattle.reading.specs.Lines.{scan}
 use Rattle.reading.proofs.Scanned.{scan-is-parse}
 use Rattle.reading.proofs.Scanning.{Scanning, scan-unopened, scan-begun, scan-full, scan-end}
-use Rattle.reading.proofs.Laws.{line-wrong, line-next}
+use Rattle.reading.proofs.Laws.{line-refused, line-next}
 use Rattle.walk.specs.Walked.{walkedOf}
 use Rattle.walk.proofs.walk.Statement.{statement}
 use Rattle.walk.proofs.walk.Tie as tie
@@ -30,7 +30,7 @@ enum-told : tie.Need-enum-told Inv-loop μ-loop
 enum-told c = search needs
 
 returns : tie.Need-returns Inv-loop μ-loop
-returns c = told _ (Wrong 1) (scan-unopened _ (sym (c .before .before .first-line .ensures) ∙ c .enum-told .given .1))
+returns c = told _ (Wrong 1) (scan-unopened _ _ (sym (c .before .before .first-line .ensures) ∙ c .enum-told .given .1))
 
 loop-holds : tie.Need-loop-holds Inv-loop μ-loop
 loop-holds c = (_, scan-begun _ _ _ _ (sym (c .before .before .before .first-line .ensures) ∙ c .before .first .given .1))
@@ -49,7 +49,8 @@ returns-3 c =
     let a = c .before .before in
     let e = a .before in
     let l = e .before .before in
-    told _ (Wrong (l .loop .edges + 2)) (line-wrong _ _ _ _ _ _ (l .loop .inv .1) (e .before .loop-test .taken) (e .if1 .left) longestTail refl _ (a .line-from .ensures) (c .enum-told2 .given .1))
+    let r = line-refused _ _ _ _ _ _ (l .loop .inv .1) (e .before .loop-test .taken) (e .if1 .left) longestTail refl _ (a .line-from .ensures) _ (c .enum-told2 .given .1) in
+    ap walkedOf (sym (r .wrong))
 
 -- a line was read
 next-line : (c : tie.After-known-told2 Inv-loop μ-loop) →
