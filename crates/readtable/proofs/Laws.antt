@@ -90,7 +90,8 @@ module _ (s : List ℕ) (n : ℕ) where
       more : List ℕ → ℕ → Listing
       more us j = listedFrom left s n j us
 
-      found : (stop : ℕ) (F : Found) → onVertex xs stop F more ≡ Ends ys next → ((v j : ℕ) → listedFrom left s n j (xs ++ v ∷ []) ≡ Ends ys next → length (xs ++ v ∷ []) ≤ length ys) → length xs ≤ length ys
+      found : (stop : ℕ) (F : Found) → onVertex xs stop F more ≡ Ends ys next
+          → ((v j : ℕ) → listedFrom left s n j (xs ++ v ∷ []) ≡ Ends ys next → length (xs ++ v ∷ []) ≤ length ys) → length xs ≤ length ys
       found j (Number v) q k = let l = k v j q in let m = length-append xs (v ∷ []) in omega arith
       found j NotANumber q k = absurd (no-ends q)
 

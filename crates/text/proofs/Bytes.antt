@@ -130,9 +130,10 @@ pub first-byte-unique : (s : List ℕ) {l c l′ c′ : ℕ} → FirstByte s l c
 first-byte-unique s p q =
     let a = not-before s p q in
     let b = not-before s q p in
-    let e : p .at ≡ q .at = omega arith in
-    (p .line-is ∙ ap (λ (k : ℕ). lineAfter (take k s)) e ∙ sym (q .line-is),
-      p .column-is ∙ ap (λ (k : ℕ). columnAfter (take k s)) e ∙ sym (q .column-is))
+    let e : p .at ≡ q .at = omega arith in (
+      p .line-is ∙ ap (λ (k : ℕ). lineAfter (take k s)) e ∙ sym (q .line-is),
+      p .column-is ∙ ap (λ (k : ℕ). columnAfter (take k s)) e ∙ sym (q .column-is),
+    )
 
 -- a text that is not permitted and begins a permitted one does not end in LF: one past its last byte is in that byte's line
 ends-whole : (σ τ : State) (s : List ℕ) → run begin (s ++ 10 ∷ []) ≡ τ → Moved σ 10 τ → (Permitted (s ++ 10 ∷ []) → ⊥) → Begins (s ++ 10 ∷ []) → ⊥

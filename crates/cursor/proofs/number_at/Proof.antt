@@ -20,7 +20,8 @@ returns : tie.Need-returns Inv-loop μ-loop
 returns c = c .no-number .ensures ∙ (number-end _ _ _ (c .before .if1 .taken))
 
 returns-2 : tie.Need-returns-2 Inv-loop μ-loop
-returns-2 c = c .no-number2 .ensures ∙ (let a = c .before .before .before .before .before .before .args in number-none (a .text .now) (a .at) (a .limit) _ (omega arith) (c .before .before .digit .ensures) (c .before .if2 .taken))
+returns-2 c = c .no-number2 .ensures ∙ (let a = c .before .before .before .before .before .before .args in
+    number-none (a .text .now) (a .at) (a .limit) _ (omega arith) (c .before .before .digit .ensures) (c .before .if2 .taken))
 
 returns-3 : tie.Need-returns-3 Inv-loop μ-loop
 returns-3 c = c .no-number3 .ensures ∙ (let a = c .before .before .before .before .before .before .before .args in
