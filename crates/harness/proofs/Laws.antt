@@ -1,5 +1,5 @@
 -- The laws by which the exports go: by the measure's number, and of a room of three places. Assumes nothing.
-use mathlib.Core.Path.{_≡_, refl, _∙_, ap}
+use mathlib.Core.Path.{_≡_, refl, sym, _∙_, ap}
 use mathlib.Core.List.{List, [], _∷_}
 use Prim.Native.Nat.{ℕ}
 use native.Mathlib.Omega.{arith}
@@ -19,7 +19,7 @@ use Rattle.refusal.specs.declared.Verdict.{Verdict}
 use Rattle.refusal.specs.declared.Extent.{Extent}
 use Rattle.refusal.specs.declared.MeasureChoice.{MeasureChoice}
 use Rattle.refusal.specs.declared.MeasureChoice.the-variants as choice
-use Rattle.refusal.specs.Refusals.{codeOf, resultOf, acceptanceResult, verdictResult, extentResult}
+use Rattle.refusal.specs.Refusals.{codeOf, columnOf, resultOf, acceptanceResult, verdictResult, extentResult}
 use Rattle.statistics.specs.declared.Moments.{Moments}
 use Rattle.statistics.specs.declared.Summary.{Summary}
 use Rattle.statistics.specs.declared.Summary.the-variants as summary
@@ -32,6 +32,7 @@ use Rattle.append.specs.Appending.{leaves, appended}
 use Rattle.readtable.specs.Read.{ReadOutcome, readOutcome}
 use Rattle.writetable.specs.Write.{writeTable}
 use Rattle.harness.specs.Results.{
+  textColumn,
   checkedResult,
   markResult,
   strickenResult,
@@ -110,6 +111,14 @@ module _ {x : ReadOutcome} (room : List ℕ) {h o m s t : List ℕ} {a : Reading
 
   pub read-table : {u : Header} {room′ : List ℕ} → a ≡ reading.Table u → room′ ≡ headerWritten u room → readLeft 0 h o m s t room′ ≡ readResult x room
   read-table p q = rw (← e, p, q)
+
+-- the column of a text, by what checking it answers
+module _ {a b : Reading} (e : a ≡ b) where
+  pub text-refused : {r : Refusal} {n : ℕ} → a ≡ reading.Refused r → n ≡ columnOf r → n ≡ textColumn b
+  text-refused p q = q ∙ ap textColumn (sym p ∙ e)
+
+  pub text-table : {h : Header} → a ≡ reading.Table h → 0 ≡ textColumn b
+  text-table p = ap textColumn (sym p ∙ e)
 
 module _ {o : MeasureChoice} (c : Columns) (room : List ℕ) {n : ℕ} where
   pub write-refused : {r : Refusal} → o ≡ choice.Refused r → n ≡ resultOf (codeOf r) → record { result = n; left = room } ≡ writtenResult o c room

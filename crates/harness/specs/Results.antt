@@ -17,7 +17,7 @@ use Rattle.refusal.specs.declared.Reading.{Reading}
 use Rattle.refusal.specs.declared.Reading.the-variants as reading
 use Rattle.refusal.specs.declared.MeasureChoice.{MeasureChoice}
 use Rattle.refusal.specs.declared.MeasureChoice.the-variants.{Measure, Refused}
-use Rattle.refusal.specs.Refusals.{codeOf, resultOf, acceptanceResult, verdictResult, extentResult, readingResult}
+use Rattle.refusal.specs.Refusals.{codeOf, columnOf, resultOf, acceptanceResult, verdictResult, extentResult, readingResult}
 use Rattle.statistics.specs.declared.Moments as moments
 use Rattle.statistics.specs.declared.Summary.{Summary}
 use Rattle.statistics.specs.declared.Summary.the-variants as summary
@@ -90,6 +90,11 @@ readingHeader (reading.Refused r) room = room
 
 abbrev pub readResult : ReadOutcome → List ℕ → ReadLeft
 readResult x room = readLeft (readingResult (x .answer)) (x .heads) (x .own) (x .strikes) (x .spans) (x .tails) (readingHeader (x .answer) room)
+
+-- the column of a text that is refused
+abbrev pub textColumn : Reading → ℕ
+textColumn (reading.Table h) = 0
+textColumn (reading.Refused r) = columnOf r
 
 abbrev pub writeResult : WriteOutcome → LeftRoom
 writeResult x = record { result = extentResult (x .answer); left = x .room }

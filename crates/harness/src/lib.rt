@@ -21,9 +21,11 @@ ghost use Rattle.columns.specs.Columns.{columns, answers};
 ghost use Rattle.columns.specs.Acceptance.{acceptance};
 ghost use Rattle.columns.specs.Longer.{newLine};
 ghost use Rattle.indextable.specs.Index.{tableIndexed};
+ghost use Rattle.text.specs.Machine.{parse};
+ghost use Rattle.reading.specs.Lines.{readingOf};
 ghost use Rattle.readtable.specs.Read.{readTable};
 ghost use Rattle.statistics.specs.Summaries.{summaryOf};
-ghost use Rattle.harness.specs.Results.{checkedResult, strickenResult, restoredResult, stateNumber, entryWritten, measureNumber, headerWritten, readLeft, readResult, writtenResult, indexedResult, countsWritten, usedCounts, leftGrown, appendedResult, momentsWritten, summaryLeft};
+ghost use Rattle.harness.specs.Results.{checkedResult, strickenResult, restoredResult, stateNumber, entryWritten, measureNumber, headerWritten, readLeft, readResult, writtenResult, indexedResult, countsWritten, usedCounts, leftGrown, appendedResult, momentsWritten, summaryLeft, textColumn};
 
 #[no_mangle]
 pub extern "C" fn harness_check_table(
@@ -407,5 +409,17 @@ pub extern "C" fn harness_summarize(results: &[u64], room: &mut [u64]) -> u64
             write_moments(m, room);
             return 0;
         }
+    }
+}
+
+// The column at which a text is refused; 0 where it is permitted.
+#[no_mangle]
+pub extern "C" fn harness_text_column(text: &[u8]) -> u64
+    ensures { λ r. ⌜ r ≡ textColumn (readingOf (now (text .entry)) (parse (now (text .entry)))) ⌝ }
+{
+    let reading = reading::check_text(text);
+    match reading {
+        Reading::Refused(r) => return r.column(),
+        Reading::Table(_) => return 0,
     }
 }
