@@ -87,7 +87,7 @@ TokenText s bs t = NumberText s bs (t .stop) (t .found)
 rest-of : (s bs : List ℕ) (i b : ℕ) → drop i s ≡ b ∷ bs → drop (i + 1) s ≡ bs
 rest-of s bs i b e = behind s (b ∷ []) bs i e
 
-one-more : (v b : ℕ) (bs : List ℕ) → 0 < v → digitOf b < 10 → digits (10 * v + digitOf b) ++ bs ≡ digits v ++ b ∷ bs
+pub one-more : (v b : ℕ) (bs : List ℕ) → 0 < v → digitOf b < 10 → digits (10 * v + digitOf b) ++ bs ≡ digits v ++ b ∷ bs
 one-more v b bs pos h =
     ap (λ (ds : List ℕ). ds ++ bs) (digits-more v (digitOf b) pos h)
     ∙ append-snoc (digits v) (48 + digitOf b) bs
@@ -142,7 +142,7 @@ unfolding numberOf
 number-first rest at limit d h l = rw (byte-digit d h, lt-ltb d 10 h, lt-ltb d limit l)
 
 -- a number's digits are read to their end
-number-read : (at limit v : ℕ) (rest : List ℕ) → v < limit → numberOf (digits v ++ rest) at limit ≡ digitsFrom rest at (at + length (digits v)) limit v
+pub number-read : (at limit v : ℕ) (rest : List ℕ) → v < limit → numberOf (digits v ++ rest) at limit ≡ digitsFrom rest at (at + length (digits v)) limit v
 number-read at limit =
     by-digits (λ (v : ℕ). (rest : List ℕ) → v < limit → numberOf (digits v ++ rest) at limit ≡ digitsFrom rest at (at + length (digits v)) limit v)
     (λ d h rest l. rw (digits-one d h) (number-first rest at limit d h l))
