@@ -9,6 +9,10 @@ use Rattle.text.specs.Permitted.{FirstWrong}
 use Rattle.text.specs.Prefixes.{Begins}
 use Rattle.text.specs.Bytes.{FirstByte}
 use Rattle.text.proofs.Bytes.{first-byte-unique, ends-early}
+use Rattle.cursor.specs.Cursor.{numberAt}
+use Rattle.cursor.proofs.Counts.{token-start}
+use Rattle.reader.specs.Stops.{StopsAt}
+use Rattle.reader.proofs.Stops.{token-stop}
 use Rattle.readtable.specs.Read.{readTable}
 use Rattle.roundtrip.specs.Refused.{refusedAt}
 use Rattle.roundtrip.proofs.Refused.{unpermitted-is-refused}
@@ -16,6 +20,13 @@ use Rattle.report.specs.Report.{mostInput, refusedLine, report}
 use Rattle.report.proofs.Reports.{report-unpermitted}
 
 -- 2026-06: tell the typist the column too ----------------------------------------------------------------------------------------------------------------------------
+
+-- "The reading of one number must also report where it began and where it stopped", found or not: at the first byte that can't go on with it, or at the text's end
+pub number-began : (s : List ℕ) (at limit : ℕ) → numberAt s at limit .start ≡ at
+number-began = token-start
+
+pub number-stopped : (s : List ℕ) (at limit : ℕ) → StopsAt s limit (numberAt s at limit .start) (numberAt s at limit .stop)
+number-stopped = token-stop
 
 -- "Refusal 14 then returns line and column, counted from 1: that of the first byte such that no permitted text begins with the bytes up to and including it, or one past
 -- the last byte if the text merely ends too early" (`FirstByte`); "Turned away: the same texts as before", at the same lines (`FirstWrong`), and every lent column is as it
