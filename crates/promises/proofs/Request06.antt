@@ -3,7 +3,6 @@ use mathlib.Core.Path.{_≡_}
 use mathlib.Core.List.{List, [], _∷_, _++_}
 use Prim.Native.Nat.{ℕ, _≤_}
 use lib.ListN.{length}
-use Rattle.refusal.specs.declared.Refusal.the-variants.{Text}
 use Rattle.text.specs.Render.{Permitted}
 use Rattle.text.specs.Permitted.{FirstWrong}
 use Rattle.text.specs.Prefixes.{Begins}
@@ -16,8 +15,8 @@ use Rattle.reader.proofs.Stops.{token-stop}
 use Rattle.readtable.specs.Read.{readTable}
 use Rattle.roundtrip.specs.Refused.{refusedAt}
 use Rattle.roundtrip.proofs.Refused.{unpermitted-is-refused}
-use Rattle.report.specs.Report.{mostInput, refusedLine, report}
-use Rattle.report.proofs.Reports.{report-unpermitted}
+use Rattle.report.specs.Report.{mostInput, refusedWith, report}
+use Rattle.report.proofs.Places.{report-place}
 
 -- 2026-06: tell the typist the column too ----------------------------------------------------------------------------------------------------------------------------
 
@@ -43,7 +42,7 @@ column-fixed = first-byte-unique
 pub ends-in-its-line : (s : List ℕ) → ¬ Permitted (s ++ 10 ∷ []) → ¬ Begins (s ++ 10 ∷ [])
 ends-in-its-line = ends-early
 
--- "The program prints both as the place"
+-- "The program prints both as the place": `refused 14`, the line and the column
 pub column-printed : (input : List ℕ) → length input ≤ mostInput → ¬ Permitted input
-    → (k c : ℕ) × (report input ≡ refusedLine (Text (record { 0 = k }) (record { 0 = c }))) × FirstWrong input k × FirstByte input k c
-column-printed = report-unpermitted
+    → (k c : ℕ) × (report input ≡ refusedWith (14 ∷ k ∷ c ∷ [])) × FirstWrong input k × FirstByte input k c
+column-printed = report-place
