@@ -285,8 +285,8 @@ measure-stops Days rest = omega arith
 
 count-found : (s rest : List ℕ) (n next : ℕ) (m : Measure) → drop next s ≡ measureText m ++ rest → onCount s next (Number n) ≡ first.Read n m (next + length (measureText m))
 unfolding measureText
-count-found s rest n next Cost e = rw (byte-of s (10 ∷ rest) next e)
-count-found s rest n next Days e =
+count-found s rest n next Days e = rw (byte-of s (10 ∷ rest) next e)
+count-found s rest n next Cost e =
     let b : getD s next 0 ≡ 32 = byte-of s ((word ++ 10 ∷ []) ++ rest) next e ∙ (unfold word in refl) in
     rw (b, whole-word (word ++ 10 ∷ []) (drop next s) rest e)
 

@@ -558,8 +558,8 @@ in-first (suc (suc (suc (suc zero)))) h = refl
 in-first (suc (suc (suc (suc (suc zero))))) h = refl
 in-first (suc (suc (suc (suc (suc (suc k)))))) h = absurd (omega arith)
 
-in-word : (i k : ℕ) → k < 6 → startFrom 0 i (take k (32 ∷ 100 ∷ 97 ∷ 121 ∷ 115 ∷ 10 ∷ [])) ≡ 0
-unfolding startFrom
+in-word : (i k : ℕ) → k < 6 → startFrom 0 i (take k (word ++ 10 ∷ [])) ≡ 0
+unfolding startFrom word
 in-word i zero h = refl
 in-word i (suc zero) h = refl
 in-word i (suc (suc zero)) h = refl
@@ -568,8 +568,8 @@ in-word i (suc (suc (suc (suc zero)))) h = refl
 in-word i (suc (suc (suc (suc (suc zero))))) h = refl
 in-word i (suc (suc (suc (suc (suc (suc k)))))) h = absurd (omega arith)
 
-behind-word : (i : ℕ) → startFrom 0 i (32 ∷ 100 ∷ 97 ∷ 121 ∷ 115 ∷ 10 ∷ []) ≡ i + 6
-unfolding startFrom
+behind-word : (i : ℕ) → startFrom 0 i (word ++ 10 ∷ []) ≡ i + 6
+unfolding startFrom word
 behind-word i = let q : i + 1 + 1 + 1 + 1 + 1 + 1 ≡ i + 6 = omega arith in q
 
 module _ (s : List ℕ) where
@@ -607,7 +607,7 @@ module _ (s : List ℕ) where
       where
         inside : next < length s → fate s (Within Vertices n) 0 next ≡ Stopped 1 (next + named) 0
         inside h = unfold word in
-            to-word h e ∙ spell-stops 32 (100 ∷ 97 ∷ 121 ∷ 115 ∷ 10 ∷ []) (Head (begun n spoken)) (drop next s) 0 next l
+            to-word h e ∙ spell-stops _ _ (Head (begun n spoken)) (drop next s) 0 next l
             ∙ ap (Stopped 1 (next + named)) (in-word next named l)
 
         unended : finish (Within Vertices n) ≡ Wrong 1
@@ -628,7 +628,7 @@ module _ (s : List ℕ) where
       where
         inside : next < length s → fate s (Within Vertices n) 0 next ≡ fate s (First (Head (begun n spoken))) (next + 6) (next + 6)
         inside h = unfold word in
-            to-word h e ∙ spell-passes 32 (100 ∷ 97 ∷ 121 ∷ 115 ∷ 10 ∷ []) (Head (begun n spoken)) (drop next s) 0 next l
+            to-word h e ∙ spell-passes _ _ (Head (begun n spoken)) (drop next s) 0 next l
             ∙ ap₂ (λ (bs : List ℕ) (k : ℕ). fateFrom (First (Head (begun n spoken))) bs k (next + 6)) (drop-drop 6 next s) (behind-word next)
 
         go : (c : Bool) → ltb next (length s) ≡ c → fate s (Within Vertices n) 0 next ≡ fate s (First (Head (begun n spoken))) (next + 6) (next + 6)

@@ -2,12 +2,13 @@
 use Prim.Native.Nat.{ℕ}
 use mathlib.Core.Path.{_≡_, refl}
 use mathlib.Core.List.{List, [], _∷_, _++_}
+use Rattle.weights.specs.declared.Measure.{Measure}
 use Rattle.weights.specs.declared.Measure.the-variants.{Cost, Days}
 use Rattle.columns.specs.Columns.{Columns, columns}
 use Rattle.columns.specs.Worked.{worked}
 use Rattle.text.specs.Tables.{edge, Table, edgesFrom, tableOf, closed, listedInAll, eachOf, spansFrom, tailsOf}
 use Rattle.text.specs.Render.{digitsOn, digits, word, firstWord, measureText, header, markText, ownText, tailText, edgeText, edgesText, tableText, render}
-use Rattle.text.specs.Worked.{costText}
+use Rattle.text.specs.Worked.{costText, daysText}
 use Rattle.text.specs.Machine.{limit, lineAt, digitOf, grown, instead, after, spell, ended, step, run, Whole, Wrong, finish, parse}
 use Rattle.text.specs.Bytes.{survived, columnFrom, columnOf}
 
@@ -19,6 +20,10 @@ rendered : render Cost gapped ≡ costText
 unfolding gapped costText edgesFrom digitsOn digits word firstWord measureText header markText ownText tailText edgeText edgesText tableText
 rendered = refl
 
+rendered-days : render Days gapped ≡ daysText
+unfolding gapped daysText edgesFrom digitsOn digits word firstWord measureText header markText ownText tailText edgeText edgesText tableText
+rendered-days = refl
+
 read-back : parse costText ≡ Whole (tableOf Cost gapped)
 unfolding gapped costText edgesFrom word firstWord listedInAll limit lineAt digitOf grown instead after spell ended step run finish parse
 read-back = refl
@@ -27,9 +32,21 @@ gaps-closed : closed gapped ≡ worked
 unfolding gapped edgesFrom eachOf spansFrom tailsOf
 gaps-closed = refl
 
--- `parts 5 days`, LF, `0 `, an own figure, LF
+-- `parts 5`, LF, and `parts 5 cost`, LF: what each measure's first line is read as
+abbrev lineless : Measure → Table
+lineless m = record { vertices = 5; measure = m; edges = [] }
+
+without-a-word : parse (112 ∷ 97 ∷ 114 ∷ 116 ∷ 115 ∷ 32 ∷ 53 ∷ 10 ∷ []) ≡ Whole (lineless Days)
+unfolding word firstWord listedInAll limit lineAt digitOf grown instead after spell ended step run finish parse
+without-a-word = refl
+
+with-the-word : parse (112 ∷ 97 ∷ 114 ∷ 116 ∷ 115 ∷ 32 ∷ 53 ∷ 32 ∷ 99 ∷ 111 ∷ 115 ∷ 116 ∷ 10 ∷ []) ≡ Whole (lineless Cost)
+unfolding word firstWord listedInAll limit lineAt digitOf grown instead after spell ended step run finish parse
+with-the-word = refl
+
+-- `parts 5`, LF, `0 `, an own figure, LF
 abbrev days-line : List ℕ → List ℕ
-days-line own = 112 ∷ 97 ∷ 114 ∷ 116 ∷ 115 ∷ 32 ∷ 53 ∷ 32 ∷ 100 ∷ 97 ∷ 121 ∷ 115 ∷ 10 ∷ 48 ∷ 32 ∷ (own ++ 10 ∷ [])
+days-line own = 112 ∷ 97 ∷ 114 ∷ 116 ∷ 115 ∷ 32 ∷ 53 ∷ 10 ∷ 48 ∷ 32 ∷ (own ++ 10 ∷ [])
 
 abbrev days-table : (own mark : ℕ) → Table
 days-table own mark = record { vertices = 5; measure = Days; edges = edge 0 own mark [] ∷ [] }
@@ -115,10 +132,25 @@ too-many-vertices : Refuses (112 ∷ 97 ∷ 114 ∷ 116 ∷ 115 ∷ 32 ∷ 49 �
 unfolding columnOf columnFrom survived word firstWord listedInAll limit lineAt digitOf grown instead after spell ended step run finish parse
 too-many-vertices = (refl, refl)
 
--- `parts 5 cost`, LF
-default-named : Refuses (112 ∷ 97 ∷ 114 ∷ 116 ∷ 115 ∷ 32 ∷ 53 ∷ 32 ∷ 99 ∷ 111 ∷ 115 ∷ 116 ∷ 10 ∷ []) 1 9
+-- `parts 5 days`, LF
+default-named : Refuses (112 ∷ 97 ∷ 114 ∷ 116 ∷ 115 ∷ 32 ∷ 53 ∷ 32 ∷ 100 ∷ 97 ∷ 121 ∷ 115 ∷ 10 ∷ []) 1 9
 unfolding columnOf columnFrom survived word firstWord listedInAll limit lineAt digitOf grown instead after spell ended step run finish parse
 default-named = (refl, refl)
+
+-- `parts 5 costs`, LF
+longer-word : Refuses (112 ∷ 97 ∷ 114 ∷ 116 ∷ 115 ∷ 32 ∷ 53 ∷ 32 ∷ 99 ∷ 111 ∷ 115 ∷ 116 ∷ 115 ∷ 10 ∷ []) 1 13
+unfolding columnOf columnFrom survived word firstWord listedInAll limit lineAt digitOf grown instead after spell ended step run finish parse
+longer-word = (refl, refl)
+
+-- `parts 5 c` without LF
+word-begun : Refuses (112 ∷ 97 ∷ 114 ∷ 116 ∷ 115 ∷ 32 ∷ 53 ∷ 32 ∷ 99 ∷ []) 1 10
+unfolding columnOf columnFrom survived word firstWord listedInAll limit lineAt digitOf grown instead after spell ended step run finish parse
+word-begun = (refl, refl)
+
+-- `parts 5 Cost`, LF
+capital-word : Refuses (112 ∷ 97 ∷ 114 ∷ 116 ∷ 115 ∷ 32 ∷ 53 ∷ 32 ∷ 67 ∷ 111 ∷ 115 ∷ 116 ∷ 10 ∷ []) 1 9
+unfolding columnOf columnFrom survived word firstWord listedInAll limit lineAt digitOf grown instead after spell ended step run finish parse
+capital-word = (refl, refl)
 
 -- `parts 0`, LF, and any line
 no-vertex : Refuses (112 ∷ 97 ∷ 114 ∷ 116 ∷ 115 ∷ 32 ∷ 48 ∷ 10 ∷ 48 ∷ 32 ∷ 48 ∷ 10 ∷ []) 2 1

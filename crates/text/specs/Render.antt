@@ -25,14 +25,14 @@ digitsOn (suc k) n =
 unfoldable pub digits : ℕ → List ℕ
 digits n = digitsOn n n
 
--- The first line: `parts N`, or `parts N days` -------------------------------------------------------------------------------------------
+-- The first line: `parts N`, or `parts N cost` -------------------------------------------------------------------------------------------
 
 -- the measure that no word names, and the word of the other, with the space before it: the two names that another default would change
 abbrev pub default : Measure
-default = Cost
+default = Days
 
 unfoldable pub word : List ℕ
-word = 32 ∷ 100 ∷ 97 ∷ 121 ∷ 115 ∷ []
+word = 32 ∷ 99 ∷ 111 ∷ 115 ∷ 116 ∷ []
 
 abbrev pub other : Measure → Measure
 other Cost = Days

@@ -5,27 +5,27 @@ ghost use mathlib.Core.Path.{_≡_};
 ghost use Rattle.text.specs.Render.{default, spoken, sameMeasure};
 
 // The word of the measure that is not the default, as it ends the first line.
-pub const WORD: [u8; 6] = [b' ', b'd', b'a', b'y', b's', b'\n'];
+pub const WORD: [u8; 6] = [b' ', b'c', b'o', b's', b't', b'\n'];
 
 // The measure of a first line without a word.
 pub fn default_measure() -> Measure
     ensures { λ r. ⌜ r ≡ default ⌝ }
 {
-    Measure::Cost
+    Measure::Days
 }
 
 // The measure that the word names.
 pub fn named_measure() -> Measure
     ensures { λ r. ⌜ r ≡ spoken ⌝ }
 {
-    Measure::Days
+    Measure::Cost
 }
 
 pub fn is_default(measure: Measure) -> bool
     ensures { λ r. ⌜ r ≡ sameMeasure measure default ⌝ }
 {
     match measure {
-        Measure::Cost => true,
-        Measure::Days => false,
+        Measure::Cost => false,
+        Measure::Days => true,
     }
 }
