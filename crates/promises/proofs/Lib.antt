@@ -10,3 +10,4 @@ pub mod Request03
 pub mod Request04
 pub mod Request05
 pub mod Request06
+pub mod Request07

@@ -113,8 +113,8 @@ pub refusal-14 : readTable [] [] [] [] [] [] .answer ≡ reading.Refused (Text (
 unfolding run finish parse survived columnFrom columnOf readInto
 refusal-14 = refl
 
--- "`parts 5 cost` is refused"
-pub default-unnamed : ¬ Permitted (112 ∷ 97 ∷ 114 ∷ 116 ∷ 115 ∷ 32 ∷ 53 ∷ 32 ∷ 99 ∷ 111 ∷ 115 ∷ 116 ∷ 10 ∷ [])
+-- "`parts 5 days` is refused" (document 02, 2026-07)
+pub default-unnamed : ¬ Permitted (112 ∷ 97 ∷ 114 ∷ 116 ∷ 115 ∷ 32 ∷ 53 ∷ 32 ∷ 100 ∷ 97 ∷ 121 ∷ 115 ∷ 10 ∷ [])
 unfolding word firstWord limit lineAt digitOf grown spell ended step run finish parse
 default-unnamed = wrong-unpermitted _ 1 refl
 
