@@ -15,11 +15,11 @@ const ENDINGS: [&str; 14] = [
     "rts 0\n",
     "ts 0\n",
     "s 0\n",
-    " days\n",
-    "days\n",
-    "ays\n",
-    "ys\n",
-    "s\n",
+    " cost\n",
+    "cost\n",
+    "ost\n",
+    "st\n",
+    "t\n",
 ];
 
 pub fn begins(beginning: &[u8]) -> bool {

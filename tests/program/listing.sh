@@ -2,7 +2,7 @@
 
 # The paper's table, in cost and in days -----------------------------------------------------------------------------------------------
 
-worked='parts 5
+worked='parts 5 cost
 0 1200
 1 300
 2 500 0 1
@@ -18,7 +18,7 @@ list='part state figure depth line
 echo "$worked" >"$work/worked"
 prints 'the worked table' "$work/worked" <<<"$list"
 
-sed '1s/.*/parts 5 days/' "$work/worked" >"$work/days"
+sed '1s/.*/parts 5/' "$work/worked" >"$work/days"
 prints 'the worked table in days' "$work/days" <<'END'
 part state figure depth line
 0 made 1200 1 0
@@ -38,7 +38,7 @@ part state figure depth line
 4 unmade 0 0 0
 END
 
-printf 'parts 3\n0 -0\n0 5\n1 -1000000000 0\n1 7 0\n2 -3\n' >"$work/kept"
+printf 'parts 3 cost\n0 -0\n0 5\n1 -1000000000 0\n1 7 0\n2 -3\n' >"$work/kept"
 prints 'struck lines with every kept figure' "$work/kept" <<'END'
 part state figure depth line
 0 made 5 1 1
@@ -46,13 +46,13 @@ part state figure depth line
 2 unmade 0 0 0
 END
 
-echo 'parts 0' >"$work/none"
+echo 'parts 0 cost' >"$work/none"
 prints 'a table of no parts' "$work/none" <<<'part state figure depth line'
 
 # ten times ten times ten times the greatest own figure is the ceiling, and 1 more is over
 ten() { printf " $1%.0s" 1 2 3 4 5 6 7 8 9 10; }
 for own in 0 1; do
-    printf 'parts 4\n0 1000000000\n1 0%s\n2 0%s\n3 %s%s\n' "$(ten 0)" "$(ten 1)" "$own" "$(ten 2)" >"$work/over$own"
+    printf 'parts 4 cost\n0 1000000000\n1 0%s\n2 0%s\n3 %s%s\n' "$(ten 0)" "$(ten 1)" "$own" "$(ten 2)" >"$work/over$own"
 done
 above='part state figure depth line
 0 made 1000000000 1 0
@@ -64,7 +64,7 @@ prints 'a part that is over' "$work/over1" <<<"$above
 3 over 1000000000001 4 3"
 
 # in days the sums are along a chain: 1,000 lines of the greatest own figure, and 1 more
-chain() { echo "parts $1 days"; echo '0 1000000000'; for ((part = 1; part < $1; part++)); do echo "$part 1000000000 $((part - 1))"; done; }
+chain() { echo "parts $1"; echo '0 1000000000'; for ((part = 1; part < $1; part++)); do echo "$part 1000000000 $((part - 1))"; done; }
 chain 1001 >"$work/chain"
 {
     echo 'part state figure depth line'
@@ -81,7 +81,18 @@ refuses 'another first word' 1 5 'part 5\n'
 refuses 'a first line without its LF' 1 8 'parts 5'
 refuses 'a leading zero in n' 1 8 'parts 05\n'
 refuses 'n above 1,024' 1 10 'parts 1025\n'
-refuses 'a word for cost' 1 9 'parts 5 cost\n'
+refuses 'a word for days' 1 9 'parts 5 days\n'
+refuses 'a beginning of days' 1 9 'parts 5 day\n'
+refuses 'days with a capital' 1 9 'parts 5 Days\n'
+refuses 'cost with a capital' 1 9 'parts 5 Cost\n'
+refuses 'cost in capitals' 1 9 'parts 5 COST\n'
+refuses 'a beginning of cost' 1 12 'parts 5 cos\n'
+refuses 'a beginning of cost at the end' 1 10 'parts 5 c'
+refuses 'a longer word than cost' 1 13 'parts 5 costs\n'
+refuses 'cost behind two spaces' 1 9 'parts 5  cost\n'
+refuses 'cost behind a tab' 1 8 'parts 5\tcost\n'
+refuses 'cost and a CR' 1 13 'parts 5 cost\r\n'
+refuses 'cost without its LF' 1 13 'parts 5 cost'
 refuses 'a head that is no part, in text line 2' 2 1 'parts 1\n1 0\n'
 refuses 'a leading zero in text line 3' 3 4 'parts 2\n0 5\n1 05\n1 9\n'
 refuses 'a last line without its LF' 3 6 'parts 5\n0 1200\n1 300'
@@ -128,8 +139,8 @@ END
 
 # Long inputs ------------------------------------------------------------------------------------------------------------------------------
 
-# 4,096 lines in 65,535 bytes: the part of all but the last line costs the most, by the first of them
-{ echo 'parts 1024'; yes '1023 1000000000' | head -n 4095; echo '0 7'; } >"$work/full"
+# 4,096 lines in 65,535 bytes: the part of all but the last two costs the most, by the first of them
+{ echo 'parts 1024 cost'; yes '1023 1000000000' | head -n 4094; echo '0 10000000'; echo '0 7'; } >"$work/full"
 holds 'the full table has 65,535 bytes' "it has $(wc -c <"$work/full")" [ "$(wc -c <"$work/full")" -eq 65535 ]
 awk 'BEGIN {
     print "part state figure depth line"
@@ -153,7 +164,7 @@ holds 'a megabyte through a pipe' "status $status, printed $(head -c 100 "$work/
 # A chain of 1,024 parts, each made of the one before, its lines in falling order; and 3,072 lines of five parts for part 0, none of which is cheaper than
 # its first. In the end part v costs v + 1, at depth v + 1, by line 1023 - v.
 awk 'BEGIN {
-    print "parts 1024"
+    print "parts 1024 cost"
     for (v = 1023; v > 0; v--) print v, 1, v - 1
     print "0 1"
     for (e = 0; e < 3072; e++) print "0 9 1 2 3 4 5"

@@ -72,7 +72,7 @@ ends 'price by a relative path with CDPATH set' 0 '' \
 
 # Writes that fail: never a success, and no part of a list is left -----------------------------------------------------------------------------
 
-echo 'parts 400' >"$work/wide"
+echo 'parts 400 cost' >"$work/wide"
 unwritten="*price: the output can't be written"
 ends 'price on a full disk' 2 "$unwritten" bash -c 'bash price examples/week.parts >/dev/full' </dev/null
 ends 'price on a full disk, refusing' 2 "$unwritten" bash -c 'bash price examples/broken.parts >/dev/full' </dev/null

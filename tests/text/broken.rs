@@ -43,12 +43,12 @@ fn whole(trial: &Trial) -> Outcome {
         ("\n\n", 1),
         (" ", 1),
         ("parts 5", 1),
-        ("parts 5 days", 1),
+        ("parts 5 cost", 1),
         ("parts 5\r\n", 1),
         ("parts 5\r0 1\r", 1),
         ("\nparts 5\n", 1),
         ("0 1\nparts 5\n", 1),
-        ("parts 5 cost\n0 1\n", 1),
+        ("parts 5 days\n0 1\n", 1),
         ("Parts 5\n", 1),
         ("parts 1025\n", 1),
         ("parts 1025\n1024 0\n", 1),
@@ -65,7 +65,7 @@ fn whole(trial: &Trial) -> Outcome {
         ("parts 0\n0 -\n", 2),
         ("parts 0\n\n", 2),
         ("parts 0\n0", 2),
-        ("parts 0 days\n0 0 0\n0 0\n", 2),
+        ("parts 0 cost\n0 0 0\n0 0\n", 2),
     ];
     all_break(&cases.map(|(text, line)| (text.to_string(), line)), &mut trial.rng())
 }
@@ -83,7 +83,7 @@ fn first_lines(trial: &Trial) -> Outcome {
 
 /// A text of 5 vertices with these lines.
 fn text_of(lines: &[&str], rng: &mut Rng) -> String {
-    let first = rng.pick(&["parts 5\n", "parts 5 days\n"]);
+    let first = rng.pick(&["parts 5\n", "parts 5 cost\n"]);
     lines.iter().fold(first.to_string(), |text, line| text + line + "\n")
 }
 

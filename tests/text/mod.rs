@@ -38,7 +38,7 @@ pub const TESTS: &[Test] = &[
     Test { name: "texts/longest", run: longest },
 ];
 
-pub const WORKED: &str = "parts 5\n0 1200\n1 300\n2 500 0 1\n2 2100\n3 0 2 1 1\n4 10 4\n";
+pub const WORKED: &str = "parts 5 cost\n0 1200\n1 300\n2 500 0 1\n2 2100\n3 0 2 1 1\n4 10 4\n";
 
 /// Holds if the table is written as it should be, and its text read back with the gaps closed.
 fn round_trip(measure: u64, table: &Table, rng: &mut Rng) -> Verdict {
@@ -59,7 +59,7 @@ fn says(text: &[u8], measure: u64, table: &Table) -> Verdict {
 
 fn stated(trial: &Trial) -> Outcome {
     let none = Table::new;
-    let sixteen = format!("parts 7\n6 -0 6{}\n", " 0".repeat(15));
+    let sixteen = format!("parts 7 cost\n6 -0 6{}\n", " 0".repeat(15));
     let long: Vec<u64> = (0..16).map(|place| if place == 0 { 6 } else { 0 }).collect();
     let edges = [(1, GREATEST, vec![]), (0, GREATEST, vec![]), (1, 0, vec![1, 0, 1])];
     let limits = Table { strikes: vec![STANDS, STRUCK, STANDS], ..Table::of(2, &edges) };
@@ -71,16 +71,16 @@ fn stated(trial: &Trial) -> Outcome {
     };
     let cases = [
         (WORKED.to_string(), COST, worked()),
-        (WORKED.replace("parts 5", "parts 5 days"), DAYS, worked()),
+        (WORKED.replace("parts 5 cost", "parts 5"), DAYS, worked()),
         (WORKED.replace("0 1200", "0 -1200"), COST, struck(0)),
         (WORKED.replace("2 500 0 1", "2 -500 0 1"), COST, struck(2)),
         (WORKED.replace("3 0 2", "3 -0 2"), COST, struck(4)),
-        ("parts 0\n".to_string(), COST, none(0)),
-        ("parts 0 days\n".to_string(), DAYS, none(0)),
-        ("parts 1024\n".to_string(), COST, none(1_024)),
-        ("parts 1000 days\n".to_string(), DAYS, none(1_000)),
-        ("parts 2\n0 0 1\n1 0 0\n".to_string(), COST, circle()),
-        ("parts 2 days\n1 1000000000\n0 -1000000000\n1 0 1 0 1\n".to_string(), DAYS, limits),
+        ("parts 0 cost\n".to_string(), COST, none(0)),
+        ("parts 0\n".to_string(), DAYS, none(0)),
+        ("parts 1024 cost\n".to_string(), COST, none(1_024)),
+        ("parts 1000\n".to_string(), DAYS, none(1_000)),
+        ("parts 2 cost\n0 0 1\n1 0 0\n".to_string(), COST, circle()),
+        ("parts 2\n1 1000000000\n0 -1000000000\n1 0 1 0 1\n".to_string(), DAYS, limits),
         (sixteen, COST, long),
     ];
     let mut rng = trial.rng();
@@ -159,13 +159,13 @@ pub fn longest_table() -> Table {
 fn longest(trial: &Trial) -> Outcome {
     let mut rng = trial.rng();
     let table = longest_table();
-    let length = written(DAYS, &table).len();
+    let length = written(COST, &table).len();
     expect("the longest text's length", length as u64, 16 + 17 * 4_096 + 5 * 16_384)?;
     for measure in MEASURES {
         round_trip(measure, &table, &mut rng)?;
     }
     for length in [length - 1, length, length + 1] {
-        writes_into(DAYS, &table, &bytes(&mut rng, length))?;
+        writes_into(COST, &table, &bytes(&mut rng, length))?;
     }
     Ok(5)
 }

@@ -50,10 +50,10 @@ pub fn small() -> Vec<Vec<u8>> {
     let texts = [
         WORKED,
         "parts 0\n",
-        "parts 0 days\n",
-        "parts 3 days\n0 0\n2 1000000000 0 1\n1 -40 2 2\n0 -0\n0 -1000000000\n",
+        "parts 0 cost\n",
+        "parts 3 cost\n0 0\n2 1000000000 0 1\n1 -40 2 2\n0 -0\n0 -1000000000\n",
         "parts 1024\n1023 999999999 1023 102 0\n",
-        "parts 10 days\n9 10 9\n0 100 0\n",
+        "parts 10 cost\n9 10 9\n0 100 0\n",
         &sixteen,
     ];
     texts.map(|text| text.as_bytes().to_vec()).to_vec()
@@ -119,7 +119,7 @@ fn moved(trial: &Trial) -> Outcome {
     tried.outcome()
 }
 
-const LIKELY: &[u8] = b"0011259  \n\n--pdays\t\r+:/\0";
+const LIKELY: &[u8] = b"0011259  \n\n--pcost\t\r+:/\0";
 
 /// Several changes in the text of a random table.
 fn random(trial: &Trial) -> Outcome {
@@ -158,6 +158,7 @@ const WORDS: &[&str] = &[
     "1000000001",
     "-1000000001",
     "parts",
+    "cost",
     "days",
 ];
 
@@ -165,7 +166,7 @@ const WORDS: &[&str] = &[
 fn of_words(trial: &Trial) -> Outcome {
     let mut tried = Tried::default();
     trial.cases(5 * trial.count.max(200), |rng| {
-        let mut text = rng.pick(&["parts 3\n", "parts 3 days\n", "parts 11\n"]).to_string();
+        let mut text = rng.pick(&["parts 3\n", "parts 3 cost\n", "parts 11\n"]).to_string();
         for _ in 0..rng.below(8) {
             // The first words are right more often than not, so that long texts get far.
             let most = if rng.chance(90) { 4 } else { WORDS.len() };
@@ -198,7 +199,7 @@ fn all_rows(trial: &Trial, start: &str, words: &[&str], longest: u32) -> Outcome
 }
 
 fn all_first_lines(trial: &Trial) -> Outcome {
-    all_rows(trial, "", &["parts", " ", "0", "1", "24", "days", "\n"], 6)
+    all_rows(trial, "", &["parts", " ", "0", "1", "24", "cost", "\n"], 6)
 }
 
 fn all_table_lines(trial: &Trial) -> Outcome {
@@ -209,7 +210,8 @@ fn all_table_lines(trial: &Trial) -> Outcome {
 fn of_lines(trial: &Trial) -> Outcome {
     let mut tried = Tried::default();
     trial.cases(trial.count.max(200), |rng| {
-        let first = if rng.chance(95) { "parts 5" } else { rng.pick(FIRST) };
+        let first =
+            if rng.chance(95) { rng.pick(&["parts 5", "parts 5 cost"]) } else { rng.pick(FIRST) };
         let mut lines = vec![first];
         for _ in 0..rng.below(30) {
             let from = if rng.chance(98) { GOOD } else { LINES };

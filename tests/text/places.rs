@@ -45,7 +45,7 @@ fn stated(trial: &Trial) -> Outcome {
         ("parts 5", 1, 8),
         ("parts 05\n", 1, 8),
         ("parts 1025\n", 1, 10),
-        ("parts 5 cost\n", 1, 9),
+        ("parts 5 days\n", 1, 9),
         ("parts 0\n0 0\n", 2, 1),
         ("parts 5\n0\n", 2, 2),
         ("parts 5\n0 1000000001\n", 2, 12),
@@ -55,16 +55,27 @@ fn stated(trial: &Trial) -> Outcome {
         ("parts 5\n0 5 9\n", 2, 5),
         ("parts 5\n0 1\n0", 3, 2),
         // The table of examples/broken.parts.
-        ("parts 5\n0 1200\n1 300\n2 500 0 9\n2 2100\n", 4, 9),
+        ("parts 5 cost\n0 1200\n1 300\n2 500 0 9\n2 2100\n", 4, 9),
         ("p", 1, 2),
         ("parts", 1, 6),
         ("parts ", 1, 7),
         ("parts\n", 1, 6),
         ("parts 5 ", 1, 9),
-        ("parts 5 day\n", 1, 12),
-        ("parts 5 dayss\n", 1, 13),
-        ("parts 5 days", 1, 13),
-        ("parts 5 days\n", 0, 0),
+        ("parts 5 day\n", 1, 9),
+        ("parts 5 Days\n", 1, 9),
+        ("parts 5 Cost\n", 1, 9),
+        ("parts 5 COST\n", 1, 9),
+        ("parts 5  cost\n", 1, 9),
+        ("parts 5\tcost\n", 1, 8),
+        ("parts 5 c", 1, 10),
+        ("parts 5 c\n", 1, 10),
+        ("parts 5 cos\n", 1, 12),
+        ("parts 5 costs\n", 1, 13),
+        ("parts 5 cost \n", 1, 13),
+        ("parts 5 cost\r\n", 1, 13),
+        ("parts 5 cost", 1, 13),
+        ("parts 5 cost\n", 0, 0),
+        ("parts 5\n", 0, 0),
         ("parts 5\r\n", 1, 8),
         ("parts 5\n\n", 2, 1),
         ("parts 5\n0 1\n\n", 3, 1),
@@ -148,7 +159,7 @@ fn at_the_limits(trial: &Trial) -> Outcome {
     let mut rng = trial.rng();
     let mut cases: Vec<(String, u64, u64)> = vec![];
     for line in ["0 0\n", "0", "\n", "x", "-", " "] {
-        for first in ["parts 0\n", "parts 0 days\n"] {
+        for first in ["parts 0\n", "parts 0 cost\n"] {
             cases.push((format!("{first}{line}"), 2, 1));
         }
         // The 4,097th line, whatever it holds.
@@ -220,14 +231,14 @@ fn cut_at_random(trial: &Trial) -> Outcome {
 }
 
 fn longest_cut(trial: &Trial) -> Outcome {
-    let text = written(DAYS, &longest_table());
+    let text = written(COST, &longest_table());
     trial.cases(4, |rng| cut_to(&text, text.len() - 1 - rng.index(40), rng))
 }
 
 /// All short texts of a few bytes, behind every beginning of a text with all kinds of fields.
 fn short(trial: &Trial) -> Outcome {
-    let bytes = b"pad 015-\n\0";
-    let whole = b"parts 10 days\n0 10 1\n9 -1\n";
+    let bytes = b"pac 015-\n\0";
+    let whole = b"parts 10 cost\n0 10 1\n9 -1\n";
     let mut rng = trial.rng();
     let mut cases = 0;
     for start in 0..=whole.len() {
@@ -252,7 +263,7 @@ fn one_by_one(trial: &Trial) -> Outcome {
     }
     for text in small() {
         for place in 0..text.len() {
-            for byte in b"01 \n-d" {
+            for byte in b"01 \n-c" {
                 texts.push([&text[..place], &[*byte], &text[place + 1..]].concat());
             }
         }

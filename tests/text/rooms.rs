@@ -61,7 +61,7 @@ fn stated(trial: &Trial) -> Outcome {
             cases += 1;
         }
     }
-    for text in ["parts 0\n", "parts 9 days\n"] {
+    for text in ["parts 0\n", "parts 9 cost\n"] {
         reads_to(text.as_bytes(), [0; 5], 0, &mut rng)?;
         cases += 1;
     }
@@ -113,7 +113,7 @@ fn longer_than_limits(trial: &Trial) -> Outcome {
     let mut rng = trial.rng();
     let lines = MOST_EDGES;
     let longer = [lines + 1, 2 * lines, lines + 3, 3 * lines, 2 * MOST_TAILS];
-    let full = written(DAYS, &longest_table());
+    let full = written(COST, &longest_table());
     for text in ["parts 0\n".as_bytes(), WORKED.as_bytes(), &full] {
         reads_to(text, longer, 0, &mut rng)?;
     }
@@ -140,7 +140,7 @@ fn broken_first(trial: &Trial) -> Outcome {
 /// Headers of other lengths than 4 are left alone, and every header on a refusal.
 fn header_lengths(trial: &Trial) -> Outcome {
     let mut rng = trial.rng();
-    let texts = [WORKED, "parts 7 days\n3 -9 6\n", "parts 0\n", "parts 5\n0 0\n5 0\n", ""];
+    let texts = [WORKED, "parts 7 cost\n3 -9 6\n", "parts 0\n", "parts 5\n0 0\n5 0\n", ""];
     let mut cases = 0;
     for text in texts {
         for length in 0..10 {
