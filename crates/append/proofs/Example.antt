@@ -44,7 +44,8 @@ before = answers (1200 ∷ 300 ∷ 2000 ∷ 2600 ∷ 0 ∷ []) (1 ∷ 1 ∷ 2 �
 abbrev after : Answers
 after = answers (1200 ∷ 300 ∷ 2000 ∷ 2600 ∷ 607 ∷ []) (1 ∷ 1 ∷ 2 ∷ 3 ∷ 2 ∷ []) (0 ∷ 1 ∷ 2 ∷ 4 ∷ 6 ∷ [])
 
-pub appended-to-the-paper : appended Cost lent (record { edges = 6; listed = 6 }) before (0 ∷ 1 ∷ 1 ∷ 2 ∷ 3 ∷ 1 ∷ 4 ∷ 0 ∷ 4 ∷ 1 ∷ 99 ∷ []) (2 ∷ 2 ∷ 4 ∷ 4 ∷ 5 ∷ 89 ∷ 88 ∷ []) (newLine 4 7 0 (1 ∷ 1 ∷ []))
+pub appended-to-the-paper : appended Cost lent (record { edges = 6; listed = 6 }) before (0 ∷ 1 ∷ 1 ∷ 2 ∷ 3 ∷ 1 ∷ 4 ∷ 0 ∷ 4 ∷ 1 ∷ 99 ∷ [])
+    (2 ∷ 2 ∷ 4 ∷ 4 ∷ 5 ∷ 89 ∷ 88 ∷ []) (newLine 4 7 0 (1 ∷ 1 ∷ []))
     ≡ leaves (Counts (record { edges = 7; listed = 8 })) grows after (0 ∷ 1 ∷ 1 ∷ 3 ∷ 4 ∷ 1 ∷ 5 ∷ 0 ∷ 5 ∷ 1 ∷ 99 ∷ []) (2 ∷ 2 ∷ 4 ∷ 6 ∷ 4 ∷ 5 ∷ 88 ∷ [])
 unfolding appended appendAcceptance countsAcceptance newLineAcceptance sizedAcceptance roomAcceptance beginWith indexRoom filled equal sameAnswers acceptance edgesAcceptance edgeAcceptance allBelow member usesBelow useList pairs answersOf best-first turns turn next opening offerOf noneZero aheadOf weigh fold each greatestDepth
 appended-to-the-paper = refl

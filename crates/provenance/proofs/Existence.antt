@@ -194,7 +194,13 @@ greatest-at-most d k h [] = omega arith
 greatest-at-most d k h (v ∷ vs) = omega (arith, h v, greatest-at-most d k h vs)
 
 pub sized-put : {n : ℕ} (a : Answers) (v : ℕ) (l : Label) → Sized n a → Sized n (put a v l)
-sized-put a v l s = record { weights = length-set (a .weights) v (l .weight .0) ∙ s .weights; depths = length-set (a .depths) v (l .depth) ∙ s .depths; edges = length-set (a .edges) v (l .edge .0) ∙ s .edges }
+sized-put a v l s =
+    record {
+      weights =
+          length-set (a .weights) v (l .weight .0) ∙ s .weights;
+      depths = length-set (a .depths) v (l .depth) ∙ s .depths;
+      edges = length-set (a .edges) v (l .edge .0) ∙ s .edges;
+    }
 
 put-here : {n : ℕ} (a : Answers) (v : ℕ) (l : Label) → Sized n a → v < n → labels (put a v l) v ≡ l
 put-here a v l s h =

@@ -98,7 +98,13 @@ module _ (A : Algebra) (H : Hypergraph) (own : ℕ → ℕ) (ls : ℕ → Label)
       go true true p q =
           let w = eqb-true _ _ p in
           let d = eqb-true _ _ q in
-          right (record { blank = λ z. absurd (not-blank a z); chosen = λ _. record { ready = r; yields = h; given = sym (λ i. record { weight = record { 0 = w i }; depth = d i; edge = record { 0 = ls v .edge .0 } }) } })
+          right
+          (record {
+            blank =
+                λ z. absurd (not-blank a z);
+            chosen =
+                λ _. record { ready = r; yields = h; given = sym (λ i. record { weight = record { 0 = w i }; depth = d i; edge = record { 0 = ls v .edge .0 } }) };
+          })
       go true false p q = wrong (λ fix. eqb-false _ _ q (sym (ap (λ (l : Label). l .depth) (fix .chosen v a .given))))
       go false x p q = wrong (λ fix. eqb-false _ _ p (sym (ap (λ (l : Label). l .weight .0) (fix .chosen v a .given))))
 
@@ -113,7 +119,11 @@ module _ (A : Algebra) (H : Hypergraph) (own : ℕ → ℕ) (ls : ℕ → Label)
   vertex-is v = go (eqb (ls v .depth) 0) refl
     where
       go : (p : Bool) → eqb (ls v .depth) 0 ≡ p
-          → VertexIs v (pick p (pick (eqb (ls v .weight .0) 0) (eqb (ls v .edge .0) 0) false) (pick (ltb (ls v .edge .0) (H .edges)) (pick (eqb (H .head (ls v .edge .0)) v) (gives (offer A H own (weightIn ls) (depthIn ls) (ls v .edge .0)) (ls v .weight .0) (ls v .depth)) false) false))
+          → VertexIs v
+          (pick p (pick (eqb (ls v .weight .0) 0) (eqb (ls v .edge .0) 0) false)
+          (pick (ltb (ls v .edge .0) (H .edges))
+          (pick (eqb (H .head (ls v .edge .0)) v) (gives (offer A H own (weightIn ls) (depthIn ls) (ls v .edge .0)) (ls v .weight .0) (ls v .depth)) false)
+          false))
       go true p = blank-is v (eqb-true _ _ p) _ _ refl refl
       go false p = let n : ¬ (ls v .depth ≡ 0) = eqb-false _ _ p in made-is-right v (record { deep = omega arith }) _ _ refl refl
 

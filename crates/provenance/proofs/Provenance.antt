@@ -48,7 +48,9 @@ module _ {A : Algebra} (C : Computes A) (H : Hypergraph) (own : ℕ → ℕ) whe
   attained : {v : ℕ} (d : Derivation H v) → ((d′ : Derivation H v) → NoWorse (B .exact .leq) (weight (B .exact) own d) (weight (B .exact) own d′))
       → Provenance (program C H own) (part v) (B .element (weight (B .exact) own d))
   attained {v} d low = record {
-    lower = λ τ. let r = read C H own τ v refl in subst (Below (B .semiring) (B .element (weight (B .exact) own d))) (weight-product (r .derivation) ∙ sym (ap (product (B .semiring)) (r .same))) (B .element-below (low (r .derivation)));
+    lower = λ τ. let r = read C H own τ v refl in
+        subst (Below (B .semiring) (B .element (weight (B .exact) own d)))
+        (weight-product (r .derivation) ∙ sym (ap (product (B .semiring)) (r .same))) (B .element-below (low (r .derivation)));
     greatest = λ y h. let t = draw C H own d in subst (Below (B .semiring) y) (ap (product (B .semiring)) (t .same) ∙ sym (weight-product d)) (h (t .tree));
   }
 

@@ -6,7 +6,31 @@ use mathlib.Core.List.{List, [], _∷_}
 use Prim.Native.Nat.{ℕ}
 use lib.ListN.{getD}
 use Rattle.refusal.specs.declared.Refusal.{Refusal}
-use Rattle.refusal.specs.declared.Refusal.the-variants.{TooManyVertices, Lengths, Head, Own, Span, Tail, AnswerLength, WrongAnswers, NoSuchEdge, NewWeight, NoSuchVertex, Underivable, BillRoom, Text, TextRoom, MeasureNumber, InputLength, ColumnRoom, WrongIndex, NotStruck, StrikeMark, SampleSize, TooLarge}
+use Rattle.refusal.specs.declared.Refusal.the-variants.{
+  TooManyVertices,
+  Lengths,
+  Head,
+  Own,
+  Span,
+  Tail,
+  AnswerLength,
+  WrongAnswers,
+  NoSuchEdge,
+  NewWeight,
+  NoSuchVertex,
+  Underivable,
+  BillRoom,
+  Text,
+  TextRoom,
+  MeasureNumber,
+  InputLength,
+  ColumnRoom,
+  WrongIndex,
+  NotStruck,
+  StrikeMark,
+  SampleSize,
+  TooLarge,
+}
 use Rattle.refusal.specs.declared.Code.{Code}
 use Rattle.refusal.specs.Refusals.{codeOf, columnOf}
 

@@ -4,7 +4,31 @@ use mathlib.Core.Path.{_≡_}
 use Prim.Native.Nat.{_+_, _*_, _≤_}
 use native.Mathlib.Omega.{arith}
 use Rattle.refusal.specs.declared.Refusal.{Refusal}
-use Rattle.refusal.specs.declared.Refusal.the-variants.{TooManyVertices, Lengths, Head, Own, Span, Tail, AnswerLength, WrongAnswers, NoSuchEdge, NewWeight, NoSuchVertex, Underivable, BillRoom, Text, TextRoom, MeasureNumber, InputLength, ColumnRoom, WrongIndex, NotStruck, StrikeMark, SampleSize, TooLarge}
+use Rattle.refusal.specs.declared.Refusal.the-variants.{
+  TooManyVertices,
+  Lengths,
+  Head,
+  Own,
+  Span,
+  Tail,
+  AnswerLength,
+  WrongAnswers,
+  NoSuchEdge,
+  NewWeight,
+  NoSuchVertex,
+  Underivable,
+  BillRoom,
+  Text,
+  TextRoom,
+  MeasureNumber,
+  InputLength,
+  ColumnRoom,
+  WrongIndex,
+  NotStruck,
+  StrikeMark,
+  SampleSize,
+  TooLarge,
+}
 use Rattle.refusal.specs.declared.Code.{Code}
 use Rattle.refusal.specs.Refusals.{numberOf, lastPlace, resultOf}
 

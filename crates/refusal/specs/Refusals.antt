@@ -7,7 +7,31 @@ use Rattle.refusal.specs.declared.MeasureChoice.{MeasureChoice}
 use Rattle.refusal.specs.declared.MeasureChoice.the-variants as choice
 use Prim.Native.Nat.{ℕ, _+_, _*_, min}
 use Rattle.refusal.specs.declared.Refusal.{Refusal}
-use Rattle.refusal.specs.declared.Refusal.the-variants.{TooManyVertices, Lengths, Head, Own, Span, Tail, AnswerLength, WrongAnswers, NoSuchEdge, NewWeight, NoSuchVertex, Underivable, BillRoom, Text, TextRoom, MeasureNumber, InputLength, ColumnRoom, WrongIndex, NotStruck, StrikeMark, SampleSize, TooLarge}
+use Rattle.refusal.specs.declared.Refusal.the-variants.{
+  TooManyVertices,
+  Lengths,
+  Head,
+  Own,
+  Span,
+  Tail,
+  AnswerLength,
+  WrongAnswers,
+  NoSuchEdge,
+  NewWeight,
+  NoSuchVertex,
+  Underivable,
+  BillRoom,
+  Text,
+  TextRoom,
+  MeasureNumber,
+  InputLength,
+  ColumnRoom,
+  WrongIndex,
+  NotStruck,
+  StrikeMark,
+  SampleSize,
+  TooLarge,
+}
 use Rattle.refusal.specs.declared.Code.{Code}
 use Rattle.refusal.specs.declared.Acceptance.{Acceptance}
 use Rattle.refusal.specs.declared.Acceptance.the-variants as answer

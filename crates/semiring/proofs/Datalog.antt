@@ -4,7 +4,27 @@ use mathlib.Core.Logic.{inl, inr, _↔_}
 use mathlib.Core.List.{List, _++_, map, map-append}
 use Rattle.semiring.specs.Semiring.{Semiring, product}
 use Rattle.semiring.proofs.Semiring.{sum-same, product-append}
-use Rattle.semiring.specs.Datalog.{Program, Proof, Proofs, fact, rule, leaves, all-leaves, Provenance, representation, Tree, Trees, node, weight, weights, BestWeight, derivation, derivations, proof, proofs}
+use Rattle.semiring.specs.Datalog.{
+  Program,
+  Proof,
+  Proofs,
+  fact,
+  rule,
+  leaves,
+  all-leaves,
+  Provenance,
+  representation,
+  Tree,
+  Trees,
+  node,
+  weight,
+  weights,
+  BestWeight,
+  derivation,
+  derivations,
+  proof,
+  proofs,
+}
 
 module _ {S : Semiring} {q : Program S} where
   mutual

@@ -35,7 +35,9 @@ module _ {A : Algebra} (L : Lawful A) where
 
   pub ranked : (a b : Label) → Ranked A a b (aheadOf A a b)
   unfolding aheadOf
-  ranked a b = go (A .leq (a .weight .0) (b .weight .0)) (A .leq (b .weight .0) (a .weight .0)) (ltb (a .depth) (b .depth)) (ltb (b .depth) (a .depth)) (leb (a .edge .0) (b .edge .0)) refl refl refl refl refl
+  ranked a b =
+      go (A .leq (a .weight .0) (b .weight .0)) (A .leq (b .weight .0) (a .weight .0)) (ltb (a .depth) (b .depth)) (ltb (b .depth) (a .depth))
+      (leb (a .edge .0) (b .edge .0)) refl refl refl refl refl
     where
       go : (p q r s t : Bool) → A .leq (a .weight .0) (b .weight .0) ≡ p → A .leq (b .weight .0) (a .weight .0) ≡ q → ltb (a .depth) (b .depth) ≡ r
           → ltb (b .depth) (a .depth) ≡ s → leb (a .edge .0) (b .edge .0) ≡ t → Ranked A a b (pick p (pick q (pick r true (pick s false t)) true) false)

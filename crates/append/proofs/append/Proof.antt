@@ -23,7 +23,8 @@ abbrev lineOf : tie.Start → NewLine
 lineOf c = let a = c .args in newLine (a .head .0) (a .figure .0) (a .mark .0) (a .needed .now)
 
 abbrev entry : tie.After-enum-told → tie.Start
-entry c = let k = c .before .before in k .before .before .before .before .before .before .before .before .before .before .before .before .before .before .before .before .before .before .before .before .before .before
+entry c = let k = c .before .before in
+    k .before .before .before .before .before .before .before .before .before .before .before .before .before .before .before .before .before .before .before .before .before .before
 
 accepted : (c : tie.After-enum-told) → let s = entry c in let a = s .args in appendAcceptance (a .measure) (tableOf s) (a .in-use) (came s) (a .index .now) (a .list .now) (lineOf s) ≡ Accepted
 accepted c = sym (c .before .before .check .ensures) ∙ c .enum-told .given .1

@@ -23,11 +23,25 @@ returns-3 c = rw (sym (c .before .before .before .before .check-table .ensures) 
 
 returns-4 : tie.Need-returns-4
 unfolding lentAcceptance
-returns-4 c = rw (sym (c .before .before .before .before .before .check-table .ensures) ∙ c .before .before .before .enum-told .given .1, eq-eqb _ _ (c .before .before .if1 .left), eq-eqb _ _ (c .before .if2 .left), ne-eqb _ _ (c .if3 .taken))
+returns-4 c =
+    rw (
+      sym (c .before .before .before .before .before .check-table .ensures)
+          ∙ c .before .before .before .enum-told .given .1,
+      eq-eqb _ _ (c .before .before .if1 .left),
+      eq-eqb _ _ (c .before .if2 .left),
+      ne-eqb _ _ (c .if3 .taken),
+    )
 
 returns-5 : tie.Need-returns-5
 unfolding lentAcceptance
-returns-5 c = rw (sym (c .before .before .before .before .before .check-table .ensures) ∙ c .before .before .before .enum-told .given .1, eq-eqb _ _ (c .before .before .if1 .left), eq-eqb _ _ (c .before .if2 .left), eq-eqb _ _ (c .if3 .left))
+returns-5 c =
+    rw (
+      sym (c .before .before .before .before .before .check-table .ensures)
+          ∙ c .before .before .before .enum-told .given .1,
+      eq-eqb _ _ (c .before .before .if1 .left),
+      eq-eqb _ _ (c .before .if2 .left),
+      eq-eqb _ _ (c .if3 .left),
+    )
 
 pub check-lent-spec : {M : Type 1} → statement M
 check-lent-spec =

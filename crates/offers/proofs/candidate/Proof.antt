@@ -15,7 +15,9 @@ use Rattle.offers.proofs.candidate.Tie as tie
 
 abbrev Inv-loop : tie.InvT-loop
 Inv-loop measure e own tail weights depths joined₀ deepest₀ i₀ joined deepest i =
-    (i ≤ length tail) × (deepest ≤ mostVertices) × (rest (algebra measure) (e .0) (own .0) (cell weights) (cell depths) (joined .0) deepest (drop i tail) ≡ rest (algebra measure) (e .0) (own .0) (cell weights) (cell depths) (algebra measure .unit) 0 tail)
+    (i ≤ length tail) × (deepest ≤ mostVertices)
+    × (rest (algebra measure) (e .0) (own .0) (cell weights) (cell depths) (joined .0) deepest (drop i tail) ≡ rest (algebra measure) (e .0)
+    (own .0) (cell weights) (cell depths) (algebra measure .unit) 0 tail)
 
 abbrev μ-loop : tie.MeasureT-loop
 μ-loop measure e own tail weights depths joined₀ deepest₀ i₀ joined deepest i = length tail - i

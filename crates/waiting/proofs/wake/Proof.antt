@@ -37,7 +37,9 @@ slice-read-place c =
     omega (arith, edge-room (p .pre .0) (p .args .e .0) (p .pre .1 .waiter .numbered), p .pre .1 .sizes .at)
 
 cast-place : tie.Need-cast-place
-cast-place c = omega (arith, c .slice-known7 .given (c .before .before .before .before .before .before .before .before .before .before .before .before .before .before .before .before .before .args .e .0))
+cast-place c =
+    omega
+    (arith, c .slice-known7 .given (c .before .before .before .before .before .before .before .before .before .before .before .before .before .before .before .before .before .args .e .0))
 
 slice-read-weight : tie.Need-slice-read-weight
 slice-read-weight c =

@@ -17,11 +17,15 @@ returns-2 c = rw (sym (c .before .before .before .no-worse .ensures) ∙ not-fal
 
 -- past the first two tests neither weight is the worse
 abbrev first : (c : tie.Else2)
-    → algebra (c .before .before .before .before .before .before .args .measure) .leq (c .before .before .before .before .before .before .args .a .weight .0) (c .before .before .before .before .before .before .args .b .weight .0) ≡ true
+    → algebra (c .before .before .before .before .before .before .args .measure) .leq
+    (c .before .before .before .before .before .before .args .a .weight .0)
+    (c .before .before .before .before .before .before .args .b .weight .0) ≡ true
 first c = sym (c .before .before .before .no-worse .ensures) ∙ not-false _ (c .before .before .if1 .left)
 
 abbrev second : (c : tie.Else2)
-    → algebra (c .before .before .before .before .before .before .args .measure) .leq (c .before .before .before .before .before .before .args .b .weight .0) (c .before .before .before .before .before .before .args .a .weight .0) ≡ true
+    → algebra (c .before .before .before .before .before .before .args .measure) .leq
+    (c .before .before .before .before .before .before .args .b .weight .0)
+    (c .before .before .before .before .before .before .args .a .weight .0) ≡ true
 second c = sym (c .before .no-worse2 .ensures) ∙ not-false _ (c .if2 .left)
 
 returns-3 : tie.Need-returns-3

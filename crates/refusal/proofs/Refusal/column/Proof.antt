@@ -8,7 +8,31 @@ use types.Run.{OneOf, miss}
 use denote.Enum.Declared.{tagOf}
 use borrow.Author.Needs.{needs}
 use Rattle.refusal.specs.declared.Refusal.{Refusal}
-use Rattle.refusal.specs.declared.Refusal.the-variants.{TooManyVertices, Lengths, Head, Own, Span, Tail, AnswerLength, WrongAnswers, NoSuchEdge, NewWeight, NoSuchVertex, Underivable, BillRoom, Text, TextRoom, MeasureNumber, InputLength, ColumnRoom, WrongIndex, NotStruck, StrikeMark, SampleSize, TooLarge}
+use Rattle.refusal.specs.declared.Refusal.the-variants.{
+  TooManyVertices,
+  Lengths,
+  Head,
+  Own,
+  Span,
+  Tail,
+  AnswerLength,
+  WrongAnswers,
+  NoSuchEdge,
+  NewWeight,
+  NoSuchVertex,
+  Underivable,
+  BillRoom,
+  Text,
+  TextRoom,
+  MeasureNumber,
+  InputLength,
+  ColumnRoom,
+  WrongIndex,
+  NotStruck,
+  StrikeMark,
+  SampleSize,
+  TooLarge,
+}
 use Rattle.refusal.specs.Refusals.{columnOf}
 use Rattle.refusal.proofs.Refusal as rows
 use Rattle.refusal.proofs.Refusal.column.Statement.{statement}
