@@ -1,13 +1,13 @@
 -- The laws of what stands at a place: a byte that is not 0 stands within the text; a number and an own figure are within their limits, and the place behind
 -- them is later and within the text. Assumes nothing.
-use Prim.Native.Nat.{ℕ, _+_, _*_, _≤_, _<_}
+use Prim.Native.Nat.{ℕ, _+_, _*_, _≤_, _<_, max}
 use mathlib.Core.Path.{_≡_, refl}
 use mathlib.Core.List.{List, [], _∷_}
 use mathlib.Core.Bool.{Bool, true, false}
 use native.Mathlib.Omega.{arith}
 use lib.ListN.{length, getD, drop, length-drop, List·getD-eq-default}
 use lib.Dec.{ltb, eqb}
-use borrow.Author.Tests.{ltb-true, ltb-false}
+use borrow.Author.Tests.{ltb-true, ltb-false, eqb-true}
 use Rattle.weights.specs.declared.Weight.{Weight}
 use Rattle.weights.specs.declared.Mark.{Mark}
 use Rattle.weights.specs.Figures.{greatest, standing, struckMark}
@@ -118,3 +118,46 @@ token-start s at limit = number-start (drop at s) at limit
 pub weight-start : (s : List ℕ) (at : ℕ) → weightAt s at .start ≡ at
 unfolding weightAt
 weight-start s at = pick-by (λ (t : WeightToken). t .start ≡ at) (eqb (getD s at 0) 45) (λ e. refl) (λ e. refl)
+
+-- Where a reading stops: not before its start, and not behind the text's end, or at the start if that is behind it --------------------------------
+
+abbrev Stops : (at end : ℕ) → (stop : ℕ) → Type 0
+Stops at end stop = (at ≤ stop) × (stop ≤ end)
+
+digits-stop : (bs : List ℕ) (at i limit v : ℕ) → Stops i (i + length bs) (digitsFrom bs at i limit v .stop)
+unfolding digitsFrom
+digits-stop [] at i limit v = (omega arith, omega arith)
+digits-stop (b ∷ bs) at i limit v =
+    let P : Token → Type 0 = λ t. Stops i (i + length (b ∷ bs)) (t .stop) in
+    let here : Stops i (i + length (b ∷ bs)) i = (omega arith, omega arith) in
+    let more = digits-stop bs at (i + 1) limit (10 * v + digitOf b) in
+    let l = more .0 in
+    let h = more .1 in
+    pick-by P (ltb (digitOf b) 10) (λ d.
+    pick-by P (ltb 0 v) (λ z.
+    pick-by P (ltb (10 * v + digitOf b) limit) (λ m. (omega arith, omega arith)) (λ m. here)) (λ z. here)) (λ d. here)
+
+number-stop : (bs : List ℕ) (at limit : ℕ) → Stops at (at + length bs) (numberOf bs at limit .stop)
+unfolding numberOf
+number-stop [] at limit = (omega arith, omega arith)
+number-stop (b ∷ bs) at limit =
+    let P : Token → Type 0 = λ t. Stops at (at + length (b ∷ bs)) (t .stop) in
+    let here : Stops at (at + length (b ∷ bs)) at = (omega arith, omega arith) in
+    let more = digits-stop bs at (at + 1) limit (digitOf b) in
+    let l = more .0 in
+    let h = more .1 in
+    pick-by P (ltb (digitOf b) 10) (λ d.
+    pick-by P (ltb (digitOf b) limit) (λ m. (omega arith, omega arith)) (λ m. here)) (λ d. here)
+
+pub token-within : (s : List ℕ) (at limit : ℕ) → (at ≤ numberAt s at limit .stop) × (numberAt s at limit .stop ≤ max at (length s))
+unfolding numberAt
+token-within s at limit = let r = number-stop (drop at s) at limit in let l = length-drop at s in let h = r .1 in (r .0, omega arith)
+
+pub weight-within : (s : List ℕ) (at : ℕ) → (at ≤ weightAt s at .stop) × (weightAt s at .stop ≤ max at (length s))
+unfolding weightAt
+weight-within s at =
+    let P : WeightToken → Type 0 = λ t. (at ≤ t .stop) × (t .stop ≤ max at (length s)) in
+    let struck = token-within s (at + 1) (greatest + 1) in
+    let a = struck .0 in
+    let b = struck .1 in
+    pick-by P (eqb (getD s at 0) 45) (λ e. let h = byte-within s at 45 (eqb-true _ _ e) (omega arith) in (omega arith, omega arith)) (λ e. token-within s at (greatest + 1))

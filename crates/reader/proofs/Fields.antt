@@ -28,9 +28,7 @@ use Rattle.cursor.specs.declared.Separator.{Separator}
 use Rattle.cursor.specs.declared.Separator.the-variants.{Space, LineEnd, Neither}
 use Rattle.cursor.specs.Cursor.{token, digitsFrom, numberOf, numberAt, asWeight, weightToken, markedFrom, weightAt, separatorAt}
 use Rattle.cursor.proofs.Counts.{byte-within, number-counts}
-use Rattle.reading.specs.declared.FirstLine.{FirstLine}
-use Rattle.reading.specs.declared.FirstLine.the-variants as first
-use Rattle.reading.specs.Lines.{agreeing, onCount, onCounted, firstLine}
+use Rattle.reading.specs.Lines.{agreeing, Opening, Opens, Unopened, onCount, onCounted, firstLine}
 
 -- Bytes ------------------------------------------------------------------------------------------------------------------------------------
 
@@ -237,9 +235,9 @@ whole-word : (w s rest : List ℕ) → s ≡ w ++ rest → ltb (agreeing w s) (l
 whole-word w s rest e = let q = ap (agreeing w) e ∙ text-starts w rest in le-ltb (agreeing w s) (length w) (omega arith)
 
 module _ (s : List ℕ) where
-  abbrev FirstText : FirstLine → Type 0
-  FirstText (first.Read n m start) = (n ≤ mostVertices) × (s ≡ header n m ++ drop start s)
-  FirstText (first.Wrong place) = Unit {0}
+  abbrev FirstText : Opening → Type 0
+  FirstText (Opens n m start) = (n ≤ mostVertices) × (s ≡ header n m ++ drop start s)
+  FirstText (Unopened place) = Unit {0}
 
   -- the pieces of the first line, joined
   joined : (n next start : ℕ) (m : Measure) → s ≡ firstWord ++ drop (length firstWord) s → drop (length firstWord) s ≡ digits n ++ drop next s
@@ -274,7 +272,7 @@ module _ (s : List ℕ) where
       pick-by FirstText (ltb (agreeing firstWord s) (length firstWord)) (λ e. tt)
       (λ e. count-text (T .start) (T .stop) (T .found) refl (starts-text firstWord s (ltb-false _ _ e)))
 
-  pub first-text : (n start : ℕ) (m : Measure) → firstLine s ≡ first.Read n m start → (n ≤ mostVertices) × (s ≡ header n m ++ drop start s)
+  pub first-text : (n start : ℕ) (m : Measure) → firstLine s ≡ Opens n m start → (n ≤ mostVertices) × (s ≡ header n m ++ drop start s)
   first-text n start m e = subst FirstText e first-text-of
 
 -- its bytes, and what they are found to be
@@ -283,14 +281,14 @@ unfolding measureText word digitOf
 measure-stops Cost rest = omega arith
 measure-stops Days rest = omega arith
 
-count-found : (s rest : List ℕ) (n next : ℕ) (m : Measure) → drop next s ≡ measureText m ++ rest → onCount s next (Number n) ≡ first.Read n m (next + length (measureText m))
+count-found : (s rest : List ℕ) (n next : ℕ) (m : Measure) → drop next s ≡ measureText m ++ rest → onCount s next (Number n) ≡ Opens n m (next + length (measureText m))
 unfolding measureText
 count-found s rest n next Days e = rw (byte-of s (10 ∷ rest) next e)
 count-found s rest n next Cost e =
     let b : getD s next 0 ≡ 32 = byte-of s ((word ++ 10 ∷ []) ++ rest) next e ∙ (unfold word in refl) in
     rw (b, whole-word (word ++ 10 ∷ []) (drop next s) rest e)
 
-pub first-found : (rest : List ℕ) (n : ℕ) (m : Measure) → n ≤ mostVertices → firstLine (header n m ++ rest) ≡ first.Read n m (length (header n m))
+pub first-found : (rest : List ℕ) (n : ℕ) (m : Measure) → n ≤ mostVertices → firstLine (header n m ++ rest) ≡ Opens n m (length (header n m))
 unfolding firstLine header
 first-found rest n m h =
     let tail = measureText m ++ rest in
@@ -303,4 +301,4 @@ first-found rest n m h =
     let l = length-append (firstWord ++ digits n) (measureText m) in
     let k = length-append firstWord (digits n) in
     let place : length firstWord + length (digits n) + length (measureText m) ≡ length (header n m) = omega arith in
-    rw opened (ap (onCounted s) f ∙ c ∙ ap (first.Read n m) place)
+    rw opened (ap (onCounted s) f ∙ c ∙ ap (Opens n m) place)

@@ -18,6 +18,8 @@ use Rattle.text.proofs.Rows.{accepted-fits}
 use Rattle.text.proofs.Permitted.{table-permitted}
 use Rattle.cursor.proofs.Counts.{number-counts, weight-counts}
 use Rattle.reader.specs.Walk.{Parts, no-part, part, Line, Lines, no-line, line, Walks, EdgeFormed, Formed, Counted}
+use Rattle.reading.specs.Lines.{firstOf}
+use Rattle.reading.proofs.Laws.{opened}
 use Rattle.reader.proofs.Fields.{behind, space-text, end-text, space-found, end-found, number-text, Stops, number-found, weight-text, weight-found, first-text, first-found}
 
 -- Pieces of a line, joined -----------------------------------------------------------------------------------------------------------------
@@ -62,7 +64,7 @@ module _ (s : List ℕ) (n : ℕ) where
 pub walk-text : (s : List ℕ) (t : Table) → Walks s t → Formed t × (s ≡ tableText t)
 unfolding tableText
 walk-text s t w =
-    let a = first-text s (t .vertices) (w .start) (t .measure) (w .first) in
+    let a = first-text s (t .vertices) (w .start) (t .measure) (opened _ _ _ _ (sym (w .first))) in
     let b = lines-text s (t .vertices) (w .lines) in
     (record { vertices = a .0; each = b .0 }, a .1 ∙ ap (λ (z : List ℕ). header (t .vertices) (t .measure) ++ z) (b .1))
 
@@ -134,7 +136,7 @@ text-walk t f =
     let rest = edgesText (t .edges) in
     record {
       start = length first;
-      first = first-found rest (t .vertices) (t .measure) (f .vertices);
+      first = ap firstOf (first-found rest (t .vertices) (t .measure) (f .vertices));
       lines = lines-found (first ++ rest) (t .vertices) (t .edges) (length first) (f .each) (drop-append-seam first rest);
     }
 

@@ -15,7 +15,7 @@ use Rattle.cursor.specs.declared.FoundWeight.the-variants.{Own}
 use Rattle.cursor.specs.declared.Separator.the-variants.{Space, LineEnd}
 use Rattle.cursor.specs.Cursor.{token, numberAt, weightToken, weightAt, separatorAt}
 use Rattle.reading.specs.declared.FirstLine.the-variants.{Read}
-use Rattle.reading.specs.Lines.{firstLine}
+use Rattle.reading.specs.Lines.{firstLine, firstOf}
 
 -- the parts listed from a place on, each behind a space, up to the end of the line
 pub data Parts (s : List ℕ) (n : ℕ) : (at : ℕ) → List ℕ → (next : ℕ) → Type 0 where
@@ -40,7 +40,7 @@ pub data Lines (s : List ℕ) (n : ℕ) : (at : ℕ) → List Edge → Type 0 wh
 -- a walk of a text reaches its end, and has passed this table
 pub record Walks (s : List ℕ) (t : Table) : Type 0 where
   pub start : ℕ
-  pub first : firstLine s ≡ Read (t .vertices) (t .measure) start
+  pub first : firstOf (firstLine s) ≡ Read (t .vertices) (t .measure) start
   pub lines : Lines s (t .vertices) start (t .edges)
 
 -- every number of a table is within its limit: a text of such a table is permitted in form

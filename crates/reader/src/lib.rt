@@ -6,13 +6,14 @@ use cursor::Token;
 use cursor::WeightToken;
 use reading::FirstLine;
 use reading::Line;
+use refusal::TextLine;
 ghost use mathlib.Core.Path.{_≡_};
 ghost use Prim.Native.Nat.{min};
 ghost use lib.ListN.{length};
 ghost use lib.Dec.{leb};
 ghost use Rattle.columns.specs.Acceptance.{longestTail};
 ghost use Rattle.cursor.specs.Cursor.{numberAt, weightAt, separatorAt};
-ghost use Rattle.reading.specs.Lines.{firstLine, rowAt, lineOf};
+ghost use Rattle.reading.specs.Lines.{firstLine, firstOf, rowAt, lineOf};
 
 pub struct Reader<'a> {
     pub text: &'a [u8],
@@ -50,7 +51,7 @@ pub fn at_end<'a>(r: Reader<'a>) -> bool
 // The first line of the text, with its words: how many vertices there are, the measure, and the place
 // of the next line.
 pub fn first_line<'a>(r: Reader<'a>) -> FirstLine
-    ensures { λ f. ⌜ f ≡ firstLine (now (r .entry .text)) ⌝ }
+    ensures { λ f. ⌜ f ≡ firstOf (firstLine (now (r .entry .text))) ⌝ }
 {
     reading::first_line(r.text)
 }
@@ -78,17 +79,18 @@ pub fn next_separator<'a>(r: Reader<'a>) -> Separator
 }
 
 // A table line of vertices below n that lists at most so many of them: its vertices go into an array
-// of its own, and their count is told.
+// of its own, and their count is told. A reader knows no line's number: the line at its place is its
+// first.
 fn line_at(text: &[u8], at: usize, n: u64, most: usize) -> Line
-    ensures { λ r. ⌜ r ≡ lineOf (rowAt (now (text .entry)) n (min most longestTail) at) ⌝ }
+    ensures { λ r. ⌜ r ≡ lineOf 1 at (rowAt (now (text .entry)) n (min most longestTail) at) ⌝ }
 {
     let mut room = [0u64; 16];
-    reading::line_at(text, at, n, most, &mut room)
+    reading::line_at(text, TextLine(1), at, n, most, &mut room)
 }
 
 // The table line at a reader's place, whole.
 pub fn next_line<'a>(r: Reader<'a>, n: u64, most: usize) -> Line
-    ensures { λ l. ⌜ l ≡ lineOf (rowAt (now (r .entry .text)) n (min most longestTail) (r .entry .at)) ⌝ }
+    ensures { λ l. ⌜ l ≡ lineOf 1 (r .entry .at) (rowAt (now (r .entry .text)) n (min most longestTail) (r .entry .at)) ⌝ }
 {
     line_at(r.text, r.at, n, most)
 }
@@ -96,7 +98,7 @@ pub fn next_line<'a>(r: Reader<'a>, n: u64, most: usize) -> Line
 // The table line at a place, by way of a reader: whoever calls this one, whose parameters are plain,
 // needs no walk by hand.
 pub fn line_from(text: &[u8], at: usize, n: u64, most: usize) -> Line
-    ensures { λ l. ⌜ l ≡ lineOf (rowAt (now (text .entry)) n (min most longestTail) at) ⌝ }
+    ensures { λ l. ⌜ l ≡ lineOf 1 at (rowAt (now (text .entry)) n (min most longestTail) at) ⌝ }
 {
     next_line(moved(start(text), at), n, most)
 }

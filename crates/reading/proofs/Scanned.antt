@@ -59,15 +59,16 @@ use Rattle.cursor.specs.declared.FoundWeight.{FoundWeight}
 use Rattle.cursor.specs.declared.FoundWeight.the-variants as weight
 use Rattle.cursor.specs.Cursor.{digitsFrom, numberOf, numberAt, asWeight, markedFrom, weightAt}
 use Rattle.cursor.proofs.Counts.{byte-within}
-use Rattle.reading.specs.declared.FirstLine.{FirstLine}
-use Rattle.reading.specs.declared.FirstLine.the-variants as first
-use Rattle.reading.specs.declared.Stem.{Stem}
 use Rattle.reading.specs.Lines.{
   agreeing,
   onWord,
   onCount,
   onCounted,
+  Opening,
+  Opens,
+  Unopened,
   firstLine,
+  Stalk,
   onOwn,
   onOwned,
   onHead,
@@ -450,7 +451,7 @@ module _ (s : List ℕ) (t : Table) (a : ℕ) where
       behind : RowRuns (Within (Head t) h) stop (onStem s (t .vertices) (mayList t) (onHead s stop (Number h)))
       behind =
           let W = weightAt s (stop + 1) in
-          pick-by (λ (S : Stem). RowRuns (Within (Head t) h) stop (onStem s (t .vertices) (mayList t) S)) (eqb (getD s stop 0) 32)
+          pick-by (λ (S : Stalk). RowRuns (Within (Head t) h) stop (onStem s (t .vertices) (mayList t) S)) (eqb (getD s stop 0) 32)
           (λ e. row-on (Within (Head t) h) (First (Own t h standing)) stop (stop + 1) (onStem s (t .vertices) (mayList t) (onOwned h W))
           (spaced-own (eqb-true _ _ e)) (row-own (First (Own t h standing)) h (stop + 1) (W .stop) (W .found) (own-run h (stop + 1))))
           unspaced
@@ -573,13 +574,13 @@ unfolding startFrom word
 behind-word i = let q : i + 1 + 1 + 1 + 1 + 1 + 1 ≡ i + 6 = omega arith in q
 
 module _ (s : List ℕ) where
-  abbrev pub FirstRuns : State → ℕ → FirstLine → Type 0
-  FirstRuns σ at (first.Read n m start) = fate s σ 0 at ≡ fate s (First (Head (begun n m))) start start
-  FirstRuns σ at (first.Wrong place) = fate s σ 0 at ≡ Stopped 1 place 0
+  abbrev pub FirstRuns : State → ℕ → Opening → Type 0
+  FirstRuns σ at (Opens n m start) = fate s σ 0 at ≡ fate s (First (Head (begun n m))) start start
+  FirstRuns σ at (Unopened place) = fate s σ 0 at ≡ Stopped 1 place 0
 
-  first-on : (σ τ : State) (at next : ℕ) (F : FirstLine) → fate s σ 0 at ≡ fate s τ 0 next → FirstRuns τ next F → FirstRuns σ at F
-  first-on σ τ at next (first.Read n m start) e r = e ∙ r
-  first-on σ τ at next (first.Wrong place) e r = e ∙ r
+  first-on : (σ τ : State) (at next : ℕ) (F : Opening) → fate s σ 0 at ≡ fate s τ 0 next → FirstRuns τ next F → FirstRuns σ at F
+  first-on σ τ at next (Opens n m start) e r = e ∙ r
+  first-on σ τ at next (Unopened place) e r = e ∙ r
 
   module _ (n next : ℕ) (d : 10 ≤ digitOf (getD s next 0)) where
     -- behind the number of parts, the word or nothing
@@ -663,9 +664,9 @@ module _ (s : List ℕ) where
       (unfold startFrom in spell-passes 112 (97 ∷ 114 ∷ 116 ∷ 115 ∷ 32 ∷ []) Vertices s 0 0 (ltb-false _ _ l))
       (counted-run 6 (T .stop) (T .found) (unfold limit finish instead lineAt in number-run s Vertices 0 6 (λ g. refl) refl)))
 
-  scan-first : (F : FirstLine) → FirstRuns begin 0 F → onFirst s F ≡ parsed (fate s begin 0 0)
-  scan-first (first.Read n m start) r = scan-run s mostEdges start (begun n m) (omega arith) ∙ sym (ap parsed r)
-  scan-first (first.Wrong place) r = sym (ap parsed r)
+  scan-first : (F : Opening) → FirstRuns begin 0 F → onFirst s F ≡ parsed (fate s begin 0 0)
+  scan-first (Opens n m start) r = scan-run s mostEdges start (begun n m) (omega arith) ∙ sym (ap parsed r)
+  scan-first (Unopened place) r = sym (ap parsed r)
 
   parsed-of : (P : Parse) (k a : ℕ) → parsed (fateOf P k a) ≡ P
   parsed-of (Whole t) k a = refl

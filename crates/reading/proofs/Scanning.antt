@@ -13,6 +13,7 @@ use Rattle.weights.specs.declared.Vertex.{Vertex}
 use Rattle.weights.specs.declared.Weight.{Weight}
 use Rattle.weights.specs.declared.Mark.{Mark}
 use Rattle.weights.specs.Choice.{pick}
+use Rattle.refusal.specs.declared.Refusal.{Refusal}
 use Rattle.columns.specs.Acceptance.{mostVertices, mostEdges, mostListed, longestTail}
 use Rattle.text.specs.Tables.{Edge, Table, listedInAll}
 use Rattle.text.specs.Render.{spoken, word, firstWord}
@@ -26,17 +27,20 @@ use Rattle.cursor.specs.declared.FoundWeight.{FoundWeight}
 use Rattle.cursor.specs.declared.FoundWeight.the-variants as weight
 use Rattle.cursor.specs.Cursor.{token, numberAt, weightToken, weightAt}
 use Rattle.cursor.proofs.Counts.{byte-within, number-counts, weight-counts}
-use Rattle.reading.specs.declared.FirstLine.{FirstLine}
-use Rattle.reading.specs.declared.FirstLine.the-variants as first
-use Rattle.reading.specs.declared.Stem.{Stem}
-use Rattle.reading.specs.declared.Stem.the-variants as stem
 use Rattle.reading.specs.declared.Line.the-variants as line
 use Rattle.reading.specs.Lines.{
   agreeing,
   onWord,
   onCount,
   onCounted,
+  Opening,
+  Opens,
+  Unopened,
   firstLine,
+  Stalk,
+  Bears,
+  Bare,
+  refusedAt,
   onOwn,
   onOwned,
   onHead,
@@ -66,9 +70,9 @@ use Rattle.reading.proofs.Scanned.{Stopped, fate, RowRuns, row-run, row
 -- Places: the next line begins later, and within the text ------------------------------------------------------------------------------------
 
 module _ (s : List ℕ) where
-  abbrev StemCounts : ℕ → Stem → Type 0
-  StemCounts at (stem.Read h o k next) = (at < next) × (next ≤ length s)
-  StemCounts at (stem.Wrong place) = Unit {0}
+  abbrev StemCounts : ℕ → Stalk → Type 0
+  StemCounts at (Bears h o k next) = (at < next) × (next ≤ length s)
+  StemCounts at (Bare place) = Unit {0}
 
   own-counts : (at h from start stop : ℕ) (F : FoundWeight) → at < from → weightAt s from ≡ weightToken start stop F → StemCounts at (onOwn h stop F)
   own-counts at h from start stop (weight.Own w k) l e = let r = weight-counts s from start stop w k e in let a = r .2 in (omega arith, r .3)
@@ -117,9 +121,13 @@ module _ (s : List ℕ) where
   listing-counts at from most h o k (Ends xs next) l c = let a = c .1 in (c .0, omega arith, c .2)
   listing-counts at from most h o k (Breaks xs place) l c = tt
 
-  stem-row : (n at most : ℕ) (S : Stem) → StemCounts at S → RowCounts at most (onStem s n most S)
-  stem-row n at most (stem.Read h o k from) c = listing-counts at from most h o k (listedFrom most s n from []) (c .0) (list-counts most n from most [] (omega arith))
-  stem-row n at most (stem.Wrong place) c = tt
+  stem-row : (n at most : ℕ) (S : Stalk) → StemCounts at S → RowCounts at most (onStem s n most S)
+  stem-row n at most (Bears h o k from) c = listing-counts at from most h o k (listedFrom most s n from []) (c .0) (list-counts most n from most [] (omega arith))
+  stem-row n at most (Bare place) c = tt
+
+  pub stem-counts : (n at : ℕ) (h : Vertex) (o : Weight) (k : Mark) (next : ℕ) → stemAt s n at ≡ Bears h o k next → (at < next) × (next ≤ length s)
+  unfolding stemAt
+  stem-counts n at h o k next e = let T = numberAt s at n in subst (StemCounts at) e (head-counts n at (T .start) (T .stop) (T .found) refl)
 
   row-count : (n most at : ℕ) → RowCounts at most (rowAt s n most at)
   unfolding rowAt stemAt
@@ -128,9 +136,9 @@ module _ (s : List ℕ) where
   pub row-counts : (n most at : ℕ) (e : Edge) (next : ℕ) → rowAt s n most at ≡ Holds e next → (length (e .tail) ≤ most) × (at < next) × (next ≤ length s)
   row-counts n most at e next q = subst (RowCounts at most) q (row-count n most at)
 
-  abbrev FirstCounts : FirstLine → Type 0
-  FirstCounts (first.Read n m start) = start ≤ length s
-  FirstCounts (first.Wrong place) = Unit {0}
+  abbrev FirstCounts : Opening → Type 0
+  FirstCounts (Opens n m start) = start ≤ length s
+  FirstCounts (Unopened place) = Unit {0}
 
 -- no more bytes agree than stand there
 pub agrees-within : (w s : List ℕ) → agreeing w s ≤ length s
@@ -159,7 +167,7 @@ module _ (s : List ℕ) where
       let T = numberAt s (length firstWord) (mostVertices + 1) in
       pick-by (FirstCounts s) (ltb (agreeing firstWord s) (length firstWord)) (λ e. tt) (λ e. count-counts (T .stop) (T .found))
 
-  pub first-counts : (n : ℕ) (m : Measure) (start : ℕ) → firstLine s ≡ first.Read n m start → start ≤ length s
+  pub first-counts : (n : ℕ) (m : Measure) (start : ℕ) → firstLine s ≡ Opens n m start → start ≤ length s
   first-counts n m start e = subst (FirstCounts s) e first-count
 
 -- What a line tells ----------------------------------------------------------------------------------------------------------------------------
@@ -169,13 +177,19 @@ pub record Tells (R : Row) (k next : ℕ) : Type 0 where
   pub row : R ≡ Holds edge-is next
   pub count : k ≡ length (edge-is .tail)
 
-pub tells : (R : Row) (h : Vertex) (o : Weight) (b : Mark) (k next : ℕ) → line.Edge h o b k next ≡ lineOf R → Tells R k next
-tells (Holds e j) h o b k next q = let a : next ≡ j = cc in record { edge-is = e; row = ap (Holds e) (sym a); count = cc }
-tells (Fails xs place) h o b k next q = absurd (let z : _≡_ {A = ℕ} 0 1 = cc in omega arith)
+pub tells : (l start : ℕ) (R : Row) (h : Vertex) (o : Weight) (b : Mark) (k next : ℕ) → line.Edge h o b k next ≡ lineOf l start R → Tells R k next
+tells l start (Holds e j) h o b k next q = let a : next ≡ j = cc in record { edge-is = e; row = ap (Holds e) (sym a); count = cc }
+tells l start (Fails xs place) h o b k next q = absurd (let z : _≡_ {A = ℕ} 0 1 = cc in omega arith)
 
-pub fails : (R : Row) (place : ℕ) → line.Wrong place ≡ lineOf R → (xs : List ℕ) × (R ≡ Fails xs place)
-fails (Holds e j) place q = absurd (let z : _≡_ {A = ℕ} 0 1 = cc in omega arith)
-fails (Fails xs k) place q = let z : place ≡ k = cc in (xs, ap (Fails xs) (sym z))
+pub record Faulty (l start : ℕ) (R : Row) (r : Refusal) : Type 0 where
+  pub before : List ℕ
+  pub place : ℕ
+  pub row : R ≡ Fails before place
+  pub refusal : r ≡ refusedAt l start place
+
+pub faulty : (l start : ℕ) (R : Row) (r : Refusal) → line.Refused r ≡ lineOf l start R → Faulty l start R r
+faulty l start (Holds e j) r q = absurd (let z : _≡_ {A = ℕ} 0 1 = cc in omega arith)
+faulty l start (Fails xs k) r q = record { before = xs; place = k; row = refl; refusal = cc }
 
 -- A pass over the lines ------------------------------------------------------------------------------------------------------------------------
 
@@ -191,11 +205,11 @@ pub record Scanning (s : List ℕ) (n : ℕ) (m : Measure) (at edges listed : �
   pub same : scanFrom (mostEdges - edges) s at so-far ≡ scan s
   pub fated : fate s (First (Head so-far)) at at ≡ fate s begin 0 0
 
-pub scan-unopened : (s : List ℕ) (place : ℕ) → firstLine s ≡ first.Wrong place → scan s ≡ Wrong 1
+pub scan-unopened : (s : List ℕ) (place : ℕ) → firstLine s ≡ Unopened place → scan s ≡ Wrong 1
 unfolding scan
 scan-unopened s place e = ap (onFirst s) e
 
-pub scan-begun : (s : List ℕ) (n : ℕ) (m : Measure) (start : ℕ) → firstLine s ≡ first.Read n m start → Scanning s n m start 0 0
+pub scan-begun : (s : List ℕ) (n : ℕ) (m : Measure) (start : ℕ) → firstLine s ≡ Opens n m start → Scanning s n m start 0 0
 unfolding scan listedInAll
 scan-begun s n m start e = record {
   so-far = begun n m;
@@ -210,7 +224,7 @@ scan-begun s n m start e = record {
   fated = sym (subst (FirstRuns s begin 0) e (first-run s));
 }
 
-pub scan-begun-edges : (s : List ℕ) (n : ℕ) (m : Measure) (start : ℕ) (e : firstLine s ≡ first.Read n m start) → scan-begun s n m start e .so-far .edges ≡ []
+pub scan-begun-edges : (s : List ℕ) (n : ℕ) (m : Measure) (start : ℕ) (e : firstLine s ≡ Opens n m start) → scan-begun s n m start e .so-far .edges ≡ []
 unfolding scan-begun
 scan-begun-edges s n m start e = refl
 

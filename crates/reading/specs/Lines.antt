@@ -1,6 +1,6 @@
 -- What the lines of a text hold, line by line as the code reads them; `scan` is the whole text so read, and Scanned shows that it is `parse`. The paper's
 -- "The text". Assumes nothing: these are definitions.
-use Prim.Native.Nat.{ℕ, zero, suc, _+_}
+use Prim.Native.Nat.{ℕ, zero, suc, _+_, _-_, _^_, _≤_, _<_}
 use mathlib.Core.Path.{_≡_}
 use mathlib.Core.List.{List, [], _∷_, _++_}
 use lib.ListN.{length, getD, drop}
@@ -8,7 +8,9 @@ use lib.Dec.{ltb, eqb}
 use Rattle.weights.specs.declared.Vertex.{Vertex}
 use Rattle.weights.specs.declared.Weight.{Weight}
 use Rattle.weights.specs.declared.Mark.{Mark}
+use Rattle.weights.specs.declared.Measure.{Measure}
 use Rattle.weights.specs.Choice.{pick}
+use Rattle.refusal.specs.declared.Refusal.{Refusal}
 use Rattle.refusal.specs.declared.Refusal.the-variants.{Text}
 use Rattle.refusal.specs.declared.Header.{Header}
 use Rattle.refusal.specs.declared.Reading.{Reading}
@@ -35,6 +37,14 @@ use Rattle.reading.specs.declared.Tail.the-variants as tail
 use Rattle.reading.specs.declared.Line.{Line}
 use Rattle.reading.specs.declared.Line.the-variants as line
 
+-- the refusal at a place of the text line that begins at `start`; no text is so long that its column wraps
+abbrev pub refusedAt : (line start place : ℕ) → Refusal
+refusedAt l start place = Text (record { 0 = l }) (record { 0 = place - start + 1 })
+
+pub record InLine (start place : ℕ) : Type 0 where
+  pub behind-start : start ≤ place
+  pub near : place - start < 2 ^ 63
+
 -- The first line -----------------------------------------------------------------------------------------------------------------------------
 
 -- with how many bytes of a word a text starts
@@ -43,40 +53,58 @@ agreeing [] s = 0
 agreeing (w ∷ ws) [] = 0
 agreeing (w ∷ ws) (b ∷ s) = pick (eqb b w) (suc (agreeing ws s)) 0
 
+-- how many parts there are, the measure, and the place of the next line; or the place of the first byte that can't stand there
+pub data Opening : Type 0 where
+  Opens : (n : ℕ) → Measure → (start : ℕ) → Opening
+  Unopened : (place : ℕ) → Opening
+
+abbrev pub firstOf : Opening → FirstLine
+firstOf (Opens n m start) = first.Read n m start
+firstOf (Unopened place) = first.Refused (refusedAt 1 0 place)
+
 -- k bytes of the word and LF stand behind the number of parts, which stopped there
-abbrev pub onWord : (n stop k : ℕ) → FirstLine
-onWord n stop k = pick (ltb k (length (word ++ 10 ∷ []))) (first.Wrong (stop + k)) (first.Read n spoken (stop + length (word ++ 10 ∷ [])))
+abbrev pub onWord : (n stop k : ℕ) → Opening
+onWord n stop k = pick (ltb k (length (word ++ 10 ∷ []))) (Unopened (stop + k)) (Opens n spoken (stop + length (word ++ 10 ∷ [])))
 
 -- behind the number of parts: LF, or the word and LF
-abbrev pub onCount : List ℕ → (stop : ℕ) → Found → FirstLine
-onCount s stop (Number n) = pick (eqb (getD s stop 0) 10) (first.Read n default (stop + 1)) (onWord n stop (agreeing (word ++ 10 ∷ []) (drop stop s)))
-onCount s stop NotANumber = first.Wrong stop
+abbrev pub onCount : List ℕ → (stop : ℕ) → Found → Opening
+onCount s stop (Number n) = pick (eqb (getD s stop 0) 10) (Opens n default (stop + 1)) (onWord n stop (agreeing (word ++ 10 ∷ []) (drop stop s)))
+onCount s stop NotANumber = Unopened stop
 
-abbrev pub onCounted : List ℕ → Token → FirstLine
+abbrev pub onCounted : List ℕ → Token → Opening
 onCounted s t = onCount s (t .stop) (t .found)
 
-unfoldable pub firstLine : List ℕ → FirstLine
+unfoldable pub firstLine : List ℕ → Opening
 firstLine s =
-    pick (ltb (agreeing firstWord s) (length firstWord)) (first.Wrong (agreeing firstWord s)) (onCounted s (numberAt s (length firstWord) (mostVertices + 1)))
+    pick (ltb (agreeing firstWord s) (length firstWord)) (Unopened (agreeing firstWord s)) (onCounted s (numberAt s (length firstWord) (mostVertices + 1)))
 
 -- A line for a hyperedge ---------------------------------------------------------------------------------------------------------------------
 
-abbrev pub onOwn : (h stop : ℕ) → FoundWeight → Stem
-onOwn h stop (Own w k) = stem.Read (record { 0 = h }) w k stop
-onOwn h stop NotAWeight = stem.Wrong stop
+-- head, own figure and mark, and the place behind them; or the place of the first byte that fails
+pub data Stalk : Type 0 where
+  Bears : Vertex → Weight → Mark → (next : ℕ) → Stalk
+  Bare : (place : ℕ) → Stalk
 
-abbrev pub onOwned : ℕ → WeightToken → Stem
+abbrev pub stemOf : (line start : ℕ) → Stalk → Stem
+stemOf l start (Bears h o k next) = stem.Read h o k next
+stemOf l start (Bare place) = stem.Refused (refusedAt l start place)
+
+abbrev pub onOwn : (h stop : ℕ) → FoundWeight → Stalk
+onOwn h stop (Own w k) = Bears (record { 0 = h }) w k stop
+onOwn h stop NotAWeight = Bare stop
+
+abbrev pub onOwned : ℕ → WeightToken → Stalk
 onOwned h t = onOwn h (t .stop) (t .found)
 
-abbrev pub onHead : List ℕ → (stop : ℕ) → Found → Stem
-onHead s stop (Number h) = pick (eqb (getD s stop 0) 32) (onOwned h (weightAt s (stop + 1))) (stem.Wrong stop)
-onHead s stop NotANumber = stem.Wrong stop
+abbrev pub onHead : List ℕ → (stop : ℕ) → Found → Stalk
+onHead s stop (Number h) = pick (eqb (getD s stop 0) 32) (onOwned h (weightAt s (stop + 1))) (Bare stop)
+onHead s stop NotANumber = Bare stop
 
-abbrev pub onHeaded : List ℕ → Token → Stem
+abbrev pub onHeaded : List ℕ → Token → Stalk
 onHeaded s t = onHead s (t .stop) (t .found)
 
--- head, single space, own figure with its mark; or the place of the first byte that fails
-unfoldable pub stemAt : List ℕ → (n at : ℕ) → Stem
+-- head, single space, own figure with its mark
+unfoldable pub stemAt : List ℕ → (n at : ℕ) → Stalk
 stemAt s n at = onHeaded s (numberAt s at n)
 
 -- the parts listed, and the place of the next line; or the parts before the first fault, and the place of the byte that fails
@@ -105,14 +133,14 @@ abbrev pub vertices : Listing → List ℕ
 vertices (Ends xs next) = xs
 vertices (Breaks xs place) = xs
 
-abbrev pub tailOf : Listing → Tail
-tailOf (Ends xs next) = tail.Ends (length xs) next
-tailOf (Breaks xs place) = tail.Wrong place
+abbrev pub tailOf : (line start : ℕ) → Listing → Tail
+tailOf l start (Ends xs next) = tail.Ends (length xs) next
+tailOf l start (Breaks xs place) = tail.Refused (refusedAt l start place)
 
 -- a line of this head, own figure and mark, by its listed parts
 abbrev pub lineWith : Vertex → Weight → Mark → Tail → Line
 lineWith h o k (tail.Ends c next) = line.Edge h o k c next
-lineWith h o k (tail.Wrong place) = line.Wrong place
+lineWith h o k (tail.Refused r) = line.Refused r
 
 -- a hyperedge, and the place of the next line; or the parts that were listed before the first fault, and the place of the byte that fails
 pub data Row : Type 0 where
@@ -123,9 +151,9 @@ abbrev pub onListing : Vertex → Weight → Mark → Listing → Row
 onListing h o k (Ends xs next) = Holds (edge (h .0) (o .0) (k .0) xs) next
 onListing h o k (Breaks xs place) = Fails xs place
 
-abbrev pub onStem : List ℕ → (n most : ℕ) → Stem → Row
-onStem s n most (stem.Read h o k at) = onListing h o k (listedFrom most s n at [])
-onStem s n most (stem.Wrong place) = Fails [] place
+abbrev pub onStem : List ℕ → (n most : ℕ) → Stalk → Row
+onStem s n most (Bears h o k at) = onListing h o k (listedFrom most s n at [])
+onStem s n most (Bare place) = Fails [] place
 
 -- the line at a place, of at most so many listed parts
 unfoldable pub rowAt : List ℕ → (n most at : ℕ) → Row
@@ -135,17 +163,17 @@ abbrev pub stored : Row → List ℕ
 stored (Holds e next) = e .tail
 stored (Fails xs place) = xs
 
-abbrev pub lineOf : Row → Line
-lineOf (Holds e next) = line.Edge (record { 0 = e .head }) (record { 0 = e .own }) (record { 0 = e .mark }) (length (e .tail)) next
-lineOf (Fails xs place) = line.Wrong place
+abbrev pub lineOf : (line start : ℕ) → Row → Line
+lineOf l start (Holds e next) = line.Edge (record { 0 = e .head }) (record { 0 = e .own }) (record { 0 = e .mark }) (length (e .tail)) next
+lineOf l start (Fails xs place) = line.Refused (refusedAt l start place)
 
 -- the outcome of reading a list, and a line: the answer, and the room with the listed parts from its start
-pub record ReadsTail (l : Listing) (old : List ℕ) (r : Tail) (new : List ℕ) : Type 0 where
-  pub answer : r ≡ tailOf l
+pub record ReadsTail (line start : ℕ) (l : Listing) (old : List ℕ) (r : Tail) (new : List ℕ) : Type 0 where
+  pub answer : r ≡ tailOf line start l
   pub room : new ≡ filled (vertices l) old
 
-pub record ReadsLine (w : Row) (old : List ℕ) (r : Line) (new : List ℕ) : Type 0 where
-  pub answer : r ≡ lineOf w
+pub record ReadsLine (line start : ℕ) (w : Row) (old : List ℕ) (r : Line) (new : List ℕ) : Type 0 where
+  pub answer : r ≡ lineOf line start w
   pub room : new ≡ filled (stored w) old
 
 -- The text -------------------------------------------------------------------------------------------------------------------------------------
@@ -161,9 +189,9 @@ scanFrom (suc left) s at t =
     let more : Table → ℕ → Parse = λ u next. scanFrom left s next u in
     pick (ltb at (length s)) (onRow t (rowAt s (t .vertices) (mayList t) at) more) (Whole t)
 
-abbrev pub onFirst : List ℕ → FirstLine → Parse
-onFirst s (first.Read n m start) = scanFrom mostEdges s start (begun n m)
-onFirst s (first.Wrong place) = Wrong 1
+abbrev pub onFirst : List ℕ → Opening → Parse
+onFirst s (Opens n m start) = scanFrom mostEdges s start (begun n m)
+onFirst s (Unopened place) = Wrong 1
 
 unfoldable pub scan : List ℕ → Parse
 scan s = onFirst s (firstLine s)

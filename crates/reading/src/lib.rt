@@ -21,37 +21,44 @@ use weights::Vertex;
 use weights::Weight;
 ghost use mathlib.Core.Path.{_≡_};
 ghost use mathlib.Core.List.{[]};
-ghost use Prim.Native.Nat.{min};
+ghost use Prim.Native.Nat.{_≤_, min};
 ghost use lib.ListN.{length};
 ghost use Rattle.text.specs.Machine.{parse};
-ghost use Rattle.reading.specs.declared.FirstLine.the-variants.{Read};
-ghost use Rattle.reading.specs.Lines.{agreeing, firstLine, stemAt, listedFrom, ReadsTail, lineWith, rowAt, ReadsLine, readingOf};
+ghost use Rattle.reading.specs.Lines.{agreeing, Opens, firstLine, firstOf, stemAt, stemOf, listedFrom, ReadsTail, lineWith, rowAt, ReadsLine, readingOf, refusedAt, InLine};
 
 // The first line: how many vertices there are, the measure, and the place of the next line; or the
-// place of the first byte that can't stand there.
+// refusal at the first byte that can't stand there.
 pub enum FirstLine {
     Read(u64, Measure, usize),
-    Wrong(usize),
+    Refused(Refusal),
 }
 
-// A hyperedge's head, own weight and strike mark, and the place behind them; or that of the byte that
-// fails.
+// A hyperedge's head, own weight and strike mark, and the place behind them; or the refusal.
 pub enum Stem {
     Read(Vertex, Weight, Mark, usize),
-    Wrong(usize),
+    Refused(Refusal),
 }
 
-// The listed vertices: how many, and the place of the next line; or that of the byte that fails.
+// The listed vertices: how many, and the place of the next line; or the refusal.
 pub enum Tail {
     Ends(usize, usize),
-    Wrong(usize),
+    Refused(Refusal),
 }
 
 // A whole line: head, own weight, strike mark, how many vertices it lists, and the place of the next
-// line; or that of the byte that fails.
+// line; or the refusal.
 pub enum Line {
     Edge(Vertex, Weight, Mark, usize, usize),
-    Wrong(usize),
+    Refused(Refusal),
+}
+
+// The refusal at a byte of a text line that starts at `start`: 14, with line and column.
+fn refused_at(line: TextLine, start: usize, place: usize) -> Refusal
+    requires { ⌜ InLine start place ⌝ }
+    ensures { λ r. ⌜ r ≡ refusedAt (line .0) start place ⌝ }
+{
+    let column = (place - start) as u64 + 1;
+    Refusal::Text(line, TextColumn(column))
 }
 
 // With how many bytes of a word a text starts.
@@ -73,17 +80,18 @@ fn agree(text: &[u8], word: &[u8]) -> usize
 
 // `parts N` means the default measure, and the word behind it names the other.
 pub fn first_line(text: &[u8]) -> FirstLine
-    ensures { λ r. ⌜ r ≡ firstLine (now (text .entry)) ⌝ }
+    ensures { λ r. ⌜ r ≡ firstOf (firstLine (now (text .entry))) ⌝ }
 {
+    let line = TextLine(1);
     let same = agree(text, b"parts ");
     if same < 6 {
-        return FirstLine::Wrong(same);
+        return FirstLine::Refused(refused_at(line, 0, same));
     }
     let count = number_at(text, 6, MOST_VERTICES + 1);
     let next = count.stop;
     let found = count.found;
     let Found::Number(n) = found else {
-        return FirstLine::Wrong(next);
+        return FirstLine::Refused(refused_at(line, 0, next));
     };
     if byte_at(text, next) == b'\n' {
         let start = next + 1;
@@ -92,61 +100,74 @@ pub fn first_line(text: &[u8]) -> FirstLine
     let named = agree(&text[next..], &WORD);
     if named < WORD.len() {
         let place = next + named;
-        return FirstLine::Wrong(place);
+        return FirstLine::Refused(refused_at(line, 0, place));
     }
     let start = next + WORD.len();
     FirstLine::Read(n, named_measure(), start)
 }
 
-pub fn stem_at(text: &[u8], at: usize, n: u64) -> Stem
-    ensures { λ r. ⌜ r ≡ stemAt (now (text .entry)) n at ⌝ }
+// The start of the text line that begins at a place.
+pub fn stem_at(text: &[u8], line: TextLine, at: usize, n: u64) -> Stem
+    ensures { λ r. ⌜ r ≡ stemOf (line .0) at (stemAt (now (text .entry)) n at) ⌝ }
 {
     let head = number_at(text, at, n);
     let a = head.stop;
     let found = head.found;
     let Found::Number(v) = found else {
-        return Stem::Wrong(a);
+        return Stem::Refused(refused_at(line, at, a));
     };
     if byte_at(text, a) != b' ' {
-        return Stem::Wrong(a);
+        return Stem::Refused(refused_at(line, at, a));
     }
     let from = a + 1;
     let weight = weight_at(text, from);
     let next = weight.stop;
     let figure = weight.found;
     let FoundWeight::Own(own, mark) = figure else {
-        return Stem::Wrong(next);
+        return Stem::Refused(refused_at(line, at, next));
     };
     Stem::Read(Vertex(v), own, mark, next)
 }
 
-// The vertices listed from a place on, each behind a space, are stored from the room's start. There
-// may be `most`, and no more than the room has places: the space before one too many can't stand.
-fn tail_at(text: &[u8], at: usize, n: u64, most: usize, room: &mut [u64]) -> Tail
-    ensures { λ r. ⌜ ReadsTail (listedFrom (min most (length (now (room .entry)))) (now (text .entry)) n at []) (now (room .entry)) r (now (room .exit)) ⌝ }
+// The vertices listed from a place of a text line on, each behind a space, are stored from the room's
+// start. There may be `most`, and no more than the room has places: the space before one too many can't
+// stand.
+fn tail_at(
+    text: &[u8],
+    line: TextLine,
+    start: usize,
+    at: usize,
+    n: u64,
+    most: usize,
+    room: &mut [u64],
+) -> Tail
+    requires { ⌜ (start ≤ at) × (at ≤ length (now text)) ⌝ }
+    ensures { λ r.
+        let listing = listedFrom (min most (length (now (room .entry)))) (now (text .entry)) n at [] in
+        ⌜ ReadsTail (line .0) start listing (now (room .entry)) r (now (room .exit)) ⌝ }
 {
     let mut k: usize = 0;
     let mut next = at;
     while byte_at(text, next) == b' ' {
         if k >= most {
-            return Tail::Wrong(next);
+            return Tail::Refused(refused_at(line, start, next));
         }
         if k >= room.len() {
-            return Tail::Wrong(next);
+            return Tail::Refused(refused_at(line, start, next));
         }
         let from = next + 1;
         let vertex = number_at(text, from, n);
         let behind = vertex.stop;
         let found = vertex.found;
         let Found::Number(v) = found else {
-            return Tail::Wrong(behind);
+            return Tail::Refused(refused_at(line, start, behind));
         };
         room[k] = v;
         k += 1;
         next = behind;
     }
     if byte_at(text, next) != b'\n' {
-        return Tail::Wrong(next);
+        return Tail::Refused(refused_at(line, start, next));
     }
     let behind = next + 1;
     Tail::Ends(k, behind)
@@ -158,34 +179,37 @@ fn line_with(head: Vertex, own: Weight, mark: Mark, tail: Tail) -> Line
 {
     match tail {
         Tail::Ends(listed, next) => Line::Edge(head, own, mark, listed, next),
-        Tail::Wrong(place) => Line::Wrong(place),
+        Tail::Refused(r) => Line::Refused(r),
     }
 }
 
-// A line, whose listed vertices are stored from the room's start.
-pub fn line_at(text: &[u8], at: usize, n: u64, most: usize, room: &mut [u64]) -> Line
-    ensures { λ r. ⌜ ReadsLine (rowAt (now (text .entry)) n (min most (length (now (room .entry)))) at) (now (room .entry)) r (now (room .exit)) ⌝ }
+// The text line that begins at a place; its listed vertices are stored from the room's start.
+pub fn line_at(
+    text: &[u8],
+    line: TextLine,
+    at: usize,
+    n: u64,
+    most: usize,
+    room: &mut [u64],
+) -> Line
+    ensures { λ r.
+        let row = rowAt (now (text .entry)) n (min most (length (now (room .entry)))) at in
+        ⌜ ReadsLine (line .0) at row (now (room .entry)) r (now (room .exit)) ⌝ }
 {
-    let stem = stem_at(text, at, n);
+    let stem = stem_at(text, line, at, n);
     match stem {
-        Stem::Wrong(place) => Line::Wrong(place),
+        Stem::Refused(r) => Line::Refused(r),
         Stem::Read(head, own, mark, a) => {
-            let tail = tail_at(text, a, n, most, room);
+            let tail = tail_at(text, line, at, a, n, most, room);
             line_with(head, own, mark, tail)
         }
     }
 }
 
-fn wrong(line: TextLine, column: TextColumn) -> Reading
-    ensures { λ r. ⌜ r ≡ Reading.Refused (Refusal.Text line column) ⌝ }
-{
-    Reading::Refused(Refusal::Text(line, column))
-}
-
 // The lines behind the first: what they hold, or the first byte that breaks a rule, in the line that
 // is read. The vertices of a line go into an array of its own: nothing lent is written.
 fn check_lines(text: &[u8], n: u64, measure: Measure, start: usize) -> Reading
-    requires { ⌜ firstLine (now text) ≡ Read n measure start ⌝ }
+    requires { ⌜ firstLine (now text) ≡ Opens n measure start ⌝ }
     ensures { λ r. ⌜ r ≡ readingOf (now (text .entry)) (parse (now (text .entry))) ⌝ }
 {
     let mut room = [0u64; 16];
@@ -196,15 +220,12 @@ fn check_lines(text: &[u8], n: u64, measure: Measure, start: usize) -> Reading
         let number = edges as u64 + 2;
         let here = TextLine(number);
         if edges >= MOST_EDGES {
-            return wrong(here, TextColumn(1));
+            return Reading::Refused(Refusal::Text(here, TextColumn(1)));
         }
         let most = MOST_LISTED - listed;
-        let line = line_at(text, at, n, most, &mut room);
+        let line = line_at(text, here, at, n, most, &mut room);
         match line {
-            Line::Wrong(place) => {
-                let column = (place - at) as u64 + 1;
-                return wrong(here, TextColumn(column));
-            }
+            Line::Refused(r) => return Reading::Refused(r),
             Line::Edge(_, _, _, count, next) => {
                 edges += 1;
                 listed += count;
@@ -227,10 +248,7 @@ pub fn check_text(text: &[u8]) -> Reading
 {
     let first = first_line(text);
     match first {
-        FirstLine::Wrong(place) => {
-            let column = place as u64 + 1;
-            wrong(TextLine(1), TextColumn(column))
-        }
+        FirstLine::Refused(r) => Reading::Refused(r),
         FirstLine::Read(n, measure, start) => check_lines(text, n, measure, start),
     }
 }

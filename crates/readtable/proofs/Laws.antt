@@ -29,11 +29,12 @@ use Rattle.columns.proofs.Filled.{filled-none, filled-set, filled-part, length-
 use Rattle.cursor.specs.declared.Found.{Found}
 use Rattle.cursor.specs.declared.Found.the-variants.{Number, NotANumber}
 use Rattle.cursor.specs.Cursor.{numberAt}
-use Rattle.reading.specs.declared.Stem.{Stem}
-use Rattle.reading.specs.declared.Stem.the-variants as stem
 use Rattle.reading.specs.declared.Line.{Line}
 use Rattle.reading.specs.declared.Line.the-variants as line
 use Rattle.reading.specs.Lines.{
+  Stalk,
+  Bears,
+  Bare,
   stemAt,
   Listing,
   Ends,
@@ -157,9 +158,9 @@ module _ (s : List ℕ) (n : ℕ) where
           ap (onListing h o b) (enough most most′ from [] xs j p (omega arith)) ∙ q
       listed h o b from (Breaks xs place) p q = absurd (no-row q)
 
-      stemmed : (S : Stem) → onStem s n most S ≡ Holds x next → onStem s n most′ S ≡ Holds x next
-      stemmed (stem.Read h o b from) q = listed h o b from (listedFrom most s n from []) refl q
-      stemmed (stem.Wrong place) q = absurd (no-row q)
+      stemmed : (S : Stalk) → onStem s n most S ≡ Holds x next → onStem s n most′ S ≡ Holds x next
+      stemmed (Bears h o b from) q = listed h o b from (listedFrom most s n from []) refl q
+      stemmed (Bare place) q = absurd (no-row q)
 
 -- The lines still to come ------------------------------------------------------------------------------------------------------------------
 
@@ -391,14 +392,14 @@ module _ (s : List ℕ) (n : ℕ) (h₀ o₀ ms₀ s₀ t₀ h o ms sp t : List 
           let d = length-filled (here .this .tail) (drop k t) (omega arith) in
           omega arith
 
-  module _ (r : Line) (new : List ℕ) (g : ReadsLine (rowAt s n (min longestTail (length lent)) at) lent r new) where
-    this-line : r ≡ lineOf (Holds (here .this) (here .next))
-    this-line = g .answer ∙ ap lineOf this-row
+  module _ (ln : ℕ) (r : Line) (new : List ℕ) (g : ReadsLine ln at (rowAt s n (min longestTail (length lent)) at) lent r new) where
+    this-line : r ≡ lineOf ln at (Holds (here .this) (here .next))
+    this-line = g .answer ∙ ap (lineOf ln at) this-row
 
-    pub never-wrong : (place : ℕ) → r ≡ line.Wrong place → ⊥
-    never-wrong place q = no-line (sym q ∙ this-line)
+    pub never-refused : (x : Refusal) → r ≡ line.Refused x → ⊥
+    never-refused x q = no-line (sym q ∙ this-line)
       where
-        no-line : line.Wrong place ≡ lineOf (Holds (here .this) (here .next)) → ⊥
+        no-line : line.Refused x ≡ lineOf ln at (Holds (here .this) (here .next)) → ⊥
         no-line e = let z : _≡_ {A = ℕ} 0 1 = cc in omega arith
 
     -- the column, with the vertices of the line
@@ -411,7 +412,7 @@ module _ (s : List ℕ) (n : ℕ) (h₀ o₀ ms₀ s₀ t₀ h o ms sp t : List 
     abbrev pub Behind : Line → Type 0
     Behind (line.Edge v w m c next) = (at < next) × Filling s n h₀ o₀ ms₀ s₀ t₀ (set h i (v .0)) (set o i (w .0)) (set ms i (m .0)) (set (set sp (2 * i) k) (2 * i + 1) c)
         (take k t ++ (new ++ drop (length t - k) (drop k t))) next (i + 1) (k + c)
-    Behind (line.Wrong place) = Unit {0}
+    Behind (line.Refused x) = Unit {0}
 
     pub filling-next : (v : Vertex) (w : Weight) (m : Mark) (c next : ℕ) → r ≡ line.Edge v w m c next → Behind (line.Edge v w m c next)
     filling-next v w m c next q =

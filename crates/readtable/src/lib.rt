@@ -8,6 +8,7 @@ use reading::line_at;
 use refusal::Header;
 use refusal::Reading;
 use refusal::Refusal;
+use refusal::TextLine;
 ghost use mathlib.Core.Path.{_≡_};
 ghost use lib.ListN.{length};
 ghost use Rattle.text.specs.Machine.{parse};
@@ -61,7 +62,9 @@ fn fill(
     let mut i: usize = 0;
     let mut k: usize = 0;
     while at < text.len() {
-        let line = line_at(text, at, n, LONGEST_TAIL as usize, &mut tails[k..]);
+        let number = i as u64 + 2;
+        let here = TextLine(number);
+        let line = line_at(text, here, at, n, LONGEST_TAIL as usize, &mut tails[k..]);
         let Line::Edge(head, weight, mark, listed, next) = line else {
             return;
         };

@@ -39,9 +39,7 @@ use Rattle.text.proofs.Digits.{pick-by}
 use Rattle.text.specs.Machine.{begun, withEdge, mayList, Parse, Whole, Wrong, begin, parse}
 use Rattle.text.specs.Bytes.{failingAt, columnFrom, columnOf as textColumn}
 use Rattle.text.proofs.Bytes.{survived-inside}
-use Rattle.reading.specs.declared.FirstLine.{FirstLine}
-use Rattle.reading.specs.declared.FirstLine.the-variants as first
-use Rattle.reading.specs.Lines.{firstLine, Row, Holds, Fails, rowAt, onRow, scanFrom, onFirst, scan}
+use Rattle.reading.specs.Lines.{Opening, Opens, Unopened, firstLine, Row, Holds, Fails, rowAt, onRow, scanFrom, onFirst, scan}
 use Rattle.reading.proofs.Scanned.{scan-is-parse}
 use Rattle.writing.proofs.Widths.{width-one, width-more}
 use Rattle.report.specs.Report.{mostOutput, names, stateWord, row, rows, list, refusedWord, refusedWith, refusedLine}
@@ -230,9 +228,9 @@ scan-low (suc left) s at t h =
     (λ _. row-low t (rowAt s (t .vertices) (mayList t) at) rest (omega arith) (λ e next. scan-low left s next (withEdge t e) (let l = length-append (t .edges) (e ∷ []) in omega arith)))
     (λ _. tt)
 
-first-low : (s : List ℕ) (F : FirstLine) → PlacedLow (onFirst s F)
-first-low s (first.Read n m start) = scan-low mostEdges s start (begun n m) (omega arith)
-first-low s (first.Wrong place) = omega arith
+first-low : (s : List ℕ) (F : Opening) → PlacedLow (onFirst s F)
+first-low s (Opens n m start) = scan-low mostEdges s start (begun n m) (omega arith)
+first-low s (Unopened place) = omega arith
 
 pub wrong-low : (s : List ℕ) (l : ℕ) → parse s ≡ Wrong l → l ≤ mostEdges + 2
 unfolding scan

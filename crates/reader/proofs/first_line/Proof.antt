@@ -42,7 +42,7 @@ use denote.Triple.Table.{entered, cited}
 use denote.Triple.Walked.{says, Stays, stay-none, walkOf, goes-none, Walks, ends-at, walked, walk-meets}
 use denote.Exit.{yes}
 use denote.Triple.Clauses.{ensured, lasts}
-use Rattle.reading.specs.Lines.{firstLine}
+use Rattle.reading.specs.Lines.{firstLine, firstOf}
 use Rattle.reader.specs.declared.Reader.{Reader}
 use Rattle.reading.specs.declared.FirstLine.{FirstLine}
 use Rattle.reader.proofs.Reader as T
@@ -79,7 +79,7 @@ module _ {M : Type 1} (𝓤 : URA M) (H : Heap 𝓤) (A : Atoms 𝓤) (W : Given
   v = sliceVal (d .text .ptr) (length (d .text .now))
 
   abbrev found : FirstLine
-  found = firstLine (now (d .text))
+  found = firstOf (firstLine (now (d .text)))
 
   abbrev Post : Val → SProp 𝓤
   Post = walkOf 𝓤 H A next.ended stayed (next.clauses 𝓤 H A mem run) .post (((κ, tt), (q, tt), tt, (d, tt), (mach ∷ [], tt)), tt)

@@ -91,7 +91,7 @@ module _ {M : Type 1} (𝓤 : URA M) (H : Heap 𝓤) (A : Atoms 𝓤) (W : Given
 
   -- the line at a place of a text
   abbrev lineIn : RefT (List ℕ) → ℕ → Line
-  lineIn x k = lineOf (rowAt (now x) n (min m longestTail) k)
+  lineIn x k = lineOf 1 k (rowAt (now x) n (min m longestTail) k)
 
   -- the machine values passed
   abbrev at : Vals line.signature (κ, tt)

@@ -83,7 +83,7 @@ module _ {M : Type 1} (𝓤 : URA M) (H : Heap 𝓤) (A : Atoms 𝓤) (W : Given
   v = sliceVal (d .text .ptr) (length (d .text .now))
 
   abbrev found : Line
-  found = lineOf (rowAt (now (d .text)) n (min m longestTail) (d .at))
+  found = lineOf 1 (d .at) (rowAt (now (d .text)) n (min m longestTail) (d .at))
 
   -- the machine values passed
   abbrev at : Vals next.signature (κ, tt)

@@ -1,11 +1,11 @@
 -- `reading::check_lines` meets its contract. The invariant: the lines passed make a table, and what is left has the answer of the whole. Assumes nothing.
-use mathlib.Core.Path.{_≡_, sym, _∙_}
-use Prim.Native.Nat.{_+_, _-_, _*_, _^_, _≤_, _<_}
+use mathlib.Core.Path.{_≡_, sym, _∙_, ap}
+use Prim.Native.Nat.{_+_, _-_, _≤_, _<_}
 use native.Mathlib.Omega.{arith}
 use borrow.Author.Needs.{needs}
 use lib.ListN.{length}
+use Rattle.refusal.specs.declared.Reading.the-variants.{Refused}
 use Rattle.columns.specs.Acceptance.{longestTail}
-use Rattle.reading.proofs.Scanned.{Refuses}
 use Rattle.reading.proofs.Scanning.{Scanning, scan-begun}
 use Rattle.reading.proofs.Laws.{refused-there, all-told, full-refused, line-refused, line-next}
 use Rattle.reading.proofs.check_lines.Statement.{statement}
@@ -24,9 +24,7 @@ add-number : tie.Need-add-number Inv-loop μ-loop
 add-number c = let f = c .before .loop .inv .1 .few in omega arith
 
 returns : tie.Need-returns Inv-loop μ-loop
-returns c = let t = c .before in
-    let l = t .before .before in
-    c .wrong .ensures ∙ full-refused _ _ _ _ _ _ (l .loop .inv .1) (t .before .loop-test .taken) (t .if1 .taken)
+returns c = full-refused _ _ _ _ _ _ (c .before .before .loop .inv .1) (c .before .loop-test .taken) (c .if1 .taken)
 
 sub-most : tie.Need-sub-most Inv-loop μ-loop
 sub-most c = c .before .before .loop .inv .1 .few-listed
@@ -34,30 +32,15 @@ sub-most c = c .before .before .loop .inv .1 .few-listed
 slice-aggregate-line-at : tie.Need-slice-aggregate-line-at Inv-loop μ-loop
 slice-aggregate-line-at c = sym (c .before .before .before .loop .inv .0)
 
--- a line that fails, and where
-fault : (c : tie.After-known-told Inv-loop μ-loop) →
-    let e = c .before .before .before .before .before .before in
-    let l = e .before .before in
-    Refuses (l .before .before .args .text .now) (l .loop .edges + 2) (c .before .line .given .0 .0) (l .loop .at)
-fault c =
+-- a line that fails
+returns-2 : tie.Need-returns-2 Inv-loop μ-loop
+returns-2 c =
     let a = c .before .before .before .before in
     let e = a .before .before in
     let l = e .before .before in
-    line-refused _ _ _ _ _ _ (l .loop .inv .1) (e .before .loop-test .taken) (e .if1 .left) _ (l .loop .inv .0) _ (a .line-at .ensures .answer) _ (c .before .line .given .1)
-
-sub-column : tie.Need-sub-column Inv-loop μ-loop
-sub-column c = fault c .behind-start
-
--- a text takes less than 2^63 bytes
-add-column : tie.Need-add-column Inv-loop μ-loop
-add-column c =
-    let b = c .before .before .before .before .before .before .before .before .before .before in
-    let g : length (b .args .text .now) * 1 < 2 ^ 63 = b .good .0 .1 in
-    let h = fault c .inside in
-    omega arith
-
-returns-2 : tie.Need-returns-2 Inv-loop μ-loop
-returns-2 c = c .wrong2 .ensures ∙ refused-there _ _ _ _ (fault (c .before))
+    let r =
+    line-refused _ _ _ _ _ _ (l .loop .inv .1) (e .before .loop-test .taken) (e .if1 .left) _ (l .loop .inv .0) _ _ (a .line-at .ensures .answer) _ (c .before .line .given .1) in
+    ap Refused (r .1) ∙ refused-there _ _ _ _ (r .2)
 
 -- a line was read
 next-line : (c : tie.After-known-told2 Inv-loop μ-loop) →
@@ -71,7 +54,7 @@ next-line c =
     let a = c .before .before .before .before in
     let e = a .before .before in
     let l = e .before .before in
-    line-next _ _ _ _ _ _ (l .loop .inv .1) (e .before .loop-test .taken) (e .if1 .left) _ (l .loop .inv .0) _ (a .line-at .ensures .answer) _ _ _ _ _ (c .before .line2 .given .1)
+    line-next _ _ _ _ _ _ (l .loop .inv .1) (e .before .loop-test .taken) (e .if1 .left) _ (l .loop .inv .0) _ _ (a .line-at .ensures .answer) _ _ _ _ _ (c .before .line2 .given .1)
 
 add-edges : tie.Need-add-edges Inv-loop μ-loop
 add-edges c = let f = next-line c .2 .few in omega arith
@@ -96,15 +79,11 @@ check-lines-spec =
     μ-loop
     loop-holds
     add-number
-    (λ c κs. search needs)
     returns
     sub-most
     slice-aggregate-line-at
     (λ c κs. search needs)
     (λ c. search needs)
-    sub-column
-    add-column
-    (λ c κs. search needs)
     returns-2
     (λ c. search needs)
     add-edges

@@ -1,38 +1,64 @@
 -- `reading::first_line` meets its contract. Assumes nothing.
 use mathlib.Core.Path.{_≡_, sym, _∙_, ap, subst}
 use mathlib.Core.List.{List, _++_, [], _∷_}
-use Prim.Native.Nat.{ℕ, _+_, _≤_, _<_}
+use Prim.Native.Nat.{ℕ, _+_, _≤_, _<_, max}
 use native.Mathlib.Omega.{arith}
 use borrow.Author.Needs.{needs}
 use lib.ListN.{length, getD, drop, length-drop}
 use Rattle.weights.specs.declared.Measure.{Measure}
+use Rattle.refusal.specs.declared.Refusal.{Refusal}
 use Rattle.columns.specs.Acceptance.{mostVertices}
 use Rattle.text.specs.Render.{word, firstWord}
 use Rattle.columns.proofs.Filled.{part-whole}
 use Rattle.cursor.specs.declared.Found.the-variants.{Number}
 use Rattle.cursor.specs.Cursor.{token, numberAt}
-use Rattle.cursor.proofs.Counts.{byte-within, number-counts}
+use Rattle.cursor.proofs.Counts.{byte-within, number-counts, token-within}
 use Rattle.reading.specs.declared.FirstLine.the-variants as first
-use Rattle.reading.specs.Lines.{agreeing, onCount, onCounted, firstLine}
+use Rattle.reading.specs.Lines.{agreeing, Opening, Unopened, firstOf, onCount, onCounted, firstLine, refusedAt}
 use Rattle.reading.proofs.Scanning.{agrees-within}
-use Rattle.reading.proofs.Laws.{first-unopened, first-opened, count-silent, count-named, count-unnamed}
+use Rattle.reading.proofs.Laws.{in-line, first-unopened, first-opened, count-silent, count-named, count-unnamed}
 use Rattle.reading.proofs.first_line.Statement.{statement}
 use Rattle.reading.proofs.first_line.Tie as tie
 
+-- what a fault's place says is refused there
+refused : (F : Opening) (place : ℕ) (r : Refusal) → r ≡ refusedAt 1 0 place → Unopened place ≡ F → first.Refused r ≡ firstOf F
+refused F place r e q = ap first.Refused e ∙ ap firstOf q
+
+refused-at-requires : tie.Need-refused-at-requires
+refused-at-requires c κs = let h = c .if1 .taken in record { behind-start = omega arith; near = omega arith }
+
 returns : tie.Need-returns
 unfolding firstWord
-returns c = let e = c .before .agree .ensures in ap first.Wrong e ∙ first-unopened _ (subst (λ (k : ℕ). k < 6) e (c .if1 .taken))
+returns c =
+    let t = c .before in
+    let e = t .before .agree .ensures in
+    refused _ _ _ (c .refused-at .ensures) (ap Unopened e ∙ first-unopened _ (subst (λ (k : ℕ). k < 6) e (t .if1 .taken)))
 
 -- behind the firstWord the number of vertices decides
 opened : (c : tie.Else1) → let s = c .before .before .before .before .args .text .now in onCounted s (numberAt s 6 (mostVertices + 1)) ≡ firstLine s
 unfolding firstWord
 opened c = first-opened _ (subst (λ (k : ℕ). 6 ≤ k) (c .before .agree .ensures) (c .if1 .left))
 
+refused-at-requires-2 : tie.Need-refused-at-requires-2
+unfolding firstWord
+refused-at-requires-2 c κs =
+    let n = c .before .before in
+    let b = n .before .before .before .before .before in
+    let h = n .before .if1 .left in
+    let e = n .before .before .agree .ensures in
+    let l = agrees-within firstWord (b .args .text .now) in
+    let many : 6 ≤ agreeing firstWord (b .args .text .now) = subst (λ (k : ℕ). 6 ≤ k) e h in
+    let high = token-within (b .args .text .now) 6 (mostVertices + 1) .1 in
+    let high′ : numberAt (b .args .text .now) 6 (mostVertices + 1) .stop ≤ max 0 (length (b .args .text .now)) = omega arith in
+    in-line (b .args .text .now) 0 _ (b .good .0 .1) (omega arith) (rw (n .number-at .ensures) high′)
+
 returns-2 : tie.Need-returns-2
 returns-2 c =
-    let n = c .before .before in
+    let t = c .before in
+    let n = t .before .before in
     let s = n .before .before .before .before .before .args .text .now in
-    ap (onCount s (n .number-at .result .stop)) (sym (c .enum-told .given .1)) ∙ ap (onCounted s) (n .number-at .ensures) ∙ opened (n .before)
+    refused _ _ _ (c .refused-at2 .ensures)
+    (ap (onCount s (n .number-at .result .stop)) (sym (t .enum-told .given .1)) ∙ ap (onCounted s) (n .number-at .ensures) ∙ opened (n .before))
 
 abbrev text : tie.After-known-told → List ℕ
 text c = c .before .before .before .before .before .before .before .before .args .text .now
@@ -63,7 +89,7 @@ returns-3 c =
     let t = c .before in
     let k = t .before .before in
     ap (λ (m : Measure). first.Read (k .before .found .given .0 .0) m (behind k + 1)) (c .default-measure .ensures)
-    ∙ count-silent _ _ _ _ _ (counted k) (ended t) ∙ opened (k .before .before .before .before)
+    ∙ ap firstOf (count-silent _ _ _ _ _ (counted k) (ended t) ∙ opened (k .before .before .before .before))
 
 sub-agree : tie.Need-sub-agree
 sub-agree c = inside (c .before .before)
@@ -87,13 +113,21 @@ named-inside c =
 add-place : tie.Need-add-place
 add-place c = omega (arith, named-inside (c .before))
 
+refused-at-requires-3 : tie.Need-refused-at-requires-3
+refused-at-requires-3 c κs =
+    let b = c .before .before .before .before .before .before .before .before .before .before .before .before .before .before in
+    let h = named-inside (c .before) in
+    in-line (b .args .text .now) 0 _ (b .good .0 .1) (omega arith) (omega arith)
+
 returns-4 : tie.Need-returns-4
 returns-4 c =
-    let e = c .before .before .before .before in
+    let t = c .before in
+    let e = t .before .before .before .before in
     let k = e .before .before in
-    let q = named (c .before) in
-    ap (λ (j : ℕ). first.Wrong (behind k + j)) q
-    ∙ count-unnamed _ _ _ _ _ (counted k) (unended e) (subst (λ (j : ℕ). j < 6) q (c .if3 .taken)) ∙ opened (k .before .before .before .before)
+    let q = named (t .before) in
+    refused _ _ _ (c .refused-at3 .ensures)
+    (ap (λ (j : ℕ). Unopened (behind k + j)) q
+    ∙ count-unnamed _ _ _ _ _ (counted k) (unended e) (subst (λ (j : ℕ). j < 6) q (t .if3 .taken)) ∙ opened (k .before .before .before .before))
 
 add-start-2 : tie.Need-add-start-2
 add-start-2 c = let h = c .if3 .left in omega (arith, named-inside (c .before))
@@ -104,7 +138,7 @@ returns-5 c =
     let e = t .before .before .before .before in
     let k = e .before .before in
     ap (λ (m : Measure). first.Read (k .before .found .given .0 .0) m (behind k + 6)) (c .named-measure .ensures)
-    ∙ count-named _ _ _ _ _ (counted k) (unended e) (subst (λ (j : ℕ). 6 ≤ j) (named (t .before)) (t .if3 .left)) ∙ opened (k .before .before .before .before)
+    ∙ ap firstOf (count-named _ _ _ _ _ (counted k) (unended e) (subst (λ (j : ℕ). 6 ≤ j) (named (t .before)) (t .if3 .left)) ∙ opened (k .before .before .before .before))
 
 pub first-line-spec : {M : Type 1} → statement M
 first-line-spec =
@@ -112,11 +146,13 @@ first-line-spec =
     (tie.spec
     (λ c. search needs)
     (λ c κs. search needs)
+    refused-at-requires
     returns
     (λ c. search needs)
     (λ c κs. search needs)
     (λ c. search needs)
     (λ c. search needs)
+    refused-at-requires-2
     returns-2
     (λ c κs. search needs)
     add-start
@@ -128,6 +164,7 @@ first-line-spec =
     (λ c. search needs)
     (λ c κs. search needs)
     add-place
+    refused-at-requires-3
     returns-4
     add-start-2
     (λ c κs. search needs)

@@ -7,7 +7,8 @@ use lib.ListN.{length, length-set}
 use Rattle.text.proofs.Sound.{never}
 use Rattle.reading.proofs.Scanned.{scan-is-parse}
 use Rattle.reading.proofs.Scanning.{scan-unopened, scan-begun, scan-begun-edges}
-use Rattle.readtable.proofs.Laws.{Filling, filling-none, tails-room, edge-room, never-wrong, filling-next, filling-end}
+use Rattle.reading.proofs.Laws.{opened, unopened}
+use Rattle.readtable.proofs.Laws.{Filling, filling-none, tails-room, edge-room, never-refused, filling-next, filling-end}
 use Rattle.readtable.proofs.fill.Statement.{statement}
 use Rattle.readtable.proofs.fill.Tie as tie
 
@@ -24,11 +25,12 @@ enum-told c = search needs
 returns : tie.Need-returns Inv-loop μ-loop
 returns c =
     let b = c .before .before .before .before .before .before .before .before .before in
-    absurd (never (sym (scan-unopened (b .args .text .now) _ (sym (c .before .before .first-line .ensures) ∙ c .enum-told .given .1)) ∙ scan-is-parse (b .args .text .now) ∙ b .pre .whole))
+    let f = unopened _ _ (sym (c .enum-told .given .1) ∙ c .before .before .first-line .ensures) in
+    absurd (never (sym (scan-unopened (b .args .text .now) _ (f .1)) ∙ scan-is-parse (b .args .text .now) ∙ b .pre .whole))
 
 loop-holds : tie.Need-loop-holds Inv-loop μ-loop
 loop-holds c =
-    let e = sym (c .before .before .before .first-line .ensures) ∙ c .before .first .given .1 in
+    let e = opened _ _ _ _ (sym (c .before .first .given .1) ∙ c .before .before .before .first-line .ensures) in
     filling-none _ _ _ _ (scan-begun _ _ _ _ e) _ _ _ _ _ (scan-begun-edges _ _ _ _ e)
 
 -- In a turn: there is room for the line, and no place in a column is so great that it would not fit
@@ -54,6 +56,9 @@ sizes l =
 writable : (l : tie.In-loop Inv-loop μ-loop)
     → let t = l .before .loop in (t .i < length (t .heads)) × (t .i < length (t .own)) × (t .i < length (t .strikes)) × (2 * t .i + 1 < length (t .spans))
 writable l = edge-room _ _ _ _ _ _ _ _ _ _ _ _ _ _ _ (l .before .loop .inv) (start l .pre) (l .loop-test .taken)
+
+add-number : tie.Need-add-number Inv-loop μ-loop
+add-number c = let w = writable c .0 in let z = sizes c .0 in omega arith
 
 mul-line-at : tie.Need-mul-line-at Inv-loop μ-loop
 mul-line-at c = let r = roomy c in let z = sizes c .4 in omega arith
@@ -81,7 +86,7 @@ not-here : (c : tie.After-enum-told2 Inv-loop μ-loop) → ⊥
 not-here c =
     let a = c .before .before .before .before in
     let l = a .before .before in
-    never-wrong _ _ _ _ _ _ _ _ _ _ _ _ _ _ _ (l .before .loop .inv) (start l .pre) (l .loop-test .taken) _ _ (a .line-at .ensures) _ (c .enum-told2 .given .1)
+    never-refused _ _ _ _ _ _ _ _ _ _ _ _ _ _ _ (l .before .loop .inv) (start l .pre) (l .loop-test .taken) _ _ _ (a .line-at .ensures) _ (c .enum-told2 .given .1)
 
 same-length-5 : tie.Need-same-length-5 Inv-loop μ-loop
 same-length-5 c = absurd (not-here c)
@@ -139,13 +144,13 @@ loop-again : tie.Need-loop-again Inv-loop μ-loop
 loop-again c =
     let a = c .before .before .before .before .before in
     let l = turn c in
-    filling-next _ _ _ _ _ _ _ _ _ _ _ _ _ _ _ (l .before .loop .inv) (start l .pre) (l .loop-test .taken) _ _ (a .line-at .ensures) _ _ _ _ _ (c .before .line .given .1) .1
+    filling-next _ _ _ _ _ _ _ _ _ _ _ _ _ _ _ (l .before .loop .inv) (start l .pre) (l .loop-test .taken) _ _ _ (a .line-at .ensures) _ _ _ _ _ (c .before .line .given .1) .1
 
 later : (c : tie.After-known-told2 Inv-loop μ-loop) → turn c .before .loop .at < c .before .line .given .0 .1 .1 .1 .1 .0
 later c =
     let a = c .before .before .before .before .before in
     let l = turn c in
-    filling-next _ _ _ _ _ _ _ _ _ _ _ _ _ _ _ (l .before .loop .inv) (start l .pre) (l .loop-test .taken) _ _ (a .line-at .ensures) _ _ _ _ _ (c .before .line .given .1) .0
+    filling-next _ _ _ _ _ _ _ _ _ _ _ _ _ _ _ (l .before .loop .inv) (start l .pre) (l .loop-test .taken) _ _ _ (a .line-at .ensures) _ _ _ _ _ (c .before .line .given .1) .0
 
 add-k : tie.Need-add-k Inv-loop μ-loop
 add-k c = let f = loop-again c .scanning .few-listed in omega arith
@@ -182,6 +187,7 @@ fill-spec =
     enum-told
     returns
     loop-holds
+    add-number
     mul-line-at
     sub-line-at
     part-line-at-start

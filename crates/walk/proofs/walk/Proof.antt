@@ -11,7 +11,7 @@ use Rattle.text.specs.Machine.{Parse, Whole, Wrong, parse}
 use Rattle.reading.specs.Lines.{scan}
 use Rattle.reading.proofs.Scanned.{scan-is-parse}
 use Rattle.reading.proofs.Scanning.{Scanning, scan-unopened, scan-begun, scan-full, scan-end}
-use Rattle.reading.proofs.Laws.{line-refused, line-next}
+use Rattle.reading.proofs.Laws.{opened, unopened, line-refused, line-next}
 use Rattle.walk.specs.Walked.{walkedOf}
 use Rattle.walk.proofs.walk.Statement.{statement}
 use Rattle.walk.proofs.walk.Tie as tie
@@ -30,10 +30,10 @@ enum-told : tie.Need-enum-told Inv-loop μ-loop
 enum-told c = search needs
 
 returns : tie.Need-returns Inv-loop μ-loop
-returns c = told _ (Wrong 1) (scan-unopened _ _ (sym (c .before .before .first-line .ensures) ∙ c .enum-told .given .1))
+returns c = told _ (Wrong 1) (scan-unopened _ _ (unopened _ _ (sym (c .enum-told .given .1) ∙ c .before .before .first-line .ensures) .1))
 
 loop-holds : tie.Need-loop-holds Inv-loop μ-loop
-loop-holds c = (_, scan-begun _ _ _ _ (sym (c .before .before .before .first-line .ensures) ∙ c .before .first .given .1))
+loop-holds c = (_, scan-begun _ _ _ _ (opened _ _ _ _ (sym (c .before .first .given .1) ∙ c .before .before .before .first-line .ensures)))
 
 add-here : tie.Need-add-here Inv-loop μ-loop
 add-here c = let f = c .before .loop .inv .1 .few in omega arith
@@ -49,8 +49,8 @@ returns-3 c =
     let a = c .before .before in
     let e = a .before in
     let l = e .before .before in
-    let r = line-refused _ _ _ _ _ _ (l .loop .inv .1) (e .before .loop-test .taken) (e .if1 .left) longestTail refl _ (a .line-from .ensures) _ (c .enum-told2 .given .1) in
-    ap walkedOf (sym (r .wrong))
+    let r = line-refused _ _ _ _ _ _ (l .loop .inv .1) (e .before .loop-test .taken) (e .if1 .left) longestTail refl _ _ (a .line-from .ensures) _ (c .enum-told2 .given .1) in
+    ap walkedOf (sym (r .2 .wrong))
 
 -- a line was read
 next-line : (c : tie.After-known-told2 Inv-loop μ-loop) →
@@ -63,7 +63,7 @@ next-line c =
     let a = c .before .before .before in
     let e = a .before in
     let l = e .before .before in
-    line-next _ _ _ _ _ _ (l .loop .inv .1) (e .before .loop-test .taken) (e .if1 .left) longestTail refl _ (a .line-from .ensures) _ _ _ _ _ (c .before .line .given .1)
+    line-next _ _ _ _ _ _ (l .loop .inv .1) (e .before .loop-test .taken) (e .if1 .left) longestTail refl _ _ (a .line-from .ensures) _ _ _ _ _ (c .before .line .given .1)
 
 add-edges : tie.Need-add-edges Inv-loop μ-loop
 add-edges c = let f = next-line (c .before) .2 .few in omega arith
