@@ -1,18 +1,33 @@
 -- The laws of the definitions of specs/ by which the loops go. Assumes nothing.
-use mathlib.Core.Path.{_≡_}
+use mathlib.Core.Path.{_≡_, refl}
 use mathlib.Core.List.{List}
-use Prim.Native.Nat.{ℕ, _+_, _*_, _-_, _≤_, _<_}
+use Prim.Native.Nat.{ℕ, _+_, _*_, _-_, _%_, _≤_, _<_}
 use native.Mathlib.Numerals.{add-one}
 use native.Mathlib.Omega.{arith}
 use lib.ListN.{length, getD, drop, drop-of-length-le}
+use lib.Dec.{ltb}
 use lib.Seq.{drop-cons}
-use borrow.Author.Tests.{lt-ltb, le-ltb, le-leb, lt-leb, eq-eqb, ne-eqb}
+use borrow.Author.Tests.{lt-ltb, le-ltb, le-leb, lt-leb, eq-eqb, ne-eqb, ltb-true, ltb-false}
 use Rattle.text.specs.Machine.{digitOf}
+use Rattle.text.proofs.Digits.{pick-by}
 use Rattle.cursor.specs.declared.Found.the-variants.{Number, NotANumber}
 use Rattle.cursor.specs.Cursor.{token, digitsFrom, numberOf, numberAt}
 
 -- a test of a definition, from the fact that a branch gives: `search tests` at a return
 pub ruleset tests = (lt-ltb, le-ltb, le-leb, lt-leb, eq-eqb, ne-eqb)
+
+-- a byte counted from `0` on, round the 256 of them
+module _ (b : ℕ) (h : b < 256) where
+  by-bounds : (P : ℕ → Type 0) → (b < 48 → P 10) → (57 < b → P 10) → (48 ≤ b → b ≤ 57 → P (b - 48)) → P (digitOf b)
+  unfolding digitOf
+  by-bounds P low high is = pick-by P (ltb b 48) (λ l. low (ltb-true _ _ l))
+      (λ l. pick-by P (ltb 57 b) (λ g. high (ltb-true _ _ g)) (λ g. is (ltb-false _ _ l) (ltb-false _ _ g)))
+
+  pub digit-none : 9 < (b + 208) % 256 → 10 ≡ digitOf b
+  digit-none l = by-bounds (λ d. 10 ≡ d) (λ _. refl) (λ _. refl) (λ g k. absurd (omega arith))
+
+  pub digit-is : (b + 208) % 256 ≤ 9 → (b + 208) % 256 ≡ digitOf b
+  digit-is l = by-bounds (λ d. (b + 208) % 256 ≡ d) (λ g. absurd (omega arith)) (λ g. absurd (omega arith)) (λ g k. omega arith)
 
 -- nothing is left of the text
 pub digits-end : (s : List ℕ) (start i limit v : ℕ) → length s ≤ i → token start i (Number v) ≡ digitsFrom (drop i s) start i limit v

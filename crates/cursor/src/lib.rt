@@ -55,17 +55,16 @@ pub fn byte_at(text: &[u8], at: usize) -> u8
     text[at]
 }
 
-// The digit that a byte is, else 10.
+// The digit that a byte is, else 10. Counted round the 256 bytes from `0` on, the digits come first:
+// one comparison tells them from all others.
 pub fn digit(b: u8) -> u64
     ensures { λ r. ⌜ r ≡ digitOf b ⌝ }
 {
-    if b < 48 {
+    let d = (b as u64 + 208) % 256;
+    if d > 9 {
         return 10;
     }
-    if b > 57 {
-        return 10;
-    }
-    (b - 48) as u64
+    d
 }
 
 impl Token {

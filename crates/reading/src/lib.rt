@@ -129,6 +129,15 @@ pub fn stem_at(text: &[u8], line: TextLine, at: usize, n: u64) -> Stem
     Stem::Read(Vertex(v), own, mark, next)
 }
 
+fn lesser(a: usize, b: usize) -> usize
+    ensures { λ r. ⌜ r ≡ min a b ⌝ }
+{
+    if a < b {
+        return a;
+    }
+    b
+}
+
 // The vertices listed from a place of a text line on, each behind a space, are stored from the room's
 // start. There may be `most`, and no more than the room has places: the space before one too many can't
 // stand.
@@ -146,13 +155,11 @@ fn tail_at(
         let listing = listedFrom (min most (length (now (room .entry)))) (now (text .entry)) n at [] in
         ⌜ ReadsTail (line .0) start listing (now (room .entry)) r (now (room .exit)) ⌝ }
 {
+    let limit = lesser(most, room.len());
     let mut k: usize = 0;
     let mut next = at;
     while byte_at(text, next) == b' ' {
-        if k >= most {
-            return Tail::Refused(refused_at(line, start, next));
-        }
-        if k >= room.len() {
+        if k >= limit {
             return Tail::Refused(refused_at(line, start, next));
         }
         let from = next + 1;
