@@ -30,6 +30,7 @@ use Rattle.refusal.specs.declared.Refusal.the-variants.{
   StrikeMark,
   SampleSize,
   TooLarge,
+  Order,
 }
 use Rattle.refusal.specs.declared.Code.{Code}
 use Rattle.refusal.specs.Refusals.{codeOf, columnOf}
@@ -39,7 +40,7 @@ abbrev numberedAt : (p c : ℕ) → List Refusal
 numberedAt p c =
     NotStruck ∷ TooManyVertices ∷ Lengths ∷ Head (record { 0 = p }) ∷ Own (record { 0 = p }) ∷ Span (record { 0 = p }) ∷ Tail (record { 0 = p })
     ∷ AnswerLength ∷ WrongAnswers ∷ NoSuchEdge ∷ NewWeight ∷ NoSuchVertex ∷ Underivable ∷ BillRoom ∷ Text (record { 0 = p }) (record { 0 = c }) ∷ TextRoom ∷ MeasureNumber
-    ∷ InputLength ∷ ColumnRoom ∷ WrongIndex ∷ NotStruck ∷ StrikeMark (record { 0 = p }) ∷ SampleSize ∷ TooLarge (record { 0 = p }) ∷ []
+    ∷ InputLength ∷ ColumnRoom ∷ WrongIndex ∷ NotStruck ∷ StrikeMark (record { 0 = p }) ∷ SampleSize ∷ TooLarge (record { 0 = p }) ∷ Order (record { 0 = p }) ∷ []
 
 abbrev refusalOf : Code → (column : ℕ) → Refusal
 refusalOf c column = getD (numberedAt (c .place) column) (c .number) NotStruck
@@ -68,6 +69,7 @@ refusal-code NotStruck = refl
 refusal-code (StrikeMark e) = refl
 refusal-code SampleSize = refl
 refusal-code (TooLarge i) = refl
+refusal-code (Order e) = refl
 
 pub codes-differ : (r s : Refusal) → codeOf r ≡ codeOf s → columnOf r ≡ columnOf s → r ≡ s
 codes-differ r s e f = sym (refusal-code r) ∙ ap₂ refusalOf e f ∙ refusal-code s

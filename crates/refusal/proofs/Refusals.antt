@@ -28,6 +28,7 @@ use Rattle.refusal.specs.declared.Refusal.the-variants.{
   StrikeMark,
   SampleSize,
   TooLarge,
+  Order,
 }
 use Rattle.refusal.specs.declared.Code.{Code}
 use Rattle.refusal.specs.Refusals.{numberOf, lastPlace, resultOf}
@@ -35,8 +36,8 @@ use Rattle.refusal.specs.Refusals.{numberOf, lastPlace, resultOf}
 pub exact : (c : Code) → c .place ≤ lastPlace → resultOf c ≡ c .number * 4_294_967_296 + c .place
 exact c h = omega arith
 
--- there are twenty-three, numbered from 1
-pub numbered : (r : Refusal) → (1 ≤ numberOf r) × (numberOf r ≤ 23)
+-- there are twenty-four, numbered from 1
+pub numbered : (r : Refusal) → (1 ≤ numberOf r) × (numberOf r ≤ 24)
 numbered TooManyVertices = omega arith
 numbered Lengths = omega arith
 numbered (Head e) = omega arith
@@ -60,3 +61,4 @@ numbered NotStruck = omega arith
 numbered (StrikeMark e) = omega arith
 numbered SampleSize = omega arith
 numbered (TooLarge i) = omega arith
+numbered (Order e) = omega arith

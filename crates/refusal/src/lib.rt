@@ -62,6 +62,8 @@ pub enum Refusal {
     SampleSize,
     // 23: a result that is too large.
     TooLarge(Observation),
+    // 24: a hyperedge that lists its head or a higher vertex.
+    Order(Hyperedge),
 }
 
 // A refusal's number, and its place: the hyperedge, the text line or the result that it names, else
@@ -108,6 +110,7 @@ impl Refusal {
             Refusal::StrikeMark(e) => Code::of(21, e.0),
             Refusal::SampleSize => Code::of(22, 0),
             Refusal::TooLarge(i) => Code::of(23, i.0),
+            Refusal::Order(e) => Code::of(24, e.0),
         }
     }
 

@@ -76,11 +76,16 @@ returns-22 c = c .of22 .ensures ∙ sym (ap codeOf (c .before .enum-told16 .give
 returns-23 : tie.Need-returns-23
 returns-23 c = c .of23 .ensures ∙ sym (ap codeOf (c .before .before .self7 .given .1))
 
+returns-24 : tie.Need-returns-24
+returns-24 c = c .of24 .ensures ∙ sym (ap codeOf (c .before .before .self8 .given .1))
+
 pub code-spec : {M : Type 1} → statement M
 code-spec =
     tie.close
     (tie.spec
     enum-told
+    (λ c κs. search needs)
+    (λ c. search needs)
     (λ c κs. search needs)
     (λ c. search needs)
     (λ c κs. search needs)
@@ -148,4 +153,5 @@ code-spec =
     returns-20
     returns-21
     returns-22
-    returns-23)
+    returns-23
+    returns-24)
