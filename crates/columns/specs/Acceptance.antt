@@ -42,6 +42,17 @@ unfoldable pub allBelow : ℕ → List ℕ → Bool
 allBelow n [] = true
 allBelow n (v ∷ vs) = pick (ltb v n) (allBelow n vs) false
 
+-- refusals 3, 4, 21 and 5 of one line, where the span before it ends at `end` and `all` parts are listed in all
+unfoldable pub fieldsAcceptance : (n : ℕ) → Hyperedge → (head own mark offset size end all : ℕ) → Acceptance
+fieldsAcceptance n e head own mark offset size end all =
+    test (ltb head n) (Head e)
+    (test (leb own greatest) (Own e)
+    (test (leb mark struckMark) (StrikeMark e)
+    (test (leb end offset) (Span e)
+    (test (leb size longestTail) (Span e)
+    (test (leb (offset + size) all) (Span e)
+    Accepted)))))
+
 -- refusals 3, 4, 21, 5 and 6 of one line, where the span before it ends at `end`
 unfoldable pub edgeAcceptance : (n : ℕ) → Hyperedge → (head own mark offset size end : ℕ) → List ℕ → Acceptance
 edgeAcceptance n e head own mark offset size end tails =
@@ -61,6 +72,17 @@ edgeAt c e end = edgeAcceptance (c .vertices) (record { 0 = e }) (headAt c e) (o
 unfoldable pub edgesAcceptance : Columns → (left e end : ℕ) → Acceptance
 edgesAcceptance c zero e end = Accepted
 edgesAcceptance c (suc left) e end = andThen (edgeAt c e end) (edgesAcceptance c left (e + 1) (offsetAt c e + lengthAt c e))
+
+-- refusals 1 and 2
+unfoldable pub sizesAcceptance : Columns → Acceptance
+sizesAcceptance c =
+    test (leb (c .vertices) mostVertices) TooManyVertices
+    (test (eqb (length (c .own)) (length (c .heads))) Lengths
+    (test (eqb (length (c .strikes)) (length (c .heads))) Lengths
+    (test (leb (length (c .heads)) mostEdges) Lengths
+    (test (eqb (length (c .spans)) (2 * length (c .heads))) Lengths
+    (test (leb (length (c .tails)) mostListed) Lengths
+    Accepted)))))
 
 -- a table is accepted, or refused by the first of 1 to 6 and 21 that applies
 unfoldable pub acceptance : Columns → Acceptance

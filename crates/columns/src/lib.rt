@@ -14,7 +14,7 @@ ghost use Rattle.columns.specs.Columns.{columns, answers, tailOf};
 ghost use Rattle.columns.specs.Filled.{filled};
 ghost use Rattle.columns.specs.Lent.{Placed};
 ghost use Rattle.columns.specs.Same.{equal};
-ghost use Rattle.columns.specs.Acceptance.{allBelow, edgeAcceptance, edgesAcceptance, acceptance, lentAcceptance};
+ghost use Rattle.columns.specs.Acceptance.{allBelow, fieldsAcceptance, edgeAcceptance, edgesAcceptance, sizesAcceptance, acceptance, lentAcceptance};
 
 // The greatest numbers of vertices, of hyperedges, of listed vertices in all and of one hyperedge.
 pub const MOST_VERTICES: u64 = 1024;
@@ -41,10 +41,10 @@ pub fn all_below(n: u64, list: &[u64]) -> bool
     above == 0
 }
 
-// What is wrong with hyperedge e, whose tail is `size` vertices from `offset` on, where the tail
-// before it ends at `end`. `offset + size` could wrap, so it is not computed before the offset is
-// known to be within the column. Where the column is below n throughout, `clean`, no tail is read.
-fn check_edge(
+// What is wrong with hyperedge e, its tail apart: that is `size` vertices from `offset` on in a column
+// of `all`, where the tail before it ends at `end`. `offset + size` could wrap, so it is not computed
+// before the offset is known to be within the column.
+pub fn check_fields(
     n: u64,
     e: Hyperedge,
     head: Vertex,
@@ -53,11 +53,9 @@ fn check_edge(
     offset: u64,
     size: u64,
     end: u64,
-    tails: &[u64],
-    clean: bool,
+    all: u64,
 ) -> Acceptance
-    requires { ⌜ clean ≡ allBelow n (now tails) ⌝ }
-    ensures { λ r. ⌜ r ≡ edgeAcceptance n e (head .0) (own .0) (mark .0) offset size end (now (tails .entry)) ⌝ }
+    ensures { λ r. ⌜ r ≡ fieldsAcceptance n e (head .0) (own .0) (mark .0) offset size end all ⌝ }
 {
     if head.0 >= n {
         return Acceptance::Refused(Refusal::Head(e));
@@ -74,19 +72,43 @@ fn check_edge(
     if size > LONGEST_TAIL {
         return Acceptance::Refused(Refusal::Span(e));
     }
-    let all = tails.len() as u64;
     if offset > all {
         return Acceptance::Refused(Refusal::Span(e));
     }
-    let stop = offset + size;
-    if stop > all {
+    if size > all - offset {
         return Acceptance::Refused(Refusal::Span(e));
+    }
+    Acceptance::Accepted
+}
+
+// What is wrong with hyperedge e, its tail too. Where the column of tails is below n throughout,
+// `clean`, no tail is read.
+pub fn check_edge(
+    n: u64,
+    e: Hyperedge,
+    head: Vertex,
+    own: Weight,
+    mark: Mark,
+    offset: u64,
+    size: u64,
+    end: u64,
+    tails: &[u64],
+    clean: bool,
+) -> Acceptance
+    requires { ⌜ clean ≡ allBelow n (now tails) ⌝ }
+    ensures { λ r. ⌜ r ≡ edgeAcceptance n e (head .0) (own .0) (mark .0) offset size end (now (tails .entry)) ⌝ }
+{
+    let all = tails.len() as u64;
+    let a = check_fields(n, e, head, own, mark, offset, size, end, all);
+    match a {
+        Acceptance::Refused(r) => return Acceptance::Refused(r),
+        Acceptance::Accepted => {}
     }
     if clean {
         return Acceptance::Accepted;
     }
     let from = offset as usize;
-    let to = stop as usize;
+    let to = from + size as usize;
     if all_below(n, &tails[from..to]) {
         Acceptance::Accepted
     } else {
@@ -140,8 +162,8 @@ fn check_edges(
     Acceptance::Accepted
 }
 
-// Whether the table of n vertices is accepted, or the first refusal.
-pub fn check_table(
+// Whether there are not too many vertices, and the columns agree in length and are not too long.
+pub fn check_sizes(
     n: u64,
     heads: &[u64],
     own: &[u64],
@@ -149,7 +171,7 @@ pub fn check_table(
     spans: &[u64],
     tails: &[u64],
 ) -> Acceptance
-    ensures { λ r. ⌜ r ≡ acceptance (columns n (now (heads .entry)) (now (own .entry)) (now (strikes .entry)) (now (spans .entry)) (now (tails .entry))) ⌝ }
+    ensures { λ r. ⌜ r ≡ sizesAcceptance (columns n (now (heads .entry)) (now (own .entry)) (now (strikes .entry)) (now (spans .entry)) (now (tails .entry))) ⌝ }
 {
     if n > MOST_VERTICES {
         return Acceptance::Refused(Refusal::TooManyVertices);
@@ -168,6 +190,25 @@ pub fn check_table(
     }
     if tails.len() > MOST_LISTED {
         return Acceptance::Refused(Refusal::Lengths);
+    }
+    Acceptance::Accepted
+}
+
+// Whether the table of n vertices is accepted, or the first refusal.
+pub fn check_table(
+    n: u64,
+    heads: &[u64],
+    own: &[u64],
+    strikes: &[u64],
+    spans: &[u64],
+    tails: &[u64],
+) -> Acceptance
+    ensures { λ r. ⌜ r ≡ acceptance (columns n (now (heads .entry)) (now (own .entry)) (now (strikes .entry)) (now (spans .entry)) (now (tails .entry))) ⌝ }
+{
+    let a = check_sizes(n, heads, own, strikes, spans, tails);
+    match a {
+        Acceptance::Refused(r) => return Acceptance::Refused(r),
+        Acceptance::Accepted => {}
     }
     check_edges(n, heads, own, strikes, spans, tails)
 }

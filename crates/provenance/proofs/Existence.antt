@@ -184,7 +184,7 @@ zeros zero v = refl
 zeros (suc n) zero = refl
 zeros (suc n) (suc v) = zeros n v
 
-at-blank : (n v : ℕ) → labels (blank n) v ≡ unmade
+pub at-blank : (n v : ℕ) → labels (blank n) v ≡ unmade
 at-blank n v = λ i. record { weight = record { 0 = zeros n v i }; depth = zeros n v i; edge = record { 0 = zeros n v i } }
 
 -- no depth of a tail passes what none passes
@@ -202,14 +202,14 @@ sized-put a v l s =
       edges = length-set (a .edges) v (l .edge .0) ∙ s .edges;
     }
 
-put-here : {n : ℕ} (a : Answers) (v : ℕ) (l : Label) → Sized n a → v < n → labels (put a v l) v ≡ l
+pub put-here : {n : ℕ} (a : Answers) (v : ℕ) (l : Label) → Sized n a → v < n → labels (put a v l) v ≡ l
 put-here a v l s h =
     let p = getD-set-same (a .weights) v (l .weight .0) 0 (rw (s .weights) h) in
     let q = getD-set-same (a .depths) v (l .depth) 0 (rw (s .depths) h) in
     let r = getD-set-same (a .edges) v (l .edge .0) 0 (rw (s .edges) h) in
     λ i. record { weight = record { 0 = p i }; depth = q i; edge = record { 0 = r i } }
 
-put-elsewhere : (a : Answers) (v : ℕ) (l : Label) (w : ℕ) → w ≢ v → labels (put a v l) w ≡ labels a w
+pub put-elsewhere : (a : Answers) (v : ℕ) (l : Label) (w : ℕ) → w ≢ v → labels (put a v l) w ≡ labels a w
 put-elsewhere a v l w n =
     let p = getD-set-other (a .weights) v w (l .weight .0) 0 n in
     let q = getD-set-other (a .depths) v w (l .depth) 0 n in

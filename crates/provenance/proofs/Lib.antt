@@ -3,6 +3,7 @@ pub mod BestWeight
 pub mod Counting
 pub mod Exact
 pub mod Existence
+pub mod InOrder
 pub mod Local
 pub mod LowerBound
 pub mod Meaning

@@ -3,6 +3,7 @@ pub mod Labelling
 pub mod Means
 pub mod Support
 pub mod BestFirst
+pub mod InOrder
 pub mod Semirings
 pub mod Program
 pub mod Provenance

@@ -1,60 +1,35 @@
--- `columns::check_table` meets its contract: the first test that fails gives the refusal. Assumes nothing.
+-- `columns::check_table` meets its contract: the sizes are refused, or the hyperedges alone are left to be looked at. Assumes nothing.
 use borrow.Author.Needs.{needs}
 use Rattle.columns.proofs.check_table.Statement.{statement}
 use Rattle.columns.proofs.check_table.Tie as tie
-use mathlib.Core.Path.{_≡_, _∙_}
-use lib.ListN.{length}
+use mathlib.Core.Path.{_≡_, sym, _∙_}
+use Rattle.refusal.specs.declared.Acceptance.the-variants.{Accepted}
 use Rattle.columns.specs.Columns.{Columns, columns}
-use Rattle.columns.specs.Acceptance.{edgesAcceptance, acceptance}
-use Rattle.columns.proofs.Laws.{tests}
+use Rattle.columns.specs.Acceptance.{sizesAcceptance}
+use Rattle.columns.proofs.Sizes.{sizes-refused, sizes-passed, sizes-level}
+
+abbrev tableOf : tie.Start → Columns
+tableOf c = let a = c .args in columns (a .n) (a .heads .now) (a .own .now) (a .strikes .now) (a .spans .now) (a .tails .now)
 
 returns : tie.Need-returns
-unfolding acceptance
-returns c = search tests
+returns c = sizes-refused _ _ (sym (c .before .before .before .check-sizes .ensures) ∙ c .before .a .given .1)
+
+passed : (c : tie.After-enum-told) → sizesAcceptance (tableOf (c .before .before .before .before .before .before .before .before)) ≡ Accepted
+passed c = sym (c .before .before .check-sizes .ensures) ∙ c .enum-told .given .1
+
+check-edges-requires : tie.Need-check-edges-requires
+check-edges-requires c κs = let l = sizes-level _ (passed c) .1 in (l .own, l .strikes, l .spans)
 
 returns-2 : tie.Need-returns-2
-unfolding acceptance
-returns-2 c = search tests
-
-returns-3 : tie.Need-returns-3
-unfolding acceptance
-returns-3 c = search tests
-
-returns-4 : tie.Need-returns-4
-unfolding acceptance
-returns-4 c = search tests
-
-returns-5 : tie.Need-returns-5
-unfolding acceptance
-returns-5 c = search tests
-
-returns-6 : tie.Need-returns-6
-unfolding acceptance
-returns-6 c = search tests
-
--- past the tests of the lengths the hyperedges alone are left to be looked at
-abbrev table : tie.Else6 → Columns
-table c =
-    let a = c .before .before .before .before .before .before .before .before .before .before .before .args in
-    columns (a .n) (a .heads .now) (a .own .now) (a .strikes .now) (a .spans .now) (a .tails .now)
-
-tested : (c : tie.Else6) → edgesAcceptance (table c) (length (table c .heads)) 0 0 ≡ acceptance (table c)
-unfolding acceptance
-tested c = search tests
-
-returns-7 : tie.Need-returns-7
-returns-7 c = c .check-edges .ensures ∙ tested (c .before)
+returns-2 c = c .check-edges .ensures ∙ sizes-passed _ (passed (c .before))
 
 pub check-table-spec : {M : Type 1} → statement M
 check-table-spec =
     tie.close
     (tie.spec
-    returns
-    returns-2
-    returns-3
-    returns-4
-    (λ c. search needs)
-    returns-5
-    returns-6
     (λ c κs. search needs)
-    returns-7)
+    (λ c. search needs)
+    returns
+    (λ c. search needs)
+    check-edges-requires
+    returns-2)
