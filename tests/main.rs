@@ -7,6 +7,7 @@ mod bill;
 mod calls;
 mod index;
 mod model;
+mod ordered;
 mod random;
 mod reprice;
 mod settle;
@@ -46,6 +47,8 @@ const TESTS: &[&[Test]] = &[
     text::places::TESTS,
     text::unwritten::TESTS,
     statistics::TESTS,
+    ordered::TESTS,
+    ordered::refusals::TESTS,
 ];
 
 const SEED: u64 = 1;

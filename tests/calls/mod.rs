@@ -3,6 +3,7 @@
 
 pub mod growth;
 pub mod lending;
+pub mod ordered;
 pub mod statistics;
 pub mod texts;
 

@@ -1,0 +1,5 @@
+pub mod Checking
+pub mod Linking
+pub mod Ordered
+pub mod Settled
+pub mod Whole

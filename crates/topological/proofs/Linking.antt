@@ -1,0 +1,149 @@
+-- The lists of the lines of each head: they are linked from the last line down, and going along one finds the lines of its head in their order. Assumes nothing.
+use mathlib.Core.Path.{_≡_, refl, sym, _∙_, ap, subst}
+use mathlib.Core.Logic.{_≢_}
+use mathlib.Core.List.{List}
+use Prim.Native.Nat.{ℕ, zero, suc, _+_, _≤_, _<_}
+use native.Mathlib.Numerals.{add-one}
+use native.Mathlib.Omega.{arith}
+use native.Mathlib.Decide.{ℕ-discrete}
+use lib.ListN.{length, set, length-set}
+use lib.Seq.{getD-set-same, getD-set-other}
+use borrow.Author.Tests.{eq-eqb, ne-eqb}
+use Rattle.weights.specs.declared.Offer.{Offer}
+use Rattle.weights.specs.declared.Offer.the-variants.{Nothing}
+use Rattle.weights.specs.Measures.{Algebra}
+use Rattle.provenance.specs.Hypergraph.{Hypergraph}
+use Rattle.provenance.specs.BestFirst.{earlier, offer}
+use Rattle.provenance.specs.InOrder.{offerTo, first}
+use Rattle.columns.specs.Columns.{Columns, cell}
+use Rattle.columns.specs.Acceptance.{mostVertices, mostEdges}
+use Rattle.tables.specs.Table.{hypergraph}
+use Rattle.topological.specs.Walking.{end, Least, line, none, Linked, Linkable}
+
+-- what holds from k + 1 on and at k
+from : (P : ℕ → Type 0) (k e : ℕ) → (k + 1 ≤ e → P e) → P k → k ≤ e → P e
+from P k e f p h = go (ℕ-discrete e k)
+  where
+    go : Dec (e ≡ k) → P e
+    go (yes q) = subst P (sym q) p
+    go (no n) = f (omega arith)
+
+-- a line of another head changes nothing
+widen : {hs : List ℕ} {v k x : ℕ} → cell hs k ≢ v → Least hs v (k + 1) x → Least hs v k x
+widen {hs} {v} {k} n (line x a b q f) = line x (omega arith) b q (λ e h l. from (λ (y : ℕ). cell hs y ≢ v) k e (λ i. f e i l) n h)
+widen {hs} {v} {k} n (none f) = none (λ e h l. from (λ (y : ℕ). cell hs y ≢ v) k e (λ i. f e i l) n h)
+
+pub linked-none : {hs fs ns : List ℕ} → Linkable hs fs ns → Linked hs fs ns (length hs)
+linked-none {hs} l = record {
+  wide = l .wide;
+  long = l .long;
+  firsts = λ v h. subst (Least hs v (length hs)) (sym (l .empty v h)) (none (λ e i j. absurd (omega arith)));
+  nexts = λ e h i. absurd (omega arith);
+}
+
+module _ {hs fs ns : List ℕ} (e : ℕ) (l : Linked hs fs ns (e + 1)) (h : e < length hs) (i : cell hs e < mostVertices) where
+  abbrev v : ℕ
+  v = cell hs e
+
+  here : Least hs v e e
+  here = line e (omega arith) h refl (λ x a b. absurd (omega arith))
+
+  first-on : (u : ℕ) → u < mostVertices → Least hs u e (cell (set fs v e) u)
+  first-on u k = go (ℕ-discrete u v)
+    where
+      go : Dec (u ≡ v) → Least hs u e (cell (set fs v e) u)
+      go (yes q) =
+          let s : cell (set fs v e) v ≡ e = getD-set-same fs v e 0 (omega (arith, l .wide)) in
+          subst (λ (y : ℕ). Least hs y e (cell (set fs v e) y)) (sym q) (subst (Least hs v e) (sym s) here)
+      go (no n) = subst (Least hs u e) (sym (getD-set-other fs v u e 0 n)) (widen (λ q. n (sym q)) (l .firsts u k))
+
+  next-on : (x : ℕ) → e ≤ x → x < length hs → Least hs (cell hs x) (x + 1) (cell (set ns e (cell fs v)) x)
+  next-on x a b = go (ℕ-discrete x e)
+    where
+      go : Dec (x ≡ e) → Least hs (cell hs x) (x + 1) (cell (set ns e (cell fs v)) x)
+      go (yes q) =
+          let s : cell (set ns e (cell fs v)) e ≡ cell fs v = getD-set-same ns e (cell fs v) 0 (omega (arith, l .long)) in
+          subst (λ (y : ℕ). Least hs (cell hs y) (y + 1) (cell (set ns e (cell fs v)) y)) (sym q) (subst (Least hs v (e + 1)) (sym s) (l .firsts v i))
+      go (no n) = subst (Least hs (cell hs x) (x + 1)) (sym (getD-set-other ns e x (cell fs v) 0 n)) (l .nexts x (omega arith) b)
+
+  pub linked-more : Linked hs (set fs v e) (set ns e (cell fs v)) e
+  linked-more = record {
+    wide = length-set fs v e ∙ l .wide;
+    long = omega (arith, l .long, length-set ns e (cell fs v));
+    firsts = first-on;
+    nexts = next-on;
+  }
+
+-- Along a list
+
+module _ (A : Algebra) (c : Columns) (w d : ℕ → ℕ) (v : ℕ) where
+  abbrev H : Hypergraph
+  H = hypergraph c
+
+  abbrev pub best : ℕ → Offer
+  best = first A H (cell (c .own)) w d v
+
+  -- lines of other heads offer v nothing
+  skip : (k x : ℕ) → k ≤ x → ((e : ℕ) → k ≤ e → e < x → cell (c .heads) e ≢ v) → best x ≡ best k
+  unfolding first offerTo
+  skip k zero h f = let q : k ≡ 0 = omega arith in rw q
+  skip k (suc x) h f = go (ℕ-discrete k (suc x)) (λ i. skip k x i (λ e a b. f e a (omega arith)))
+    where
+      go : Dec (k ≡ suc x) → (k ≤ x → best x ≡ best k) → best (suc x) ≡ best k
+      go (yes q) g = ap best (sym q)
+      go (no n) g = rw (ne-eqb _ _ (f x (omega arith) (omega arith))) (g (omega arith))
+
+  -- the list is walked up to l: of the lines before, `o` is the first of what is offered
+  pub record Along (l : ℕ) (o : Offer) : Type 0 where
+    pub place : ℕ
+    pub within : place ≤ length (c .heads)
+    pub least : Least (c .heads) v place l
+    pub so-far : o ≡ best place
+
+  -- l is a line of v, and none before it is left
+  record At (k l : ℕ) : Type 0 where
+    from-k : k ≤ l
+    numbered : l < length (c .heads)
+    yields : cell (c .heads) l ≡ v
+    others : (e : ℕ) → k ≤ e → e < l → cell (c .heads) e ≢ v
+
+  at-line : {k l : ℕ} → Least (c .heads) v k l → l ≢ end → At k l
+  at-line (line x a b q f) n = record { from-k = a; numbered = b; yields = q; others = f }
+  at-line (none f) n = absurd (n refl)
+
+  at-end : {k l : ℕ} → length (c .heads) ≤ mostEdges → Least (c .heads) v k l → l ≡ end → (e : ℕ) → k ≤ e → e < length (c .heads) → cell (c .heads) e ≢ v
+  at-end h (line x a b q f) p = absurd (omega arith)
+  at-end h (none f) p = f
+
+  module _ {l : ℕ} {o : Offer} (a : Along l o) where
+    pub along-line : l ≢ end → l < length (c .heads)
+    along-line n = at-line (a .least) n .numbered
+
+    pub along-end : length (c .heads) ≤ mostEdges → l ≡ end → o ≡ best (length (c .heads))
+    along-end h p = a .so-far ∙ sym (skip (a .place) (length (c .heads)) (a .within) (at-end h (a .least) p))
+
+    module _ {fs ns : List ℕ} (linked : Linked (c .heads) fs ns 0) (n : l ≢ end) where
+      one-more : cell (c .heads) l ≡ v → o ≡ best l → earlier A o (offer A H (cell (c .own)) w d l) ≡ best (l + 1)
+      unfolding first offerTo
+      one-more q p = rw (add-one l, eq-eqb _ _ q, p)
+
+      pub along-next : Along (cell ns l) (earlier A o (offer A H (cell (c .own)) w d l))
+      along-next =
+          let t = at-line (a .least) n in
+          record {
+            place = l + 1;
+            within = omega (arith, t .numbered);
+            least = subst (λ (y : ℕ). Least (c .heads) y (l + 1) (cell ns l)) (t .yields) (linked .nexts l (omega arith) (t .numbered));
+            so-far = one-more (t .yields) (a .so-far ∙ sym (skip (a .place) l (t .from-k) (t .others)));
+          }
+
+      pub along-further : length (c .heads) ≤ mostEdges → l < cell ns l
+      along-further few = further few (linked .nexts l (omega arith) (at-line (a .least) n .numbered))
+        where
+          further : {u x : ℕ} → length (c .heads) ≤ mostEdges → Least (c .heads) u (l + 1) x → l < x
+          further few (line x b i q f) = omega arith
+          further few (none f) = omega (arith, at-line (a .least) n .numbered)
+
+  pub along-first : {fs ns : List ℕ} → Linked (c .heads) fs ns 0 → v < mostVertices → Along (cell fs v) Nothing
+  unfolding first
+  along-first l h = record { place = 0; within = omega arith; least = l .firsts v h; so-far = refl }

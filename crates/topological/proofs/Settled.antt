@@ -1,0 +1,105 @@
+-- From the walk to the whole call, and what it leaves: on every table in order, and in every measure, what `settle` does. Assumes nothing.
+use mathlib.Core.Path.{_≡_, refl, sym, _∙_, ap, subst}
+use Prim.Native.Nat.{ℕ}
+use lib.Dec.{eqb}
+use lib.ListN.{length}
+use borrow.Author.Tests.{eqb-true}
+use Rattle.weights.specs.declared.Measure.{Measure}
+use Rattle.weights.specs.Measures.{algebra}
+use Rattle.weights.proofs.Laws.{lawful}
+use Rattle.refusal.specs.declared.Refusal.{Refusal}
+use Rattle.refusal.specs.declared.Refusal.the-variants.{AnswerLength}
+use Rattle.refusal.specs.declared.Acceptance.{Acceptance}
+use Rattle.refusal.specs.declared.Acceptance.the-variants.{Accepted, Refused}
+use Rattle.columns.specs.Columns.{Answers, Columns, ownAt}
+use Rattle.columns.specs.Acceptance.{test, andThen, acceptance, lentAcceptance}
+use Rattle.columns.proofs.Accepted.{refused, test-passed, both-accepted, AcceptedColumns}
+use Rattle.columns.proofs.Usable.{same-table}
+use Rattle.provenance.specs.BestFirst.{labels, best-first}
+use Rattle.provenance.specs.InOrder.{in-order}
+use Rattle.provenance.proofs.InOrder.{in-order-best-first}
+use Rattle.tables.specs.Table.{hypergraph}
+use Rattle.tables.proofs.Formed.{well-formed}
+use Rattle.settle.specs.Settling.{answersOf, SettleOutcome, outcome, settled}
+use Rattle.settle.specs.Demands.{Demand2}
+use Rattle.settle.proofs.Demands.{demand-2}
+use Rattle.topological.specs.Ordering.{orderedAcceptance, orderedLentAcceptance, settledInOrder}
+use Rattle.topological.proofs.Ordered.{ordered-accepted, table-in-order}
+
+module _ (c : Columns) (a : Answers) where
+  -- refusal 7
+  abbrev lengths : Acceptance
+  lengths =
+      test (eqb (length (a .weights)) (c .vertices)) AnswerLength
+      (test (eqb (length (a .depths)) (c .vertices)) AnswerLength
+      (test (eqb (length (a .edges)) (c .vertices)) AnswerLength
+      Accepted))
+
+  lent-same : orderedAcceptance c ≡ Accepted → orderedLentAcceptance c a ≡ lentAcceptance c a
+  unfolding orderedLentAcceptance lentAcceptance
+  lent-same p = rw (p, ordered-accepted c .0 p .0)
+
+  pub lent-accepted : orderedLentAcceptance c a ≡ Accepted → (orderedAcceptance c ≡ Accepted) × AcceptedColumns c a
+  unfolding orderedLentAcceptance
+  lent-accepted p =
+      let t = both-accepted (orderedAcceptance c) lengths p in
+      let t1 = test-passed _ _ _ (t .1) in
+      let t2 = test-passed _ _ _ (t1 .1) in
+      let t3 = test-passed _ _ _ (t2 .1) in (
+        t .0,
+        record {
+          table = ordered-accepted c .0 (t .0) .0;
+          sized = record { weights = eqb-true _ _ (t1 .0); depths = eqb-true _ _ (t2 .0); edges = eqb-true _ _ (t3 .0) };
+        },
+      )
+
+module _ (m : Measure) (c : Columns) where
+  -- the answers that the walk leaves
+  abbrev pub walked : Answers
+  walked = in-order (algebra m) (hypergraph c) (ownAt c)
+
+  pub same-answers : orderedAcceptance c ≡ Accepted → walked ≡ answersOf m c
+  unfolding answersOf
+  same-answers p = in-order-best-first (lawful m) (ownAt c) (well-formed c (ordered-accepted c .0 p .0)) (table-in-order c p)
+
+  module _ (a : Answers) where
+    pub ordered-refused-left : (r : Refusal) → orderedLentAcceptance c a ≡ Refused r → record { result = Refused r; left = a } ≡ settledInOrder m c a
+    unfolding settledInOrder
+    ordered-refused-left r p = rw p
+
+    pub ordered-all : (b : Answers) → orderedLentAcceptance c a ≡ Accepted → b ≡ walked → record { result = Accepted; left = b } ≡ settledInOrder m c a
+    unfolding settledInOrder
+    ordered-all b p q = rw (p, q)
+
+    -- "Over every table within the rule, and all measures together, … both ways of settling leave the same columns": and have the same result, 7 too
+    pub same-columns : orderedAcceptance c ≡ Accepted → settledInOrder m c a ≡ settled m c a
+    unfolding settledInOrder settled
+    same-columns p = rw (lent-same c a p, same-answers p)
+
+    -- a refusal leaves the columns as they were
+    pub ordered-keeps : (r : Refusal) → settledInOrder m c a .result ≡ Refused r → settledInOrder m c a .left ≡ a
+    unfolding settledInOrder
+    ordered-keeps r p = kept (orderedLentAcceptance c a) p
+      where
+        kept : (x : Acceptance) → outcome x walked a .result ≡ Refused r → outcome x walked a .left ≡ a
+        kept Accepted q = absurd (refused (sym q))
+        kept (Refused s) q = refl
+
+    result-accepted : settledInOrder m c a .result ≡ Accepted → orderedLentAcceptance c a ≡ Accepted
+    unfolding settledInOrder
+    result-accepted p = told (orderedLentAcceptance c a) p
+      where
+        told : (x : Acceptance) → outcome x walked a .result ≡ Accepted → x ≡ Accepted
+        told Accepted q = refl
+        told (Refused s) q = absurd (refused q)
+
+    -- the answers have their meaning
+    pub ordered-demand-2 : settledInOrder m c a .result ≡ Accepted → (v : ℕ) → Demand2 m c (labels (settledInOrder m c a .left)) v
+    ordered-demand-2 p v =
+        let s = same-columns (lent-accepted c a (result-accepted p) .0) in
+        subst (λ (o : SettleOutcome). Demand2 m c (labels (o .left)) v) (sym s) (demand-2 m c a (sym (ap (λ (o : SettleOutcome). o .result) s) ∙ p) v)
+
+-- accepted columns tell the number of vertices, so `label` is not given it
+module _ (c : Columns) (a : Answers) (h : AcceptedColumns c a) where
+  pub told-walked : (m : Measure) {b : Answers} → b ≡ walked m (same-table c (length (a .depths))) → b ≡ walked m c
+  told-walked m {b} e = subst (λ (n : ℕ). b ≡ walked m (same-table c n)) (h .sized .depths) e

@@ -1,0 +1,47 @@
+-- Tables in topological order (document 02, 2026-08): which are accepted, "24 for a line that lists its head or a higher part, after 6 in that line, with the line as
+-- place"; and the outcome of settling one by a walk up the part numbers. Assumes nothing: these are definitions.
+use mathlib.Core.List.{List}
+use Prim.Native.Nat.{ℕ, zero, suc, _+_}
+use lib.ListN.{length}
+use lib.Dec.{eqb}
+use Rattle.weights.specs.declared.Hyperedge.{Hyperedge}
+use Rattle.weights.specs.declared.Measure.{Measure}
+use Rattle.weights.specs.Measures.{algebra}
+use Rattle.refusal.specs.declared.Refusal.the-variants.{AnswerLength, Order}
+use Rattle.refusal.specs.declared.Acceptance.{Acceptance}
+use Rattle.refusal.specs.declared.Acceptance.the-variants.{Accepted}
+use Rattle.columns.specs.Columns.{Answers, Columns, headAt, ownAt, strikeAt, offsetAt, lengthAt, part}
+use Rattle.columns.specs.Acceptance.{test, andThen, allBelow, edgeAcceptance, sizesAcceptance}
+use Rattle.provenance.specs.InOrder.{in-order}
+use Rattle.tables.specs.Table.{hypergraph}
+use Rattle.settle.specs.Settling.{SettleOutcome, outcome}
+
+-- refusals 3, 4, 21, 5 and 6 of one line, then 24: its listed parts must be below its head, struck or not
+unfoldable pub orderedEdge : (n : ℕ) → Hyperedge → (head own mark offset size end : ℕ) → List ℕ → Acceptance
+orderedEdge n e head own mark offset size end tails =
+    andThen (edgeAcceptance n e head own mark offset size end tails) (test (allBelow head (part offset size tails)) (Order e) Accepted)
+
+abbrev pub orderedEdgeAt : Columns → (e end : ℕ) → Acceptance
+orderedEdgeAt c e end = orderedEdge (c .vertices) (record { 0 = e }) (headAt c e) (ownAt c e) (strikeAt c e) (offsetAt c e) (lengthAt c e) end (c .tails)
+
+-- the first refusal of the `left` lines from e on
+unfoldable pub orderedEdgesAcceptance : Columns → (left e end : ℕ) → Acceptance
+orderedEdgesAcceptance c zero e end = Accepted
+orderedEdgesAcceptance c (suc left) e end = andThen (orderedEdgeAt c e end) (orderedEdgesAcceptance c left (e + 1) (offsetAt c e + lengthAt c e))
+
+-- 1, 2, then line by line
+unfoldable pub orderedAcceptance : Columns → Acceptance
+orderedAcceptance c = andThen (sizesAcceptance c) (orderedEdgesAcceptance c (length (c .heads)) 0 0)
+
+-- the same with three answer columns, each exactly n long: then 7
+unfoldable pub orderedLentAcceptance : Columns → Answers → Acceptance
+orderedLentAcceptance c a =
+    andThen (orderedAcceptance c)
+    (test (eqb (length (a .weights)) (c .vertices)) AnswerLength
+    (test (eqb (length (a .depths)) (c .vertices)) AnswerLength
+    (test (eqb (length (a .edges)) (c .vertices)) AnswerLength
+    Accepted)))
+
+-- settling, from the columns and answers at entry
+unfoldable pub settledInOrder : Measure → Columns → Answers → SettleOutcome
+settledInOrder m c a = outcome (orderedLentAcceptance c a) (in-order (algebra m) (hypergraph c) (ownAt c)) a

@@ -1,0 +1,359 @@
+// Tables in topological order: every hyperedge lists only vertices below its head. Their check, and
+// their settling by one walk up the vertices, which needs no queue: when a vertex is visited, all that
+// its hyperedges list has its label.
+use refusal::Acceptance;
+use refusal::Refusal;
+use weights::Hyperedge;
+use weights::Mark;
+use weights::Measure;
+use weights::Offer;
+use weights::Vertex;
+use weights::Weight;
+ghost use mathlib.Core.Path.{_≡_};
+ghost use Prim.Native.Nat.{_*_};
+ghost use lib.ListN.{length};
+ghost use Rattle.weights.specs.Measures.{algebra};
+ghost use Rattle.provenance.specs.BestFirst.{earlier};
+ghost use Rattle.provenance.specs.InOrder.{in-order};
+ghost use Rattle.columns.specs.Columns.{columns, answers, cell};
+ghost use Rattle.columns.specs.Lent.{lent};
+ghost use Rattle.columns.proofs.Accepted.{AcceptedColumns};
+ghost use Rattle.tables.specs.Table.{hypergraph};
+ghost use Rattle.topological.specs.Ordering.{orderedEdge, orderedEdgesAcceptance, orderedAcceptance, orderedLentAcceptance, settledInOrder};
+ghost use Rattle.topological.specs.Walking.{Linkable, Linked, visited, Visitable, Walkable, putAt, Storable};
+
+// In place of a hyperedge, at the end of a list.
+const END: u16 = 65535;
+
+// What is wrong with hyperedge e, whose tail must be below its head. A tail that is so is below n too,
+// so only of another it is asked which of the two fails.
+fn check_line(
+    n: u64,
+    e: Hyperedge,
+    head: Vertex,
+    own: Weight,
+    mark: Mark,
+    offset: u64,
+    size: u64,
+    end: u64,
+    tails: &[u64],
+) -> Acceptance
+    ensures { λ r. ⌜ r ≡ orderedEdge n e (head .0) (own .0) (mark .0) offset size end (now (tails .entry)) ⌝ }
+{
+    let all = tails.len() as u64;
+    let h = head.0;
+    let a = columns::check_fields(n, e, head, own, mark, offset, size, end, all);
+    match a {
+        Acceptance::Refused(r) => return Acceptance::Refused(r),
+        Acceptance::Accepted => {}
+    }
+    let from = offset as usize;
+    let to = from + size as usize;
+    if columns::all_below(h, &tails[from..to]) {
+        return Acceptance::Accepted;
+    }
+    if columns::all_below(n, &tails[from..to]) {
+        return Acceptance::Refused(Refusal::Order(e));
+    }
+    Acceptance::Refused(Refusal::Tail(e))
+}
+
+// Whether every hyperedge is accepted and in order, or the first refusal.
+fn check_lines(
+    n: u64,
+    heads: &[u64],
+    own: &[u64],
+    strikes: &[u64],
+    spans: &[u64],
+    tails: &[u64],
+) -> Acceptance
+    requires { ⌜ (length (now own) ≡ length (now heads)) × (length (now strikes) ≡ length (now heads)) × (length (now spans) ≡ 2 * length (now heads)) ⌝ }
+    ensures { λ r.
+        let c = columns n (now (heads .entry)) (now (own .entry)) (now (strikes .entry)) (now (spans .entry)) (now (tails .entry)) in
+        ⌜ r ≡ orderedEdgesAcceptance c (length (now (heads .entry))) 0 0 ⌝ }
+{
+    let mut end: u64 = 0;
+    let mut i = 0;
+    while i < heads.len() {
+        let head = Vertex(heads[i]);
+        let weight = Weight(own[i]);
+        let mark = Mark(strikes[i]);
+        let offset = spans[2 * i];
+        let size = spans[2 * i + 1];
+        let a = check_line(
+            n,
+            Hyperedge(i as u64),
+            head,
+            weight,
+            mark,
+            offset,
+            size,
+            end,
+            tails,
+        );
+        match a {
+            Acceptance::Refused(r) => return Acceptance::Refused(r),
+            Acceptance::Accepted => {}
+        }
+        end = offset + size;
+        i += 1;
+    }
+    Acceptance::Accepted
+}
+
+// Whether the table of n vertices is accepted and in order, or the first refusal.
+pub fn check_order(
+    n: u64,
+    heads: &[u64],
+    own: &[u64],
+    strikes: &[u64],
+    spans: &[u64],
+    tails: &[u64],
+) -> Acceptance
+    ensures { λ r. ⌜ r ≡ orderedAcceptance (columns n (now (heads .entry)) (now (own .entry)) (now (strikes .entry)) (now (spans .entry)) (now (tails .entry))) ⌝ }
+{
+    let a = columns::check_sizes(n, heads, own, strikes, spans, tails);
+    match a {
+        Acceptance::Refused(r) => return Acceptance::Refused(r),
+        Acceptance::Accepted => {}
+    }
+    check_lines(n, heads, own, strikes, spans, tails)
+}
+
+// The same with three answer columns, each of which must be n long.
+fn check_lent(
+    n: u64,
+    heads: &[u64],
+    own: &[u64],
+    strikes: &[u64],
+    spans: &[u64],
+    tails: &[u64],
+    weights: &[u64],
+    depths: &[u64],
+    edges: &[u64],
+) -> Acceptance
+    ensures { λ r.
+        let c = columns n (now (heads .entry)) (now (own .entry)) (now (strikes .entry)) (now (spans .entry)) (now (tails .entry)) in
+        let a = answers (now (weights .entry)) (now (depths .entry)) (now (edges .entry)) in
+        ⌜ r ≡ orderedLentAcceptance c a ⌝ }
+{
+    let a = check_order(n, heads, own, strikes, spans, tails);
+    match a {
+        Acceptance::Refused(r) => return Acceptance::Refused(r),
+        Acceptance::Accepted => {}
+    }
+    if weights.len() as u64 != n {
+        return Acceptance::Refused(Refusal::AnswerLength);
+    }
+    if depths.len() as u64 != n {
+        return Acceptance::Refused(Refusal::AnswerLength);
+    }
+    if edges.len() as u64 != n {
+        return Acceptance::Refused(Refusal::AnswerLength);
+    }
+    Acceptance::Accepted
+}
+
+// The hyperedges of each head are linked, from the last one down, so that a list goes up.
+fn link(heads: &[u64], first: &mut [u16], next: &mut [u16])
+    requires { ⌜ Linkable (now heads) (now first) (now next) ⌝ }
+    ensures { λ r. ⌜ Linked (now (heads .entry)) (now (first .exit)) (now (next .exit)) 0 ⌝ }
+{
+    let mut i = heads.len();
+    while i > 0 {
+        let e = i - 1;
+        let h = heads[e] as usize;
+        let later = first[h];
+        next[e] = later;
+        first[h] = e as u16;
+        i = e;
+    }
+}
+
+// The first of two offers.
+fn earlier(measure: Measure, a: Offer, b: Offer) -> Offer
+    ensures { λ r. ⌜ r ≡ earlier (algebra measure) a b ⌝ }
+{
+    let Offer::Found(y) = b else {
+        return a;
+    };
+    let Offer::Found(x) = a else {
+        return Offer::Found(y);
+    };
+    if weights::ahead(measure, x, y) {
+        return Offer::Found(x);
+    }
+    Offer::Found(y)
+}
+
+// The first of what the hyperedges of v offer it.
+fn visit(
+    measure: Measure,
+    v: Vertex,
+    heads: &[u64],
+    own: &[u64],
+    strikes: &[u64],
+    spans: &[u64],
+    tails: &[u64],
+    weights: &[u64],
+    depths: &[u64],
+    first: &[u16],
+    next: &[u16],
+) -> Offer
+    requires { let c = lent (now heads) (now own) (now strikes) (now spans) (now tails) (now depths) in
+        ⌜ Visitable c (now weights) (now depths) (now first) (now next) (v .0) ⌝ }
+    ensures { λ r.
+        let c = lent (now (heads .entry)) (now (own .entry)) (now (strikes .entry)) (now (spans .entry)) (now (tails .entry)) (now (depths .entry)) in
+        ⌜ r ≡ visited measure c (now (weights .entry)) (now (depths .entry)) (v .0) ⌝ }
+{
+    let mut best = Offer::Nothing;
+    let mut l = first[v.0 as usize];
+    while l != END {
+        let e = Hyperedge(l as u64);
+        let o = offers::offer(measure, e, own, strikes, spans, tails, weights, depths);
+        best = earlier(measure, best, o);
+        l = next[l as usize];
+    }
+    best
+}
+
+// Vertex v gets what is offered to it.
+fn store(v: Vertex, o: Offer, weights: &mut [u64], depths: &mut [u64], edges: &mut [u64])
+    requires { ⌜ Storable (v .0) (answers (now weights) (now depths) (now edges)) ⌝ }
+    ensures { λ r.
+        let a = answers (now (weights .entry)) (now (depths .entry)) (now (edges .entry)) in
+        let a′ = answers (now (weights .exit)) (now (depths .exit)) (now (edges .exit)) in
+        ⌜ a′ ≡ putAt a (v .0) o ⌝ }
+{
+    let Offer::Found(x) = o else {
+        return;
+    };
+    let i = v.0 as usize;
+    let weight = x.weight;
+    let e = x.edge;
+    weights[i] = weight.0;
+    depths[i] = x.depth;
+    edges[i] = e.0;
+}
+
+// The walk up the vertices, which are all unmade at first.
+fn walk(
+    measure: Measure,
+    heads: &[u64],
+    own: &[u64],
+    strikes: &[u64],
+    spans: &[u64],
+    tails: &[u64],
+    weights: &mut [u64],
+    depths: &mut [u64],
+    edges: &mut [u64],
+    first: &[u16],
+    next: &[u16],
+)
+    requires { let c = lent (now heads) (now own) (now strikes) (now spans) (now tails) (now depths) in
+        ⌜ Walkable c (answers (now weights) (now depths) (now edges)) (now first) (now next) ⌝ }
+    ensures { λ r.
+        let c = lent (now (heads .entry)) (now (own .entry)) (now (strikes .entry)) (now (spans .entry)) (now (tails .entry)) (now (depths .entry)) in
+        let a′ = answers (now (weights .exit)) (now (depths .exit)) (now (edges .exit)) in
+        ⌜ a′ ≡ in-order (algebra measure) (hypergraph c) (cell (now (own .entry))) ⌝ }
+{
+    let mut i = 0;
+    while i < depths.len() {
+        let v = i as u64;
+        let o = visit(
+            measure,
+            Vertex(v),
+            heads,
+            own,
+            strikes,
+            spans,
+            tails,
+            weights,
+            depths,
+            first,
+            next,
+        );
+        store(Vertex(v), o, weights, depths, edges);
+        i += 1;
+    }
+}
+
+// The labels of an accepted table go into the three answer columns, whatever they held.
+fn label(
+    measure: Measure,
+    heads: &[u64],
+    own: &[u64],
+    strikes: &[u64],
+    spans: &[u64],
+    tails: &[u64],
+    weights: &mut [u64],
+    depths: &mut [u64],
+    edges: &mut [u64],
+)
+    requires { let c = lent (now heads) (now own) (now strikes) (now spans) (now tails) (now depths) in
+        let a = answers (now weights) (now depths) (now edges) in
+        ⌜ AcceptedColumns c a ⌝ }
+    ensures { λ r.
+        let c = lent (now (heads .entry)) (now (own .entry)) (now (strikes .entry)) (now (spans .entry)) (now (tails .entry)) (now (depths .entry)) in
+        let a′ = answers (now (weights .exit)) (now (depths .exit)) (now (edges .exit)) in
+        ⌜ a′ ≡ in-order (algebra measure) (hypergraph c) (cell (now (own .entry))) ⌝ }
+{
+    let mut first = [65535u16; 1024];
+    let mut next = [0u16; 4096];
+    link(heads, &mut first, &mut next);
+    columns::set_all(weights, 0);
+    columns::set_all(depths, 0);
+    columns::set_all(edges, 0);
+    walk(
+        measure,
+        heads,
+        own,
+        strikes,
+        spans,
+        tails,
+        weights,
+        depths,
+        edges,
+        &first,
+        &next,
+    );
+}
+
+// Leaves the answers of a table in order in the three answer columns, or refuses and leaves them as
+// they are.
+pub fn settle_ordered(
+    measure: Measure,
+    n: u64,
+    heads: &[u64],
+    own: &[u64],
+    strikes: &[u64],
+    spans: &[u64],
+    tails: &[u64],
+    weights: &mut [u64],
+    depths: &mut [u64],
+    edges: &mut [u64],
+) -> Acceptance
+    ensures { λ r.
+        let c = columns n (now (heads .entry)) (now (own .entry)) (now (strikes .entry)) (now (spans .entry)) (now (tails .entry)) in
+        let a = answers (now (weights .entry)) (now (depths .entry)) (now (edges .entry)) in
+        let a′ = answers (now (weights .exit)) (now (depths .exit)) (now (edges .exit)) in
+        ⌜ record { result = r; left = a′ } ≡ settledInOrder measure c a ⌝ }
+{
+    let a = check_lent(n, heads, own, strikes, spans, tails, weights, depths, edges);
+    match a {
+        Acceptance::Refused(r) => return Acceptance::Refused(r),
+        Acceptance::Accepted => {}
+    }
+    label(
+        measure,
+        heads,
+        own,
+        strikes,
+        spans,
+        tails,
+        weights,
+        depths,
+        edges,
+    );
+    Acceptance::Accepted
+}
