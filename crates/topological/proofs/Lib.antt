@@ -3,3 +3,4 @@ pub mod Linking
 pub mod Ordered
 pub mod Settled
 pub mod Whole
+pub mod Worked

@@ -99,7 +99,7 @@ module _ (m : Measure) (c : Columns) where
       unfolding walk
       walk-more {o} {b} i r s =
           let r′ : o ≡ offerOf a v =
-              subst (λ (n : ℕ). o ≡ first (algebra m) (hypergraph (same-table c n)) (ownAt c) (cell (a .weights)) (cell (a .depths)) v (length (c .heads))) (g .size .depths) r in
+          subst (λ (n : ℕ). o ≡ first (algebra m) (hypergraph (same-table c n)) (ownAt c) (cell (a .weights)) (cell (a .depths)) v (length (c .heads))) (g .size .depths) r in
           s ∙ ap (putAt a v) r′ ∙ sym (stored g i (told g i)) ∙ rw (add-one v, ← q)
 
   pub walk-begin : {a : Answers} → a ≡ blank (c .vertices) → a ≡ walkOf 0

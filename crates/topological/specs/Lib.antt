@@ -1,3 +1,4 @@
 pub mod Ordering
 pub mod Right
 pub mod Walking
+pub mod Worked
