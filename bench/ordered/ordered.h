@@ -1,0 +1,10 @@
+/* Settling in order, by the library and by plain C. */
+#ifndef BENCH_ORDERED_H
+#define BENCH_ORDERED_H
+
+#include "../calls.h"
+
+uint64_t harness_settle_ordered(uint64_t measure, uint64_t n, TABLE_COLUMNS, WRITTEN_COLUMNS);
+uint64_t plain_settle_ordered(uint64_t measure, uint64_t n, TABLE_COLUMNS, WRITTEN_COLUMNS);
+
+#endif
