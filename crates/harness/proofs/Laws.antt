@@ -31,6 +31,8 @@ use Rattle.indextable.specs.Index.{IndexOutcome}
 use Rattle.append.specs.Appending.{leaves, appended}
 use Rattle.readtable.specs.Read.{ReadOutcome, readOutcome}
 use Rattle.writetable.specs.Write.{writeTable}
+use Rattle.counter.specs.Results.{outcomeResult}
+use Rattle.topological.specs.Ordering.{settledInOrder}
 use Rattle.harness.specs.Results.{
   textColumn,
   checkedResult,
@@ -50,6 +52,7 @@ use Rattle.harness.specs.Results.{
   appendedResult,
   momentsWritten,
   summaryLeft,
+  orderedResult,
 }
 
 module _ {o : MeasureChoice} (c : Columns) (a : Answers) {n : ℕ} where
@@ -175,3 +178,11 @@ module _ {x s : Summary} (room : List ℕ) (e : s ≡ x) where
 
   pub summary-moments : {m : Moments} {room′ : List ℕ} → s ≡ summary.Moments m → room′ ≡ momentsWritten m room → record { result = 0; left = room′ } ≡ summaryLeft x room
   summary-moments p q = rw (← e, p, q)
+
+module _ {o : MeasureChoice} (c : Columns) (a : Answers) {n : ℕ} where
+  pub ordered-refused : {r : Refusal} → o ≡ choice.Refused r → n ≡ resultOf (codeOf r) → record { result = n; left = a } ≡ orderedResult o c a
+  ordered-refused p q = rw (p, q)
+
+  pub ordered-measure : {m : Measure} {x : Acceptance} {b : Answers} → o ≡ choice.Measure m → n ≡ acceptanceResult x → record { result = x; left = b } ≡ settledInOrder m c a
+      → record { result = n; left = b } ≡ orderedResult o c a
+  ordered-measure {m} {x} {b} p q e = rw (p, q) (ap outcomeResult e)

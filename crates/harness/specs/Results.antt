@@ -25,7 +25,8 @@ use Rattle.statistics.specs.Summaries.{summaryNumber, summaryValues}
 use Rattle.columns.specs.Columns.{Answers, Columns}
 use Rattle.settle.specs.Checking.{checked}
 use Rattle.reprice.specs.Repricing.{MarkOutcome, stricken, restored}
-use Rattle.counter.specs.Results.{LeftRoom}
+use Rattle.counter.specs.Results.{Left, outcomeResult, LeftRoom}
+use Rattle.topological.specs.Ordering.{settledInOrder}
 use Rattle.columns.specs.Longer.{NewLine}
 use Rattle.indextable.specs.Index.{IndexOutcome}
 use Rattle.append.specs.Appending.{Grown, appended}
@@ -156,3 +157,8 @@ summaryWritten (summary.Refused r) room = room
 
 abbrev pub summaryLeft : Summary → List ℕ → LeftRoom
 summaryLeft s room = record { result = summaryNumber s; left = summaryWritten s room }
+
+-- settling in order: a number, and the answer columns
+abbrev pub orderedResult : MeasureChoice → Columns → Answers → Left
+orderedResult (Refused r) c a = record { result = resultOf (codeOf r); left = a }
+orderedResult (Measure m) c a = outcomeResult (settledInOrder m c a)

@@ -25,7 +25,8 @@ ghost use Rattle.text.specs.Machine.{parse};
 ghost use Rattle.reading.specs.Lines.{readingOf};
 ghost use Rattle.readtable.specs.Read.{readTable};
 ghost use Rattle.statistics.specs.Summaries.{summaryOf};
-ghost use Rattle.harness.specs.Results.{checkedResult, strickenResult, restoredResult, stateNumber, entryWritten, measureNumber, headerWritten, readLeft, readResult, writtenResult, indexedResult, countsWritten, usedCounts, leftGrown, appendedResult, momentsWritten, summaryLeft, textColumn};
+ghost use Rattle.topological.specs.Ordering.{orderedAcceptance};
+ghost use Rattle.harness.specs.Results.{checkedResult, strickenResult, restoredResult, stateNumber, entryWritten, measureNumber, headerWritten, readLeft, readResult, writtenResult, indexedResult, countsWritten, usedCounts, leftGrown, appendedResult, momentsWritten, summaryLeft, textColumn, orderedResult};
 
 #[no_mangle]
 pub extern "C" fn harness_check_table(
@@ -421,5 +422,62 @@ pub extern "C" fn harness_text_column(text: &[u8]) -> u64
     match reading {
         Reading::Refused(r) => return r.column(),
         Reading::Table(_) => return 0,
+    }
+}
+
+#[no_mangle]
+pub extern "C" fn harness_check_order(
+    n: u64,
+    heads: &[u64],
+    own: &[u64],
+    strikes: &[u64],
+    spans: &[u64],
+    tails: &[u64],
+) -> u64
+    ensures { λ r.
+        let c = columns n (now (heads .entry)) (now (own .entry)) (now (strikes .entry)) (now (spans .entry)) (now (tails .entry)) in
+        ⌜ r ≡ acceptanceResult (orderedAcceptance c) ⌝ }
+{
+    let a = topological::check_order(n, heads, own, strikes, spans, tails);
+    a.result()
+}
+
+#[no_mangle]
+pub extern "C" fn harness_settle_ordered(
+    measure: u64,
+    n: u64,
+    heads: &[u64],
+    own: &[u64],
+    strikes: &[u64],
+    spans: &[u64],
+    tails: &[u64],
+    weights: &mut [u64],
+    depths: &mut [u64],
+    edges: &mut [u64],
+) -> u64
+    ensures { λ r.
+        let c = columns n (now (heads .entry)) (now (own .entry)) (now (strikes .entry)) (now (spans .entry)) (now (tails .entry)) in
+        let a = answers (now (weights .entry)) (now (depths .entry)) (now (edges .entry)) in
+        let a′ = answers (now (weights .exit)) (now (depths .exit)) (now (edges .exit)) in
+        ⌜ record { result = r; left = a′ } ≡ orderedResult (measureOf measure) c a ⌝ }
+{
+    let choice = refusal::measure_numbered(measure);
+    match choice {
+        MeasureChoice::Refused(r) => return r.result(),
+        MeasureChoice::Measure(m) => {
+            let a = topological::settle_ordered(
+                m,
+                n,
+                heads,
+                own,
+                strikes,
+                spans,
+                tails,
+                weights,
+                depths,
+                edges,
+            );
+            return a.result();
+        }
     }
 }

@@ -11,3 +11,4 @@ pub mod Request04
 pub mod Request05
 pub mod Request06
 pub mod Request07
+pub mod Request08

@@ -112,7 +112,7 @@ module _ (A : Algebra) (H : Hypergraph) (own : ℕ → ℕ) where
     ahead : (e : ℕ) → H .head e < v → Ready H f e → Ahead A (f (H .head e)) (candidate A H own f e)
 
 module _ {A : Algebra} {H : Hypergraph} {own : ℕ → ℕ} (L : Lawful A) (ord : InOrder H)
-  {f g : ℕ → Label} {v : ℕ} (w : Walked A H own v f) (away : (u : ℕ) → u ≢ v → g u ≡ f u) where
+    {f g : ℕ → Label} {v : ℕ} (w : Walked A H own v f) (away : (u : ℕ) → u ≢ v → g u ≡ f u) where
   same : (e : ℕ) → e < H .edges → H .head e ≤ v → Tail f g (H .tail e)
   same e n h = tail-same (H .tail e) (λ u i. away u (omega (arith, ord .below e n u i)))
 
