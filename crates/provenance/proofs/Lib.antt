@@ -8,6 +8,7 @@ pub mod Local
 pub mod LowerBound
 pub mod Meaning
 pub mod Paths
+pub mod Pieces
 pub mod Program
 pub mod Provenance
 pub mod Semirings

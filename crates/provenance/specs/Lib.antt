@@ -9,6 +9,7 @@ pub mod Program
 pub mod Provenance
 pub mod BestWeight
 pub mod Counting
+pub mod Pieces
 pub mod Paths
 pub mod Sensitivity
 pub mod Local
