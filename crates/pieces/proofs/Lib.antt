@@ -1,0 +1,6 @@
+pub mod Sums
+pub mod Links
+pub mod Stages
+pub mod Whole
+pub mod Accepted
+pub mod Example

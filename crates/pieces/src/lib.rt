@@ -1,0 +1,145 @@
+// The piece counts of a table's parts, from the lists of its lines and the depth and chosen line of
+// each part: how many lines without parts a chosen make-up holds, and at most so many. Parts are
+// counted by depth, so that what a line lists is counted before it.
+use weights::Hyperedge;
+use weights::Vertex;
+ghost use mathlib.Core.Path.{_≡_};
+ghost use Prim.Native.Nat.{_+_, _<_, _≤_, min};
+ghost use lib.ListN.{length};
+ghost use Rattle.provenance.specs.Pieces.{mostPieces, pieceCount, pieceLocal};
+ghost use Rattle.columns.specs.Columns.{cell, tailOf};
+ghost use Rattle.columns.specs.Same.{equal};
+ghost use Rattle.pieces.specs.Counting.{counted, countOf, Within, Countable, Linkable, Linked, Staged, Layer};
+
+// The greatest count; more are counted as so many.
+pub const MOST_PIECES: u64 = 1000000000;
+
+// The capped sum of two counts. The second may be anything.
+fn plus(a: u64, b: u64) -> u64
+    requires { ⌜ a ≤ mostPieces ⌝ }
+    ensures { λ r. ⌜ r ≡ min (a + b) mostPieces ⌝ }
+{
+    if b > MOST_PIECES - a {
+        return MOST_PIECES;
+    }
+    a + b
+}
+
+// What a tail counts by the counts in a column: 1 where it lists nothing.
+fn count_tail(tail: &[u64], pieces: &[u64]) -> u64
+    requires { ⌜ Within (now tail) (length (now pieces)) ⌝ }
+    ensures { λ r. ⌜ r ≡ pieceCount (cell (now (pieces .entry))) (now (tail .entry)) ⌝ }
+{
+    if tail.len() == 0 {
+        return 1;
+    }
+    let mut sum: u64 = 0;
+    let mut i = 0;
+    while i < tail.len() {
+        let v = tail[i] as usize;
+        let count = pieces[v];
+        sum = plus(sum, count);
+        i += 1;
+    }
+    sum
+}
+
+// What vertex v counts by the counts in a column: 0 where it is unmade.
+fn count_vertex(
+    v: Vertex,
+    spans: &[u64],
+    tails: &[u64],
+    depths: &[u64],
+    edges: &[u64],
+    pieces: &[u64],
+) -> u64
+    requires { ⌜ (Countable (now spans) (now tails) (now depths) (now edges) (now pieces)) × (v .0 < length (now depths)) ⌝ }
+    ensures { λ r. ⌜ r ≡ pieceLocal (tailOf (now (spans .entry)) (now (tails .entry))) (cell (now (depths .entry))) (cell (now (edges .entry))) (cell (now (pieces .entry))) (v .0) ⌝ }
+{
+    let i = v.0 as usize;
+    let depth = depths[i];
+    if depth == 0 {
+        return 0;
+    }
+    let root = edges[i];
+    let tail = columns::tail_of(Hyperedge(root), spans, tails);
+    count_tail(tail, pieces)
+}
+
+// Links the vertices of each depth from the last on, in the places where their counts will stand:
+// each place holds the vertex before it of its depth, and 1 more, or 0. `last`, all 0 at first, gets
+// the last vertex of each depth, and 1 more.
+fn link(depths: &[u64], last: &mut [u64], pieces: &mut [u64])
+    requires { ⌜ Linkable (now depths) (now last) (now pieces) ⌝ }
+    ensures { λ r. ⌜ Linked (now (depths .entry)) (length (now (last .entry))) (length (now (depths .entry))) (now (last .exit)) (now (pieces .exit)) ⌝ }
+{
+    let mut i = 0;
+    while i < depths.len() {
+        let d = depths[i] as usize;
+        let before = last[d];
+        pieces[i] = before;
+        last[d] = i as u64 + 1;
+        i += 1;
+    }
+}
+
+// Counts the vertices of depth d, where those of lower depth are counted.
+fn count_layer(
+    d: usize,
+    last: &[u64],
+    spans: &[u64],
+    tails: &[u64],
+    depths: &[u64],
+    edges: &[u64],
+    pieces: &mut [u64],
+)
+    requires { ⌜ Layer d (now last) (now spans) (now tails) (now depths) (now edges) (now pieces) ⌝ }
+    ensures { λ r. ⌜ Staged (now (depths .entry)) (countOf (now (spans .entry)) (now (tails .entry)) (now (depths .entry)) (now (edges .entry))) d 0 (now (pieces .exit)) ⌝ }
+{
+    let mut next = last[d];
+    while next != 0 {
+        let i = next as usize - 1;
+        next = pieces[i];
+        let v = Vertex(i as u64);
+        let count = count_vertex(v, spans, tails, depths, edges, pieces);
+        pieces[i] = count;
+    }
+}
+
+// Leaves the piece counts in `pieces`, whatever it held.
+pub fn count_pieces(spans: &[u64], tails: &[u64], depths: &[u64], edges: &[u64], pieces: &mut [u64])
+    requires { ⌜ Countable (now spans) (now tails) (now depths) (now edges) (now pieces) ⌝ }
+    ensures { λ r. ⌜ now (pieces .exit) ≡ counted (now (spans .entry)) (now (tails .entry)) (now (depths .entry)) (now (edges .entry)) ⌝ }
+{
+    let mut last = [0u64; 1025];
+    link(depths, &mut last, pieces);
+    let mut d: usize = 0;
+    while d <= depths.len() {
+        count_layer(d, &last, spans, tails, depths, edges, pieces);
+        d += 1;
+    }
+}
+
+// Whether `pieces` holds the piece counts, whoever wrote it.
+pub fn pieces_right(
+    spans: &[u64],
+    tails: &[u64],
+    depths: &[u64],
+    edges: &[u64],
+    pieces: &[u64],
+) -> bool
+    requires { ⌜ Countable (now spans) (now tails) (now depths) (now edges) (now pieces) ⌝ }
+    ensures { λ r. ⌜ r ≡ equal (now (pieces .entry)) (counted (now (spans .entry)) (now (tails .entry)) (now (depths .entry)) (now (edges .entry))) ⌝ }
+{
+    let mut i = 0;
+    while i < depths.len() {
+        let lent = pieces[i];
+        let v = Vertex(i as u64);
+        let count = count_vertex(v, spans, tails, depths, edges, pieces);
+        if lent != count {
+            return false;
+        }
+        i += 1;
+    }
+    true
+}
