@@ -16,7 +16,7 @@ use Rattle.weights.proofs.Choice.{both-true}
 use Rattle.refusal.specs.declared.Refusal.{Refusal}
 use Rattle.refusal.specs.declared.Acceptance.{Acceptance}
 use Rattle.refusal.specs.declared.Acceptance.the-variants.{Accepted, Refused}
-use Rattle.columns.specs.Columns.{Answers, Sized, Columns, headAt, ownAt, strikeAt, offsetAt, lengthAt, part}
+use Rattle.columns.specs.Columns.{Answers, Sized, Entries, SizedEntries, Columns, headAt, ownAt, strikeAt, offsetAt, lengthAt, part}
 use Rattle.columns.specs.Acceptance.{mostVertices, mostEdges, mostListed, longestTail, test, andThen, allBelow, edgeAcceptance, edgeAt, edgesAcceptance, acceptance, lentAcceptance}
 
 pub refused : {r : Refusal} → Refused r ≡ Accepted → ⊥
@@ -137,20 +137,29 @@ table-accepted c p =
       each = λ e h. edges-accepted c (length (c .heads)) 0 0 (t6 .1) e (omega arith) (omega arith);
     }
 
--- an accepted table with answer columns of its length
-pub record AcceptedColumns (c : Columns) (a : Answers) : Type 0 where
+-- an accepted table with three columns of its length, and with all four answer columns
+pub record AcceptedLabels (c : Columns) (a : Answers) : Type 0 where
   pub table : acceptance c ≡ Accepted
   pub sized : Sized (c .vertices) a
 
-pub columns-accepted : (c : Columns) (a : Answers) → lentAcceptance c a ≡ Accepted → AcceptedColumns c a
+pub record AcceptedColumns (c : Columns) (a : Entries) : Type 0 where
+  pub table : acceptance c ≡ Accepted
+  pub sized : SizedEntries (c .vertices) a
+
+pub labels-accepted : {c : Columns} {a : Entries} → AcceptedColumns c a → AcceptedLabels c (a .labels)
+labels-accepted h = record { table = h .table; sized = h .sized .labels }
+
+pub columns-accepted : (c : Columns) (a : Entries) → lentAcceptance c a ≡ Accepted → AcceptedColumns c a
 unfolding lentAcceptance
 columns-accepted c a p =
     let t = both-accepted (acceptance c) _ p in
     let t1 = test-passed _ _ _ (t .1) in
     let t2 = test-passed _ _ _ (t1 .1) in
     let t3 = test-passed _ _ _ (t2 .1) in
-    record { table = t .0; sized = record { weights = eqb-true _ _ (t1 .0); depths = eqb-true _ _ (t2 .0); edges = eqb-true _ _ (t3 .0) } }
+    let t4 = test-passed _ _ _ (t3 .1) in
+    let labels : Sized (c .vertices) (a .labels) = record { weights = eqb-true _ _ (t1 .0); depths = eqb-true _ _ (t2 .0); edges = eqb-true _ _ (t3 .0) } in
+    record { table = t .0; sized = record { labels = labels; pieces = eqb-true _ _ (t4 .0) } }
 
-pub columns-accept : (c : Columns) (a : Answers) → acceptance c ≡ Accepted → Sized (c .vertices) a → lentAcceptance c a ≡ Accepted
+pub columns-accept : (c : Columns) (a : Entries) → acceptance c ≡ Accepted → SizedEntries (c .vertices) a → lentAcceptance c a ≡ Accepted
 unfolding lentAcceptance
-columns-accept c a p s = rw (p, eq-eqb _ _ (s .weights), eq-eqb _ _ (s .depths), eq-eqb _ _ (s .edges))
+columns-accept c a p s = rw (p, eq-eqb _ _ (s .labels .weights), eq-eqb _ _ (s .labels .depths), eq-eqb _ _ (s .labels .edges), eq-eqb _ _ (s .pieces))

@@ -13,7 +13,7 @@ use Rattle.weights.specs.Figures.{greatest, struckMark}
 use Rattle.refusal.specs.declared.Refusal.{Refusal}
 use Rattle.refusal.specs.declared.Acceptance.{Acceptance}
 use Rattle.refusal.specs.declared.Acceptance.the-variants.{Accepted, Refused}
-use Rattle.columns.specs.Columns.{Answers, Columns, headAt, ownAt, strikeAt, offsetAt, lengthAt, tailAt}
+use Rattle.columns.specs.Columns.{Entries, Columns, headAt, ownAt, strikeAt, offsetAt, lengthAt, tailAt}
 use Rattle.columns.specs.Acceptance.{mostVertices, mostEdges, mostListed, longestTail, test, allBelow, edgeAcceptance, edgeAt, edgesAcceptance, acceptance, lentAcceptance}
 use Rattle.columns.proofs.Accepted.{both-accepted, below-at, below-all, part-at, part-length, edge-accepted, edge-accepts, table-accepted, columns-accepted, columns-accept}
 use Rattle.columns.specs.Right.{Few, Level, endBefore, RightHead, RightOwn, RightMark, RightSpan, RightTail, RightEdge, RightTable, WrongEdge, FirstWrong, WrongTable, RightLent, WrongLent}
@@ -220,29 +220,32 @@ module _ (c : Columns) where
   pub refused-exactly : (r : Refusal) → (acceptance c ≡ Refused r) ↔ WrongTable c r
   refused-exactly r = (refused-wrong .holds, wrong-refused)
 
-module _ (c : Columns) (a : Answers) where
+module _ (c : Columns) (a : Entries) where
   refused-lent : Refuses (WrongLent c a) (lentAcceptance c a)
   unfolding lentAcceptance
   refused-lent =
       let n = c .vertices in
-      let w = length (a .weights) in
-      let d = length (a .depths) in
-      let e = length (a .edges) in
+      let w = length (a .labels .weights) in
+      let d = length (a .labels .depths) in
+      let e = length (a .labels .edges) in
+      let s = length (a .pieces) in
       then-refuses (acceptance c) _ (record { holds = λ q. WrongLent.table (refused-exactly c _ .0 q) }) (λ p.
       let t = accepted-exactly c .0 p in
-      test-refuses (eqb w n) _ _ (λ b. WrongLent.answers t (λ s. eqb-false w n b (s .weights))) (λ _.
-      test-refuses (eqb d n) _ _ (λ b. WrongLent.answers t (λ s. eqb-false d n b (s .depths))) (λ _.
-      test-refuses (eqb e n) _ _ (λ b. WrongLent.answers t (λ s. eqb-false e n b (s .edges))) (λ _. none-refuses))))
+      test-refuses (eqb w n) _ _ (λ b. WrongLent.answers t (λ g. eqb-false w n b (g .labels .weights))) (λ _.
+      test-refuses (eqb d n) _ _ (λ b. WrongLent.answers t (λ g. eqb-false d n b (g .labels .depths))) (λ _.
+      test-refuses (eqb e n) _ _ (λ b. WrongLent.answers t (λ g. eqb-false e n b (g .labels .edges))) (λ _.
+      test-refuses (eqb s n) _ _ (λ b. WrongLent.answers t (λ g. eqb-false s n b (g .pieces))) (λ _. none-refuses)))))
 
   lent-refused : {r : Refusal} → WrongLent c a r → lentAcceptance c a ≡ Refused r
   unfolding lentAcceptance
   lent-refused (WrongLent.table w) = let q = refused-exactly c _ .1 w in rw q
   lent-refused (WrongLent.answers t n) =
       rw (accepted-exactly c .1 t)
-      (one-fails (eqb (length (a .weights)) (c .vertices)) _ _ (λ w.
-      one-fails (eqb (length (a .depths)) (c .vertices)) _ _ (λ d.
-      one-fails (eqb (length (a .edges)) (c .vertices)) _ _ (λ e.
-      absurd (n (record { weights = eqb-true _ _ w; depths = eqb-true _ _ d; edges = eqb-true _ _ e }))))))
+      (one-fails (eqb (length (a .labels .weights)) (c .vertices)) _ _ (λ w.
+      one-fails (eqb (length (a .labels .depths)) (c .vertices)) _ _ (λ d.
+      one-fails (eqb (length (a .labels .edges)) (c .vertices)) _ _ (λ e.
+      one-fails (eqb (length (a .pieces)) (c .vertices)) _ _ (λ s.
+      absurd (n (record { labels = record { weights = eqb-true _ _ w; depths = eqb-true _ _ d; edges = eqb-true _ _ e }; pieces = eqb-true _ _ s })))))))
 
   -- the same with the answer columns
   pub lent-exactly : (lentAcceptance c a ≡ Accepted) ↔ RightLent c a

@@ -11,7 +11,7 @@ use lib.Dec.{leb, ltb}
 use Rattle.weights.specs.Figures.{greatest, struckMark}
 use Rattle.refusal.specs.declared.Refusal.the-variants.{Head, Own, Span, Tail, StrikeMark}
 use Rattle.refusal.specs.declared.Acceptance.the-variants.{Accepted}
-use Rattle.columns.specs.Columns.{Answers, Columns, headAt, ownAt, strikeAt, offsetAt, lengthAt, part, tailOf, tailAt}
+use Rattle.columns.specs.Columns.{Entries, Columns, headAt, ownAt, strikeAt, offsetAt, lengthAt, part, tailOf, tailAt}
 use Rattle.columns.specs.Acceptance.{longestTail, test, andThen, allBelow, edgeAcceptance, edgeAt, edgesAcceptance, acceptance, lentAcceptance}
 use Rattle.columns.proofs.Accepted.{table-accepted}
 use Rattle.columns.specs.Gaps.{Gapped, withTails}
@@ -58,7 +58,7 @@ module _ (c : Columns) (tails : List ℕ) (g : Gapped c tails) where
   unfolding acceptance
   gaps-accepted = rw (g .level, edges-alike (length (c .heads)) 0 0 (omega arith))
 
-  pub gaps-lent : (a : Answers) → lentAcceptance c a ≡ lentAcceptance c′ a
+  pub gaps-lent : (a : Entries) → lentAcceptance c a ≡ lentAcceptance c′ a
   unfolding lentAcceptance
   gaps-lent a = rw gaps-accepted
 

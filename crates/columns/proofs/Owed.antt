@@ -2,7 +2,7 @@
 use mathlib.Core.Path.{_≡_, refl}
 use Rattle.refusal.specs.declared.Acceptance.{Acceptance}
 use Rattle.refusal.specs.declared.Acceptance.the-variants.{Accepted, Refused}
-use Rattle.columns.specs.Columns.{Answers, Columns}
+use Rattle.columns.specs.Columns.{Entries, Columns}
 use Rattle.columns.specs.Acceptance.{acceptance, lentAcceptance}
 use Rattle.columns.specs.Owed.{Owed}
 use Rattle.columns.specs.Right.{RightTable, WrongTable, RightLent, WrongLent}
@@ -17,7 +17,7 @@ check-table-owes c = go (acceptance c) refl
     go (Refused r) p = Owed.refused (refused-exactly c r .0 p)
 
 -- check the lent answer columns with it
-pub check-lent-owes : (c : Columns) (a : Answers) → Owed Refused (tt {0}) (RightLent c a) (λ _. Accepted) (λ _. tt {0}) (WrongLent c a) (lentAcceptance c a) (tt {0})
+pub check-lent-owes : (c : Columns) (a : Entries) → Owed Refused (tt {0}) (RightLent c a) (λ _. Accepted) (λ _. tt {0}) (WrongLent c a) (lentAcceptance c a) (tt {0})
 check-lent-owes c a = go (lentAcceptance c a) refl
   where
     go : (x : Acceptance) → lentAcceptance c a ≡ x → Owed Refused (tt {0}) (RightLent c a) (λ _. Accepted) (λ _. tt {0}) (WrongLent c a) x (tt {0})

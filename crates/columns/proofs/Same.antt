@@ -10,8 +10,8 @@ use lib.Seq.{drop-cons}
 use lib.Dec.{eqb}
 use borrow.Author.Tests.{eqb-true, eq-eqb, ne-eqb}
 use Rattle.weights.proofs.Choice.{apart, both-true}
-use Rattle.columns.specs.Columns.{Answers}
-use Rattle.columns.specs.Same.{equal, sameAnswers}
+use Rattle.columns.specs.Columns.{Answers, Entries}
+use Rattle.columns.specs.Same.{equal, sameAnswers, sameEntries}
 
 pub equal-refl : (xs : List ℕ) → equal xs xs ≡ true
 unfolding equal
@@ -70,4 +70,24 @@ same-not a b n = go (sameAnswers a b) refl
   where
     go : (x : Bool) → sameAnswers a b ≡ x → x ≡ false
     go true e = absurd (n (same-true a b e))
+    go false e = refl
+
+-- of four columns
+pub entries-refl : (a : Entries) → sameEntries a a ≡ true
+unfolding sameEntries
+entries-refl a = rw (same-refl (a .labels), equal-refl (a .pieces))
+
+pub entries-true : (a b : Entries) → sameEntries a b ≡ true → a ≡ b
+unfolding sameEntries
+entries-true a b e =
+    let t = both-true {a = sameAnswers (a .labels) (b .labels)} {b = equal (a .pieces) (b .pieces)} e in
+    let p = same-true (a .labels) (b .labels) (t .0) in
+    let q = equal-true (a .pieces) (b .pieces) (t .1) in
+    λ i. record { labels = p i; pieces = q i }
+
+pub entries-not : (a b : Entries) → ¬ (a ≡ b) → sameEntries a b ≡ false
+entries-not a b n = go (sameEntries a b) refl
+  where
+    go : (x : Bool) → sameEntries a b ≡ x → x ≡ false
+    go true e = absurd (n (entries-true a b e))
     go false e = refl

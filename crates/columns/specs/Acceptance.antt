@@ -12,7 +12,7 @@ use Rattle.refusal.specs.declared.Refusal.{Refusal}
 use Rattle.refusal.specs.declared.Refusal.the-variants.{TooManyVertices, Lengths, Head, Own, Span, Tail, AnswerLength, StrikeMark}
 use Rattle.refusal.specs.declared.Acceptance.{Acceptance}
 use Rattle.refusal.specs.declared.Acceptance.the-variants.{Accepted, Refused}
-use Rattle.columns.specs.Columns.{Answers, Columns, headAt, ownAt, strikeAt, offsetAt, lengthAt, part}
+use Rattle.columns.specs.Columns.{Entries, Columns, headAt, ownAt, strikeAt, offsetAt, lengthAt, part}
 
 -- the greatest numbers of parts, of lines, of needed parts in all and of one line
 abbrev pub mostVertices : ℕ
@@ -95,11 +95,12 @@ acceptance c =
     (test (leb (length (c .tails)) mostListed) Lengths
     (edgesAcceptance c (length (c .heads)) 0 0))))))
 
--- the same with three answer columns, each exactly n long: 1 to 6 and 21, then 7
-unfoldable pub lentAcceptance : Columns → Answers → Acceptance
+-- the same with four answer columns, each exactly n long: 1 to 6 and 21, then 7
+unfoldable pub lentAcceptance : Columns → Entries → Acceptance
 lentAcceptance c a =
     andThen (acceptance c)
-    (test (eqb (length (a .weights)) (c .vertices)) AnswerLength
-    (test (eqb (length (a .depths)) (c .vertices)) AnswerLength
-    (test (eqb (length (a .edges)) (c .vertices)) AnswerLength
-    Accepted)))
+    (test (eqb (length (a .labels .weights)) (c .vertices)) AnswerLength
+    (test (eqb (length (a .labels .depths)) (c .vertices)) AnswerLength
+    (test (eqb (length (a .labels .edges)) (c .vertices)) AnswerLength
+    (test (eqb (length (a .pieces)) (c .vertices)) AnswerLength
+    Accepted))))

@@ -16,7 +16,7 @@ pub record Columns : Type 0 where
 abbrev pub columns : ℕ → (heads own strikes spans tails : List ℕ) → Columns
 columns n heads own strikes spans tails = record { vertices = n; heads = heads; own = own; strikes = strikes; spans = spans; tails = tails }
 
--- the three answer columns: figure, depth and line of each part
+-- three of the answer columns: figure, depth and line of each part
 pub record Answers : Type 0 where
   pub weights : List ℕ
   pub depths : List ℕ
@@ -30,6 +30,19 @@ pub record Sized (n : ℕ) (a : Answers) : Type 0 where
   pub weights : length (a .weights) ≡ n
   pub depths : length (a .depths) ≡ n
   pub edges : length (a .edges) ≡ n
+
+-- the four answer columns: those three, and the piece count of each part (document 02, 2026-09)
+pub record Entries : Type 0 where
+  pub labels : Answers
+  pub pieces : List ℕ
+
+abbrev pub entries : (weights depths edges pieces : List ℕ) → Entries
+entries weights depths edges pieces = record { labels = answers weights depths edges; pieces = pieces }
+
+-- the four columns are n long
+pub record SizedEntries (n : ℕ) (x : Entries) : Type 0 where
+  pub labels : Sized n (x .labels)
+  pub pieces : length (x .pieces) ≡ n
 
 -- what a column holds for a vertex
 abbrev pub cell : List ℕ → ℕ → ℕ

@@ -6,7 +6,7 @@ use lib.ListN.{length, getD}
 use Rattle.weights.specs.Figures.{greatest, struckMark}
 use Rattle.refusal.specs.declared.Refusal.{Refusal}
 use Rattle.refusal.specs.declared.Refusal.the-variants.{TooManyVertices, Lengths, Head, Own, Span, Tail, AnswerLength, StrikeMark}
-use Rattle.columns.specs.Columns.{Answers, Sized, Columns, headAt, ownAt, strikeAt, offsetAt, lengthAt}
+use Rattle.columns.specs.Columns.{Entries, SizedEntries, Columns, headAt, ownAt, strikeAt, offsetAt, lengthAt}
 use Rattle.columns.specs.Acceptance.{mostVertices, mostEdges, mostListed, longestTail}
 
 -- "There are n parts, … n from 0 to 1,024"
@@ -79,11 +79,11 @@ pub data WrongTable (c : Columns) : Refusal → Type 0 where
   unlevel : Few c → ¬ Level c → WrongTable c Lengths
   edge : {r : Refusal} → Few c → Level c → (e : ℕ) → FirstWrong c e r → WrongTable c r
 
--- with "three lent answer columns of exactly n places"; 7 comes behind the table's own refusals
-pub record RightLent (c : Columns) (a : Answers) : Type 0 where
+-- with "three lent answer columns of exactly n places", and a fourth (document 02, 2026-09); 7 comes behind the table's own refusals
+pub record RightLent (c : Columns) (a : Entries) : Type 0 where
   pub table : RightTable c
-  pub sized : Sized (c .vertices) a
+  pub sized : SizedEntries (c .vertices) a
 
-pub data WrongLent (c : Columns) (a : Answers) : Refusal → Type 0 where
+pub data WrongLent (c : Columns) (a : Entries) : Refusal → Type 0 where
   table : {r : Refusal} → WrongTable c r → WrongLent c a r
-  answers : RightTable c → ¬ Sized (c .vertices) a → WrongLent c a AnswerLength
+  answers : RightTable c → ¬ SizedEntries (c .vertices) a → WrongLent c a AnswerLength

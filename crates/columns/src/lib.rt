@@ -10,7 +10,7 @@ use weights::Weight;
 ghost use mathlib.Core.Path.{_≡_};
 ghost use Prim.Native.Nat.{_*_, _≤_};
 ghost use lib.ListN.{length, replicate};
-ghost use Rattle.columns.specs.Columns.{columns, answers, tailOf};
+ghost use Rattle.columns.specs.Columns.{columns, entries, tailOf};
 ghost use Rattle.columns.specs.Filled.{filled};
 ghost use Rattle.columns.specs.Lent.{Placed};
 ghost use Rattle.columns.specs.Same.{equal};
@@ -213,7 +213,7 @@ pub fn check_table(
     check_edges(n, heads, own, strikes, spans, tails)
 }
 
-// The same with three answer columns, each of which must be n long.
+// The same with four answer columns, each of which must be n long.
 pub fn check_lent(
     n: u64,
     heads: &[u64],
@@ -224,10 +224,11 @@ pub fn check_lent(
     weights: &[u64],
     depths: &[u64],
     edges: &[u64],
+    pieces: &[u64],
 ) -> Acceptance
     ensures { λ r.
         let c = columns n (now (heads .entry)) (now (own .entry)) (now (strikes .entry)) (now (spans .entry)) (now (tails .entry)) in
-        let a = answers (now (weights .entry)) (now (depths .entry)) (now (edges .entry)) in
+        let a = entries (now (weights .entry)) (now (depths .entry)) (now (edges .entry)) (now (pieces .entry)) in
         ⌜ r ≡ lentAcceptance c a ⌝ }
 {
     let a = check_table(n, heads, own, strikes, spans, tails);
@@ -242,6 +243,9 @@ pub fn check_lent(
         return Acceptance::Refused(Refusal::AnswerLength);
     }
     if edges.len() as u64 != n {
+        return Acceptance::Refused(Refusal::AnswerLength);
+    }
+    if pieces.len() as u64 != n {
         return Acceptance::Refused(Refusal::AnswerLength);
     }
     Acceptance::Accepted

@@ -1,4 +1,4 @@
--- The laws by which `answers_right` and `check_answers` go: where every test passes the answers are the table's, and where one fails they are not. Assumes nothing.
+-- The laws by which `labels_right`, `answers_right` and `check_answers` go: where every test passes the answers are the table's, and where one fails they are not. Assumes nothing.
 use mathlib.Core.Path.{_≡_, refl, sym, _∙_, ap, subst}
 use mathlib.Core.Bool.{Bool, true, false}
 use Prim.Native.Nat.{ℕ, _+_, _≤_}
@@ -14,33 +14,35 @@ use Rattle.refusal.specs.declared.Refusal.{Refusal}
 use Rattle.refusal.specs.declared.Acceptance.the-variants.{Accepted, Refused}
 use Rattle.refusal.specs.declared.Verdict.the-variants as verdict
 use Rattle.provenance.specs.Labelling.{Fixpoint}
-use Rattle.columns.specs.Columns.{Answers, Columns, ownAt}
+use Rattle.columns.specs.Columns.{Answers, Entries, Columns, ownAt}
 use Rattle.provenance.specs.BestFirst.{labels}
 use Rattle.provenance.proofs.Existence.{exists-shallow}
 use Rattle.provenance.specs.Local.{every, vertexRight, edgeRight}
 use Rattle.provenance.proofs.Local.{all-right, not-fixpoint, vertex-fails, edge-fails}
 use Rattle.tables.specs.Table.{hypergraph}
 use Rattle.columns.specs.Acceptance.{mostVertices, lentAcceptance, allBelow}
-use Rattle.columns.proofs.Accepted.{AcceptedColumns, table-accepted, below-at, below-all}
+use Rattle.columns.proofs.Accepted.{AcceptedLabels, AcceptedColumns, table-accepted, below-at, below-all}
 use Rattle.tables.proofs.Formed.{well-formed}
-use Rattle.columns.specs.Same.{sameAnswers}
-use Rattle.columns.proofs.Same.{same-refl, same-not}
+use Rattle.columns.specs.Same.{equal, sameAnswers, sameEntries}
+use Rattle.columns.proofs.Same.{same-refl, same-true, same-not}
 use Rattle.columns.specs.Lent.{Turning}
-use Rattle.settle.specs.Settling.{answersOf}
+use Rattle.settle.specs.Settling.{answersOf, entriesOf}
 use Rattle.settle.specs.Checking.{verdict as judged, checked}
 use Rattle.settle.specs.Comparing.{allRight}
+use Rattle.pieces.specs.Counting.{Countable, counted}
+use Rattle.settle.proofs.Settled.{answers-countable, answers-counted}
 use Rattle.columns.proofs.Usable.{same-table, turning-columns}
 
-module _ (m : Measure) (c : Columns) (a : Answers) where
+module _ (m : Measure) (c : Columns) (a : Entries) where
   pub checked-refused : (r : Refusal) → lentAcceptance c a ≡ Refused r → verdict.Refused r ≡ checked m c a
   unfolding checked
   checked-refused r p = rw p
 
-  pub checked-told : (b : Bool) → lentAcceptance c a ≡ Accepted → sameAnswers a (answersOf m c) ≡ b → judged Accepted b ≡ checked m c a
+  pub checked-told : (b : Bool) → lentAcceptance c a ≡ Accepted → sameEntries a (entriesOf m c) ≡ b → judged Accepted b ≡ checked m c a
   unfolding checked
   checked-told b p q = rw (p, q)
 
-module _ (m : Measure) (c : Columns) (a : Answers) (l : AcceptedColumns c a) where
+module _ (m : Measure) (c : Columns) (a : Answers) (l : AcceptedLabels c a) where
   others : ¬ (a ≡ answersOf m c) → false ≡ sameAnswers a (answersOf m c)
   others n = sym (same-not a (answersOf m c) n)
 
@@ -99,3 +101,22 @@ module _ (m : Measure) (c : Columns) (a : Answers) (l : AcceptedColumns c a) whe
       go : (b : Bool) → vertices ≡ b → pick b edges false ≡ sameAnswers a (answersOf m c)
       go true p = edges-decide p
       go false p = wrong-vertex p
+
+-- the fourth column, where the other three are the table's -----------------------------------------------------------------------------------------
+module _ (m : Measure) (c : Columns) (a : Entries) (l : AcceptedColumns c a) where
+  pub labels-wrong : sameAnswers (a .labels) (answersOf m c) ≡ false → false ≡ sameEntries a (entriesOf m c)
+  unfolding sameEntries entriesOf
+  labels-wrong q = rw q
+
+  module _ (q : sameAnswers (a .labels) (answersOf m c) ≡ true) where
+    right : a .labels ≡ answersOf m c
+    right = same-true (a .labels) (answersOf m c) q
+
+    pub right-counts : Countable (c .spans) (c .tails) (a .labels .depths) (a .labels .edges) (a .pieces)
+    right-counts = answers-countable m c (l .table) right (l .sized .pieces)
+
+    pub pieces-decide : {b : Bool} → b ≡ equal (a .pieces) (counted (c .spans) (c .tails) (a .labels .depths) (a .labels .edges)) → b ≡ sameEntries a (entriesOf m c)
+    unfolding sameEntries entriesOf
+    pieces-decide {b} e =
+        let r : b ≡ equal (a .pieces) (entriesOf m c .pieces) = e ∙ ap (equal (a .pieces)) (answers-counted m c (l .table) right) in
+        rw q r

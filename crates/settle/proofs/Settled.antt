@@ -1,4 +1,4 @@
--- From best-first to the whole call: the laws by which `label` and `settle` go. Assumes nothing.
+-- From best-first to the whole call: the laws by which `label_vertices`, `label` and `settle` go. Assumes nothing.
 use mathlib.Core.Path.{_≡_, sym, _∙_, ap, subst}
 use mathlib.Core.List.{List}
 use Prim.Native.Nat.{ℕ, _≤_}
@@ -6,29 +6,36 @@ use native.Mathlib.Omega.{arith}
 use lib.ListN.{length, getD, replicate, length-replicate}
 use Rattle.weights.specs.declared.Measure.{Measure}
 use Rattle.weights.specs.Measures.{algebra}
+use Rattle.weights.proofs.Laws.{lawful}
 use Rattle.refusal.specs.declared.Refusal.{Refusal}
 use Rattle.refusal.specs.declared.Acceptance.the-variants.{Accepted, Refused}
-use Rattle.columns.specs.Columns.{Answers, Sized, Columns, answers, ownAt}
-use Rattle.provenance.specs.BestFirst.{turns, best-first}
+use Rattle.columns.specs.Columns.{Answers, Sized, Entries, Columns, answers, ownAt}
+use Rattle.provenance.specs.BestFirst.{labels, turns, best-first}
+use Rattle.provenance.specs.Labelling.{Fixpoint}
+use Rattle.provenance.specs.Pieces.{pieceColumn}
 use Rattle.provenance.proofs.Existence.{zeros}
 use Rattle.tables.specs.Table.{hypergraph}
-use Rattle.columns.specs.Acceptance.{mostVertices, lentAcceptance}
-use Rattle.columns.proofs.Accepted.{AcceptedColumns}
+use Rattle.columns.specs.Acceptance.{mostVertices, acceptance, lentAcceptance}
+use Rattle.columns.proofs.Accepted.{AcceptedLabels, AcceptedColumns}
 use Rattle.columns.proofs.Usable.{same-table, turning-columns}
+use Rattle.pieces.specs.Counting.{Countable, counted}
+use Rattle.pieces.proofs.Accepted.{countable, counted-is}
 use Rattle.bestfirst.specs.Turns.{Blank}
-use Rattle.settle.specs.Settling.{answersOf, settled}
+use Rattle.settle.specs.Settling.{answersOf, entriesOf, settled}
+use Rattle.settle.proofs.Demands.{answers-fixpoint, answers-sized}
 
-module _ (m : Measure) (c : Columns) (a : Answers) where
+module _ (m : Measure) (c : Columns) (a : Entries) where
   pub settled-refused : (r : Refusal) → lentAcceptance c a ≡ Refused r → record { result = Refused r; left = a } ≡ settled m c a
   unfolding settled
   settled-refused r p = rw p
 
-  pub settled-all : (b : Answers) → lentAcceptance c a ≡ Accepted → b ≡ answersOf m c → record { result = Accepted; left = b } ≡ settled m c a
+  pub settled-all : (b : Entries) → lentAcceptance c a ≡ Accepted → b ≡ entriesOf m c → record { result = Accepted; left = b } ≡ settled m c a
   unfolding settled
   settled-all b p q = rw (p, q)
 
+module _ (m : Measure) (c : Columns) (a : Answers) where
   -- the columns are set to 0
-  module _ (h : AcceptedColumns c a) {ws ds es : List ℕ} (p : ws ≡ replicate (length (a .weights)) 0) (q : ds ≡ replicate (length (a .depths)) 0) (r : es ≡ replicate (length (a .edges)) 0) where
+  module _ (h : AcceptedLabels c a) {ws ds es : List ℕ} (p : ws ≡ replicate (length (a .weights)) 0) (q : ds ≡ replicate (length (a .depths)) 0) (r : es ≡ replicate (length (a .edges)) 0) where
     weights-long : length ws ≡ c .vertices
     weights-long = ap length p ∙ length-replicate (length (a .weights)) 0 ∙ h .sized .weights
 
@@ -55,10 +62,28 @@ module _ (m : Measure) (c : Columns) (a : Answers) where
     unfolding answersOf
     labelled {b} e = subst (λ (n : ℕ). b ≡ best-first (algebra m) (hypergraph (same-table c n)) (ownAt c)) depths-long e
 
--- accepted columns tell the number of vertices, so `label` is not given it
-module _ (c : Columns) (a : Answers) (h : AcceptedColumns c a) where
-  pub told-accepted : AcceptedColumns (same-table c (length (a .depths))) a
-  told-accepted = subst (λ (n : ℕ). AcceptedColumns (same-table c n) a) (sym (h .sized .depths)) h
+-- answers of an accepted table can be counted, and what counting leaves is its fourth column
+module _ (m : Measure) (c : Columns) (p : acceptance c ≡ Accepted) {b : Answers} (right : b ≡ answersOf m c) where
+  sized : Sized (c .vertices) b
+  sized = subst (λ (z : Answers). Sized (c .vertices) z) (sym right) (answers-sized m c p)
 
-  pub told-answers : (m : Measure) {b : Answers} → b ≡ answersOf m (same-table c (length (a .depths))) → b ≡ answersOf m c
-  told-answers m {b} e = subst (λ (n : ℕ). b ≡ answersOf m (same-table c n)) (h .sized .depths) e
+  pub answers-countable : {pieces : List ℕ} → length pieces ≡ c .vertices → Countable (c .spans) (c .tails) (b .depths) (b .edges) pieces
+  answers-countable l =
+      let fix = subst (λ (z : Answers). Fixpoint (algebra m) (hypergraph c) (ownAt c) (labels z)) (sym right) (answers-fixpoint m c p) in
+      countable c b p sized (lawful m) fix l
+
+  pub answers-counted : counted (c .spans) (c .tails) (b .depths) (b .edges) ≡ entriesOf m c .pieces
+  unfolding entriesOf
+  answers-counted = counted-is c b p sized ∙ ap (λ (z : Answers). pieceColumn (hypergraph c) (labels z) (c .vertices)) right
+
+  pub entered : {new : List ℕ} → new ≡ counted (c .spans) (c .tails) (b .depths) (b .edges) → record { labels = b; pieces = new } ≡ entriesOf m c
+  unfolding entriesOf
+  entered e = let q = e ∙ answers-counted in λ i. record { labels = right i; pieces = q i }
+
+-- accepted columns tell the number of vertices, so `label` is not given it
+module _ (c : Columns) (a : Entries) (h : AcceptedColumns c a) where
+  pub told-accepted : AcceptedColumns (same-table c (length (a .labels .depths))) a
+  told-accepted = subst (λ (n : ℕ). AcceptedColumns (same-table c n) a) (sym (h .sized .labels .depths)) h
+
+  pub told-answers : (m : Measure) {b : Entries} → b ≡ entriesOf m (same-table c (length (a .labels .depths))) → b ≡ entriesOf m c
+  told-answers m {b} e = subst (λ (n : ℕ). b ≡ entriesOf m (same-table c n)) (h .sized .labels .depths) e

@@ -9,20 +9,20 @@ use Rattle.weights.specs.declared.Measure.the-variants.{Cost, Days}
 use Rattle.weights.specs.declared.State.the-variants.{Made, Over, Unmade}
 use Rattle.weights.specs.declared.Label.{Label}
 use Rattle.weights.specs.Figures.{over, capped}
-use Rattle.weights.specs.Labels.{unmade, entryOf}
+use Rattle.weights.specs.Labels.{unmade, labelState}
 use Rattle.weights.proofs.Laws.{at-most}
 use Rattle.weights.specs.Measures.{Algebra, algebra}
 use Rattle.weights.proofs.States.{unmade-state, over-state, made-state}
 use Rattle.refusal.specs.declared.Acceptance.the-variants.{Accepted}
 use Rattle.provenance.specs.Hypergraph.{Hypergraph, Derivation, node, weight, depth}
 use Rattle.provenance.specs.Means.{Means, Derivable, underivable, derivable}
-use Rattle.columns.specs.Columns.{Answers, Columns, ownAt}
+use Rattle.columns.specs.Columns.{Entries, Columns, ownAt}
 use Rattle.provenance.specs.BestFirst.{labels}
 use Rattle.provenance.proofs.Sensitivity.{cost-total, days-total}
 use Rattle.tables.specs.Table.{hypergraph}
 use Rattle.columns.specs.Acceptance.{acceptance}
 use Rattle.settle.specs.Settling.{answersOf, settled}
-use Rattle.settle.proofs.Demands.{answers-mean, demand-2}
+use Rattle.settle.proofs.Demands.{answers-means, demand-2}
 use Rattle.settle.specs.States.{uncapped, Dear, Affordable, StateMeans}
 
 deep : {H : Hypergraph} {v : ℕ} (d : Derivation H v) → 0 < depth d
@@ -69,23 +69,23 @@ module _ (m : Measure) (c : Columns) (l : Label) (v : ℕ) where
   shown-deep : Shown → 0 < d
   shown-deep k = omega (arith, deep (k .shown), k .deep)
 
-  unmade-means : Meant → (entryOf l .state ≡ Unmade) ↔ (¬ Derivation (hypergraph c) v)
+  unmade-means : Meant → (labelState l ≡ Unmade) ↔ (¬ Derivation (hypergraph c) v)
   unmade-means (underivable q n) = (λ e. n, λ k. unmade-state w d .1 (blank-depth q))
   unmade-means (derivable k) = (λ e. absurd (omega (arith, unmade-state w d .0 e, shown-deep k)), λ n. absurd (n (k .shown)))
 
-  made-means : Meant → entryOf l .state ≡ Made → Affordable m c v
+  made-means : Meant → labelState l ≡ Made → Affordable m c v
   made-means (underivable q n) e = absurd (omega (arith, made-state w d .0 e .0, blank-depth q))
   made-means (derivable k) e = let n = made-state w d .0 e .1 in record { shown = k .shown; low = omega (arith, n, k .weighs, weight-uncapped (ownAt c) m (k .shown)) }
 
-  means-made : Meant → Affordable m c v → entryOf l .state ≡ Made
+  means-made : Meant → Affordable m c v → labelState l ≡ Made
   means-made (underivable q n) b = absurd (n (b .shown))
   means-made (derivable k) b = let h = least-sum (ownAt c) m k (b .shown) in made-state w d .1 (shown-deep k, λ e. omega (arith, b .low))
 
-  over-means : Meant → entryOf l .state ≡ Over → Dear m c v
+  over-means : Meant → labelState l ≡ Over → Dear m c v
   over-means (underivable q n) e = absurd (omega (arith, over-state w d .0 e .0, blank-depth q))
   over-means (derivable k) e = let o = over-state w d .0 e .1 in record { shown = k .shown; dear = λ t. omega (arith, o, least-sum (ownAt c) m k t) }
 
-  means-over : Meant → Dear m c v → entryOf l .state ≡ Over
+  means-over : Meant → Dear m c v → labelState l ≡ Over
   means-over (underivable q n) b = absurd (n (b .shown))
   means-over (derivable k) b = over-state w d .1 (shown-deep k, omega (arith, b .dear (k .shown), k .weighs, weight-uncapped (ownAt c) m (k .shown)))
 
@@ -95,8 +95,8 @@ module _ (m : Measure) (c : Columns) (l : Label) (v : ℕ) where
 
 -- of the answers of an accepted table
 pub answers-state : (m : Measure) (c : Columns) → acceptance c ≡ Accepted → (v : ℕ) → StateMeans m c (labels (answersOf m c) v) v
-answers-state m c p v = means-state m c (labels (answersOf m c) v) v (answers-mean m c p v .means)
+answers-state m c p v = means-state m c (labels (answersOf m c) v) v (answers-means m c p v)
 
 -- of what settling leaves
-pub settled-state : (m : Measure) (c : Columns) (a : Answers) → settled m c a .result ≡ Accepted → (v : ℕ) → StateMeans m c (labels (settled m c a .left) v) v
-settled-state m c a q v = means-state m c (labels (settled m c a .left) v) v (demand-2 m c a q v .means)
+pub settled-state : (m : Measure) (c : Columns) (a : Entries) → settled m c a .result ≡ Accepted → (v : ℕ) → StateMeans m c (labels (settled m c a .left .labels) v) v
+settled-state m c a q v = means-state m c (labels (settled m c a .left .labels) v) v (demand-2 m c a q v .means)

@@ -8,7 +8,7 @@ use Rattle.weights.specs.declared.Label.{Label}
 use Rattle.weights.specs.Figures.{capped}
 use Rattle.weights.specs.Labels.{unmade}
 use Rattle.refusal.specs.declared.Acceptance.the-variants.{Accepted}
-use Rattle.columns.specs.Columns.{Answers, Columns, ownAt}
+use Rattle.columns.specs.Columns.{Entries, Columns, ownAt}
 use Rattle.provenance.specs.BestFirst.{labels}
 use Rattle.provenance.specs.Labelling.{Made}
 use Rattle.provenance.specs.Provenance.{HasProvenance}
@@ -42,8 +42,8 @@ module _ (c : Columns) (l : Label) (v : ℕ) where
   days-means (best.worth x k p e) = worth-means (Bottleneck c v) l x k p e
 
 -- of what settling leaves
-pub cost-provenance : (c : Columns) (a : Answers) → settled Cost c a .result ≡ Accepted → (v : ℕ) → CostMeans c (labels (settled Cost c a .left) v) v
-cost-provenance c a q v = cost-means c (labels (settled Cost c a .left) v) v (demand-2 Cost c a q v .worth)
+pub cost-provenance : (c : Columns) (a : Entries) → settled Cost c a .result ≡ Accepted → (v : ℕ) → CostMeans c (labels (settled Cost c a .left .labels) v) v
+cost-provenance c a q v = cost-means c (labels (settled Cost c a .left .labels) v) v (demand-2 Cost c a q v .worth)
 
-pub days-best-weight : (c : Columns) (a : Answers) → settled Days c a .result ≡ Accepted → (v : ℕ) → DaysMeans c (labels (settled Days c a .left) v) v
-days-best-weight c a q v = days-means c (labels (settled Days c a .left) v) v (demand-2 Days c a q v .worth)
+pub days-best-weight : (c : Columns) (a : Entries) → settled Days c a .result ≡ Accepted → (v : ℕ) → DaysMeans c (labels (settled Days c a .left .labels) v) v
+days-best-weight c a q v = days-means c (labels (settled Days c a .left .labels) v) v (demand-2 Days c a q v .worth)

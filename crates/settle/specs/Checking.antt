@@ -6,10 +6,10 @@ use Rattle.refusal.specs.declared.Acceptance.{Acceptance}
 use Rattle.refusal.specs.declared.Acceptance.the-variants as answer
 use Rattle.refusal.specs.declared.Verdict.{Verdict}
 use Rattle.refusal.specs.declared.Verdict.the-variants.{Yes, No, Refused}
-use Rattle.columns.specs.Columns.{Answers, Columns}
+use Rattle.columns.specs.Columns.{Entries, Columns}
 use Rattle.columns.specs.Acceptance.{test, lentAcceptance}
-use Rattle.columns.specs.Same.{sameAnswers}
-use Rattle.settle.specs.Settling.{answersOf}
+use Rattle.columns.specs.Same.{sameEntries}
+use Rattle.settle.specs.Settling.{entriesOf}
 
 abbrev pub verdict : Acceptance → Bool → Verdict
 verdict (answer.Refused r) b = Refused r
@@ -17,9 +17,9 @@ verdict answer.Accepted true = Yes
 verdict answer.Accepted false = No
 
 -- yes if the lent answers are those of the table, and otherwise no, never 8
-unfoldable pub checked : Measure → Columns → Answers → Verdict
-checked m c a = verdict (lentAcceptance c a) (sameAnswers a (answersOf m c))
+unfoldable pub checked : Measure → Columns → Entries → Verdict
+checked m c a = verdict (lentAcceptance c a) (sameEntries a (entriesOf m c))
 
 -- 8, of the calls that rely on lent answers: the lent answers are this table's
-abbrev pub answersAcceptance : Measure → Columns → Answers → Acceptance
-answersAcceptance m c a = test (sameAnswers a (answersOf m c)) WrongAnswers answer.Accepted
+abbrev pub answersAcceptance : Measure → Columns → Entries → Acceptance
+answersAcceptance m c a = test (sameEntries a (entriesOf m c)) WrongAnswers answer.Accepted

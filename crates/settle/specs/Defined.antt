@@ -6,16 +6,22 @@ use Rattle.weights.specs.declared.Measure.{Measure}
 use Rattle.weights.specs.Measures.{algebra}
 use Rattle.refusal.specs.declared.Acceptance.the-variants.{Accepted}
 use Rattle.provenance.specs.Means.{Means}
-use Rattle.columns.specs.Columns.{Answers, Columns, ownAt}
+use Rattle.columns.specs.Columns.{Entries, Columns, cell, ownAt}
 use Rattle.provenance.specs.BestFirst.{labels}
+use Rattle.provenance.specs.Pieces.{HasPieces}
 use Rattle.tables.specs.Table.{hypergraph}
 use Rattle.columns.specs.Acceptance.{lentAcceptance}
 
--- every part's label is the one that the paper defines
-abbrev pub AllMean : Measure → Columns → Answers → Type 0
-AllMean m c a = (v : ℕ) → v < c .vertices → Means (algebra m) (hypergraph c) (ownAt c) (labels a v) v
+-- the entry of part v is the one that the paper defines: its label, and its piece count (document 02, 2026-09)
+pub record EntryMeans (m : Measure) (c : Columns) (a : Entries) (v : ℕ) : Type 0 where
+  pub means : Means (algebra m) (hypergraph c) (ownAt c) (labels (a .labels) v) v
+  pub pieces : HasPieces (hypergraph c) (labels (a .labels)) v (cell (a .pieces) v)
+
+-- so is every part's
+abbrev pub AllMean : Measure → Columns → Entries → Type 0
+AllMean m c a = (v : ℕ) → v < c .vertices → EntryMeans m c a v
 
 -- and the columns are accepted
-pub record Defined (m : Measure) (c : Columns) (a : Answers) : Type 0 where
+pub record Defined (m : Measure) (c : Columns) (a : Entries) : Type 0 where
   pub accepted : lentAcceptance c a ≡ Accepted
   pub means : AllMean m c a

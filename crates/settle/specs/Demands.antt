@@ -11,7 +11,9 @@ use Rattle.provenance.proofs.Support.{chosen, supports}
 use Rattle.provenance.proofs.Semirings.{cost-computes, days-weighs}
 use Rattle.provenance.specs.Provenance.{HasProvenance}
 use Rattle.provenance.specs.BestWeight.{HasBestWeight}
-use Rattle.columns.specs.Columns.{Columns, ownAt}
+use Rattle.provenance.specs.BestFirst.{labels}
+use Rattle.provenance.specs.Pieces.{HasPieces}
+use Rattle.columns.specs.Columns.{Entries, Columns, cell, ownAt}
 use Rattle.tables.specs.Table.{hypergraph}
 
 -- what the source says of the figure of part v, whose label is l: in cost it is the provenance (Definition 5), in days the best weight (Definition 10), up to the ceiling
@@ -19,11 +21,12 @@ abbrev pub Worth : Measure → Columns → Label → ℕ → Type 0
 Worth Cost c l v = HasProvenance cost-computes (hypergraph c) (ownAt c) l v
 Worth Days c l v = HasBestWeight days-weighs (hypergraph c) (ownAt c) l v
 
--- the entry of part v: it means what the paper says; its figure is what the source says; if it is made, its chosen make-up is thrifty and has its figure and depth; and
--- its depth is at most n
-pub record Demand2 (m : Measure) (c : Columns) (ls : ℕ → Label) (v : ℕ) : Type 0 where
-  pub means : Means (algebra m) (hypergraph c) (ownAt c) (ls v) v
-  pub worth : Worth m c (ls v) v
-  pub chosen : Made (ls v) → ChosenDerivation (hypergraph c) ls v
-  pub supports : (k : Made (ls v)) → Supports (algebra m) (ownAt c) ls (chosen k .tree)
-  pub shallow : ls v .depth ≤ c .vertices
+-- the entry of part v: it means what the paper says; its figure is what the source says; if it is made, its chosen make-up is thrifty and has its figure and depth; its
+-- depth is at most n; and its piece count is that of its chosen make-up
+pub record Demand2 (m : Measure) (c : Columns) (a : Entries) (v : ℕ) : Type 0 where
+  pub means : Means (algebra m) (hypergraph c) (ownAt c) (labels (a .labels) v) v
+  pub worth : Worth m c (labels (a .labels) v) v
+  pub chosen : Made (labels (a .labels) v) → ChosenDerivation (hypergraph c) (labels (a .labels)) v
+  pub supports : (k : Made (labels (a .labels) v)) → Supports (algebra m) (ownAt c) (labels (a .labels)) (chosen k .tree)
+  pub shallow : labels (a .labels) v .depth ≤ c .vertices
+  pub pieces : HasPieces (hypergraph c) (labels (a .labels)) v (cell (a .pieces) v)

@@ -7,7 +7,7 @@ use Rattle.weights.specs.declared.Measure.the-variants.{Cost, Days}
 use Rattle.weights.specs.declared.State.the-variants.{Made, Over, Unmade}
 use Rattle.weights.specs.declared.Label.{Label}
 use Rattle.weights.specs.Figures.{ceiling}
-use Rattle.weights.specs.Labels.{entryOf}
+use Rattle.weights.specs.Labels.{labelState}
 use Rattle.provenance.specs.Hypergraph.{Hypergraph, Derivation, weight, listing}
 use Rattle.provenance.specs.Semirings.{long-days}
 use Rattle.provenance.specs.Counting.{total}
@@ -32,6 +32,6 @@ module _ (m : Measure) (c : Columns) (v : ℕ) where
 
 -- the state of part v, whose label is l
 pub record StateMeans (m : Measure) (c : Columns) (l : Label) (v : ℕ) : Type 0 where
-  pub made : (entryOf l .state ≡ Made) ↔ Affordable m c v
-  pub over : (entryOf l .state ≡ Over) ↔ Dear m c v
-  pub unmade : (entryOf l .state ≡ Unmade) ↔ (¬ Derivation (hypergraph c) v)
+  pub made : (labelState l ≡ Made) ↔ Affordable m c v
+  pub over : (labelState l ≡ Over) ↔ Dear m c v
+  pub unmade : (labelState l ≡ Unmade) ↔ (¬ Derivation (hypergraph c) v)

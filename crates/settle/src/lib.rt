@@ -1,5 +1,5 @@
 // Settling a table that is lent as columns: every vertex gets the label of its chosen derivation,
-// found best first. And the check that lent answers are those labels.
+// found best first, and its piece count. And the check that lent answers are those.
 use refusal::Acceptance;
 use refusal::Verdict;
 use weights::Entry;
@@ -12,19 +12,18 @@ ghost use mathlib.Core.Path.{_≡_};
 ghost use Prim.Native.Nat.{_≤_, _<_};
 ghost use lib.ListN.{length};
 ghost use Rattle.weights.specs.Measures.{algebra};
-ghost use Rattle.weights.specs.Labels.{entryOf};
 ghost use Rattle.provenance.specs.BestFirst.{labels};
 ghost use Rattle.provenance.specs.Local.{every};
-ghost use Rattle.columns.specs.Columns.{columns, answers, cell};
-ghost use Rattle.columns.proofs.Accepted.{AcceptedColumns};
-ghost use Rattle.columns.specs.Same.{sameAnswers};
+ghost use Rattle.columns.specs.Columns.{columns, answers, entries, cell};
+ghost use Rattle.columns.proofs.Accepted.{AcceptedLabels, AcceptedColumns};
+ghost use Rattle.columns.specs.Same.{sameAnswers, sameEntries};
 ghost use Rattle.columns.specs.Lent.{lent, Turning};
-ghost use Rattle.settle.specs.Settling.{answersOf, settled};
+ghost use Rattle.settle.specs.Settling.{answersOf, entriesOf, entryAt, settled};
 ghost use Rattle.settle.specs.Checking.{checked};
 ghost use Rattle.settle.specs.Comparing.{vertexFits, edgeFits, Comparable, Weighable, allRight, fewLines};
 
-// The answers of an accepted table go into the three answer columns, whatever they held.
-pub fn label(
+// The labels of an accepted table go into three of the answer columns, whatever they held.
+fn label_vertices(
     measure: Measure,
     heads: &[u64],
     own: &[u64],
@@ -37,7 +36,7 @@ pub fn label(
 )
     requires { let c = lent (now heads) (now own) (now strikes) (now spans) (now tails) (now depths) in
         let a = answers (now weights) (now depths) (now edges) in
-        ⌜ AcceptedColumns c a ⌝ }
+        ⌜ AcceptedLabels c a ⌝ }
     ensures { λ r.
         let c = lent (now (heads .entry)) (now (own .entry)) (now (strikes .entry)) (now (spans .entry)) (now (tails .entry)) (now (depths .entry)) in
         let a′ = answers (now (weights .exit)) (now (depths .exit)) (now (edges .exit)) in
@@ -59,7 +58,43 @@ pub fn label(
     );
 }
 
-// Leaves the table's answers in the three answer columns, or refuses and leaves them as they are.
+// The entries of an accepted table go into the four answer columns, whatever they held: the labels,
+// and then the piece counts, which the labels tell.
+pub fn label(
+    measure: Measure,
+    heads: &[u64],
+    own: &[u64],
+    strikes: &[u64],
+    spans: &[u64],
+    tails: &[u64],
+    weights: &mut [u64],
+    depths: &mut [u64],
+    edges: &mut [u64],
+    pieces: &mut [u64],
+)
+    requires { let c = lent (now heads) (now own) (now strikes) (now spans) (now tails) (now depths) in
+        let a = entries (now weights) (now depths) (now edges) (now pieces) in
+        ⌜ AcceptedColumns c a ⌝ }
+    ensures { λ r.
+        let c = lent (now (heads .entry)) (now (own .entry)) (now (strikes .entry)) (now (spans .entry)) (now (tails .entry)) (now (depths .entry)) in
+        let a′ = entries (now (weights .exit)) (now (depths .exit)) (now (edges .exit)) (now (pieces .exit)) in
+        ⌜ a′ ≡ entriesOf measure c ⌝ }
+{
+    label_vertices(
+        measure,
+        heads,
+        own,
+        strikes,
+        spans,
+        tails,
+        weights,
+        depths,
+        edges,
+    );
+    pieces::count_pieces(spans, tails, depths, edges, pieces);
+}
+
+// Leaves the table's entries in the four answer columns, or refuses and leaves them as they are.
 pub fn settle(
     measure: Measure,
     n: u64,
@@ -71,14 +106,26 @@ pub fn settle(
     weights: &mut [u64],
     depths: &mut [u64],
     edges: &mut [u64],
+    pieces: &mut [u64],
 ) -> Acceptance
     ensures { λ r.
         let c = columns n (now (heads .entry)) (now (own .entry)) (now (strikes .entry)) (now (spans .entry)) (now (tails .entry)) in
-        let a = answers (now (weights .entry)) (now (depths .entry)) (now (edges .entry)) in
-        let a′ = answers (now (weights .exit)) (now (depths .exit)) (now (edges .exit)) in
+        let a = entries (now (weights .entry)) (now (depths .entry)) (now (edges .entry)) (now (pieces .entry)) in
+        let a′ = entries (now (weights .exit)) (now (depths .exit)) (now (edges .exit)) (now (pieces .exit)) in
         ⌜ record { result = r; left = a′ } ≡ settled measure c a ⌝ }
 {
-    let a = columns::check_lent(n, heads, own, strikes, spans, tails, weights, depths, edges);
+    let a = columns::check_lent(
+        n,
+        heads,
+        own,
+        strikes,
+        spans,
+        tails,
+        weights,
+        depths,
+        edges,
+        pieces,
+    );
     match a {
         Acceptance::Refused(r) => return Acceptance::Refused(r),
         Acceptance::Accepted => {}
@@ -93,6 +140,7 @@ pub fn settle(
         weights,
         depths,
         edges,
+        pieces,
     );
     Acceptance::Accepted
 }
@@ -345,9 +393,9 @@ fn right_many(
     )
 }
 
-// Whether the answer columns hold the answers of an accepted table, whoever wrote them. A depth
+// Whether three of the answer columns hold the labels of an accepted table, whoever wrote them. A depth
 // above n is none of them, so no sum below wraps.
-pub fn answers_right(
+fn labels_right(
     measure: Measure,
     n: u64,
     heads: &[u64],
@@ -359,7 +407,7 @@ pub fn answers_right(
     depths: &[u64],
     edges: &[u64],
 ) -> bool
-    requires { ⌜ AcceptedColumns (columns n (now heads) (now own) (now strikes) (now spans) (now tails)) (answers (now weights) (now depths) (now edges)) ⌝ }
+    requires { ⌜ AcceptedLabels (columns n (now heads) (now own) (now strikes) (now spans) (now tails)) (answers (now weights) (now depths) (now edges)) ⌝ }
     ensures { λ r.
         let c = columns n (now (heads .entry)) (now (own .entry)) (now (strikes .entry)) (now (spans .entry)) (now (tails .entry)) in
         let a = answers (now (weights .entry)) (now (depths .entry)) (now (edges .entry)) in
@@ -394,6 +442,44 @@ pub fn answers_right(
     )
 }
 
+// Whether the answer columns hold the entries of an accepted table, whoever wrote them. The piece
+// counts are looked at once the labels are right.
+pub fn answers_right(
+    measure: Measure,
+    n: u64,
+    heads: &[u64],
+    own: &[u64],
+    strikes: &[u64],
+    spans: &[u64],
+    tails: &[u64],
+    weights: &[u64],
+    depths: &[u64],
+    edges: &[u64],
+    pieces: &[u64],
+) -> bool
+    requires { ⌜ AcceptedColumns (columns n (now heads) (now own) (now strikes) (now spans) (now tails)) (entries (now weights) (now depths) (now edges) (now pieces)) ⌝ }
+    ensures { λ r.
+        let c = columns n (now (heads .entry)) (now (own .entry)) (now (strikes .entry)) (now (spans .entry)) (now (tails .entry)) in
+        let a = entries (now (weights .entry)) (now (depths .entry)) (now (edges .entry)) (now (pieces .entry)) in
+        ⌜ r ≡ sameEntries a (entriesOf measure c) ⌝ }
+{
+    if !labels_right(
+        measure,
+        n,
+        heads,
+        own,
+        strikes,
+        spans,
+        tails,
+        weights,
+        depths,
+        edges,
+    ) {
+        return false;
+    }
+    pieces::pieces_right(spans, tails, depths, edges, pieces)
+}
+
 // The same of any table, or why it is refused: yes or no, and never 8.
 pub fn check_answers(
     measure: Measure,
@@ -406,13 +492,25 @@ pub fn check_answers(
     weights: &[u64],
     depths: &[u64],
     edges: &[u64],
+    pieces: &[u64],
 ) -> Verdict
     ensures { λ r.
         let c = columns n (now (heads .entry)) (now (own .entry)) (now (strikes .entry)) (now (spans .entry)) (now (tails .entry)) in
-        let a = answers (now (weights .entry)) (now (depths .entry)) (now (edges .entry)) in
+        let a = entries (now (weights .entry)) (now (depths .entry)) (now (edges .entry)) (now (pieces .entry)) in
         ⌜ r ≡ checked measure c a ⌝ }
 {
-    let a = columns::check_lent(n, heads, own, strikes, spans, tails, weights, depths, edges);
+    let a = columns::check_lent(
+        n,
+        heads,
+        own,
+        strikes,
+        spans,
+        tails,
+        weights,
+        depths,
+        edges,
+        pieces,
+    );
     match a {
         Acceptance::Refused(r) => return Verdict::Refused(r),
         Acceptance::Accepted => {}
@@ -428,6 +526,7 @@ pub fn check_answers(
         weights,
         depths,
         edges,
+        pieces,
     ) {
         return Verdict::Yes;
     }
@@ -446,15 +545,19 @@ fn cell(column: &[u64], v: Vertex) -> u64
 }
 
 // The entry of a vertex, with its state. A vertex beyond the columns is unmade.
-pub fn entry(weights: &[u64], depths: &[u64], edges: &[u64], v: Vertex) -> Entry
-    ensures { λ r. ⌜ r ≡ entryOf (labels (answers (now (weights .entry)) (now (depths .entry)) (now (edges .entry))) (v .0)) ⌝ }
+pub fn entry(weights: &[u64], depths: &[u64], edges: &[u64], pieces: &[u64], v: Vertex) -> Entry
+    ensures { λ r.
+        let a = entries (now (weights .entry)) (now (depths .entry)) (now (edges .entry)) (now (pieces .entry)) in
+        ⌜ r ≡ entryAt a (v .0) ⌝ }
 {
     let weight = cell(weights, v);
     let depth = cell(depths, v);
     let root = cell(edges, v);
-    Entry::of(Label {
+    let count = cell(pieces, v);
+    let label = Label {
         weight: Weight(weight),
         depth,
         edge: Hyperedge(root),
-    })
+    };
+    Entry::of(label, count)
 }

@@ -34,5 +34,9 @@ aheadOf A a b =
 abbrev pub stateOf : (weight depth : ℕ) → State
 stateOf w d = pick (eqb d 0) Unmade (pick (isOver w) Over Made)
 
-abbrev pub entryOf : Label → Entry
-entryOf l = record { state = stateOf (l .weight .0) (l .depth); weight = l .weight; depth = l .depth; edge = l .edge }
+abbrev pub labelState : Label → State
+labelState l = stateOf (l .weight .0) (l .depth)
+
+-- the entry of a label and a piece count
+abbrev pub entryOf : Label → (pieces : ℕ) → Entry
+entryOf l p = record { state = labelState l; weight = l .weight; depth = l .depth; edge = l .edge; pieces = p }

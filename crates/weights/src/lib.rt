@@ -120,7 +120,7 @@ impl Mark {
     }
 }
 
-// The three numbers of a part's entry: the figure, the depth and the chosen line, which is the root
+// Three numbers of a part's entry: the figure, the depth and the chosen line, which is the root
 // of its chosen make-up. Depth 0 is unmade, and then all three are 0.
 pub struct Label {
     pub weight: Weight,
@@ -162,17 +162,19 @@ pub enum State {
     Unmade,
 }
 
-// A part's entry: its state, which the three numbers tell, and the numbers.
+// A part's entry: its state, which figure and depth tell, the three numbers of its label, and how
+// many bought pieces its chosen make-up holds.
 pub struct Entry {
     pub state: State,
     pub weight: Weight,
     pub depth: u64,
     pub edge: Hyperedge,
+    pub pieces: u64,
 }
 
 impl Entry {
-    pub fn of(label: Label) -> Entry
-        ensures { λ r. ⌜ r ≡ entryOf label ⌝ }
+    pub fn of(label: Label, pieces: u64) -> Entry
+        ensures { λ r. ⌜ r ≡ entryOf label pieces ⌝ }
     {
         let weight = label.weight;
         let edge = label.edge;
@@ -183,6 +185,7 @@ impl Entry {
             weight,
             depth,
             edge,
+            pieces,
         }
     }
 }

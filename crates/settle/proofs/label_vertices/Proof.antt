@@ -1,10 +1,10 @@
--- `settle::label` meets its contract: the columns are set to 0, which is unmade, and best-first labels them. Assumes nothing.
+-- `settle::label_vertices` meets its contract: the columns are set to 0, which is unmade, and best-first labels them. Assumes nothing.
 use borrow.Author.Needs.{needs}
 use lib.ListN.{length}
 use Rattle.columns.specs.Columns.{Answers, Columns, columns, answers}
 use Rattle.settle.proofs.Settled.{all-unmade, labelled}
-use Rattle.settle.proofs.label.Statement.{statement}
-use Rattle.settle.proofs.label.Tie as tie
+use Rattle.settle.proofs.label_vertices.Statement.{statement}
+use Rattle.settle.proofs.label_vertices.Tie as tie
 
 -- the table and the answer columns as they came
 abbrev tableOf : tie.Start → Columns
@@ -30,8 +30,8 @@ returns c =
     let s = r .before .before .before .before .before .before .before .before .before .before in
     labelled (s .args .measure) (tableOf s) (came s) (s .pre) (r .set-all .ensures) (q .set-all2 .ensures) (p .set-all3 .ensures) (l .label-all .ensures)
 
-pub label-spec : {M : Type 1} → statement M
-label-spec =
+pub label-vertices-spec : {M : Type 1} → statement M
+label-vertices-spec =
     tie.close
     (tie.spec
     (λ c κs. search needs)

@@ -1,4 +1,4 @@
--- `settle::answers_right` meets its contract by the laws of `Checked`: a test that fails rules the table's answers out, and all of them together show them.
+-- `settle::labels_right` meets its contract by the laws of `Checked`: a test that fails rules the table's answers out, and all of them together show them.
 -- Assumes nothing.
 use mathlib.Core.Path.{_≡_, sym, _∙_}
 use mathlib.Core.Bool.{true}
@@ -11,8 +11,8 @@ use Rattle.columns.specs.Acceptance.{allBelow}
 use Rattle.columns.specs.Lent.{Turning}
 use Rattle.columns.proofs.Usable.{same-table}
 use Rattle.settle.proofs.Checked.{too-deep, usable, all-decide}
-use Rattle.settle.proofs.answers_right.Statement.{statement}
-use Rattle.settle.proofs.answers_right.Tie as tie
+use Rattle.settle.proofs.labels_right.Statement.{statement}
+use Rattle.settle.proofs.labels_right.Tie as tie
 
 -- the table and the answers
 abbrev tableOf : tie.Start → Columns
@@ -55,8 +55,8 @@ returns-3 c =
     let s = entry (c .before .before .before) in
     c .right-many .ensures ∙ all-decide (s .args .measure) (tableOf s) (came s) (s .pre)
 
-pub answers-right-spec : {M : Type 1} → statement M
-answers-right-spec =
+pub labels-right-spec : {M : Type 1} → statement M
+labels-right-spec =
     tie.close
     (tie.spec
     (λ c. search needs)

@@ -4,7 +4,7 @@ use Rattle.settle.proofs.settle.Statement.{statement}
 use Rattle.settle.proofs.settle.Tie as tie
 use mathlib.Core.Path.{_≡_, sym, _∙_}
 use Rattle.refusal.specs.declared.Acceptance.the-variants.{Accepted}
-use Rattle.columns.specs.Columns.{Answers, Columns, columns, answers}
+use Rattle.columns.specs.Columns.{Entries, Columns, columns, entries}
 use Rattle.columns.specs.Acceptance.{lentAcceptance}
 use Rattle.columns.proofs.Accepted.{AcceptedColumns, columns-accepted}
 use Rattle.settle.proofs.Settled.{settled-refused, settled-all, told-accepted, told-answers}
@@ -13,11 +13,11 @@ use Rattle.settle.proofs.Settled.{settled-refused, settled-all, told-ac
 abbrev tableOf : tie.Start → Columns
 tableOf c = let a = c .args in columns (a .n) (a .heads .now) (a .own .now) (a .strikes .now) (a .spans .now) (a .tails .now)
 
-abbrev came : tie.Start → Answers
-came c = let a = c .args in answers (a .weights .now) (a .depths .now) (a .edges .now)
+abbrev came : tie.Start → Entries
+came c = let a = c .args in entries (a .weights .now) (a .depths .now) (a .edges .now) (a .pieces .now)
 
 abbrev entry : tie.After-enum-told → tie.Start
-entry c = c .before .before .before .before .before .before .before .before .before .before .before .before .before .before
+entry c = c .before .before .before .before .before .before .before .before .before .before .before .before .before .before .before .before
 
 accepted : (c : tie.After-enum-told) → lentAcceptance (tableOf (entry c)) (came (entry c)) ≡ Accepted
 accepted c = sym (c .before .before .check-lent .ensures) ∙ c .enum-told .given .1
@@ -30,13 +30,13 @@ returns c = settled-refused _ _ _ _ (sym (c .before .before .before .check-lent 
 
 label-requires : tie.Need-label-requires
 label-requires c κs =
-    let p = c .before .before .before in
+    let p = c .before .before .before .before in
     told-accepted (tableOf (entry p)) (came (entry p)) (passed p)
 
 returns-2 : tie.Need-returns-2
 returns-2 c =
-    let l = c .before .before .before .before .before .before in
-    let p = l .before .before .before .before in
+    let l = c .before .before .before .before .before .before .before .before in
+    let p = l .before .before .before .before .before in
     let s = entry p in
     settled-all (s .args .measure) (tableOf s) (came s) _ (accepted p) (told-answers (tableOf s) (came s) (passed p) (s .args .measure) (l .label .ensures))
 
@@ -49,9 +49,11 @@ settle-spec =
     (λ c. search needs)
     (λ c. search needs)
     (λ c. search needs)
+    (λ c. search needs)
     returns
     (λ c. search needs)
     label-requires
+    (λ c. search needs)
     (λ c. search needs)
     (λ c. search needs)
     (λ c. search needs)

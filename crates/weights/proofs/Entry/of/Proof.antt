@@ -6,7 +6,7 @@ of-requires : tie.Need-of-requires
 of-requires c κs = search needs
 
 returns : tie.Need-returns
-returns c = let l = c .before .before .before .args .label in λ i. record { state = c .of .ensures i; weight = l .weight; depth = l .depth; edge = l .edge }
+returns c = let a = c .before .before .before .args in λ i. record { state = c .of .ensures i; weight = a .label .weight; depth = a .label .depth; edge = a .label .edge; pieces = a .pieces }
 
 pub of-spec : {M : Type 1} → statement M
 of-spec = tie.close (tie.spec of-requires returns)
