@@ -16,17 +16,17 @@ use Rattle.refusal.specs.declared.Refusal.{Refusal}
 use Rattle.refusal.specs.declared.Refusal.the-variants.{WrongAnswers, NoSuchEdge, NewWeight, NotStruck}
 use Rattle.refusal.specs.declared.Acceptance.{Acceptance}
 use Rattle.refusal.specs.declared.Acceptance.the-variants.{Accepted, Refused}
-use Rattle.columns.specs.Columns.{Answers, Columns, strikeAt, withOwn, withStrike}
+use Rattle.columns.specs.Columns.{Entries, Columns, strikeAt, withOwn, withStrike}
 use Rattle.columns.specs.Acceptance.{test, andThen, acceptance, lentAcceptance}
 use Rattle.columns.proofs.Accepted.{refused, test-passed, both-accepted, columns-accepted, columns-accept}
 use Rattle.columns.specs.Owed.{Owed}
 use Rattle.columns.proofs.Repriced.{acceptance-kept, strike-kept}
-use Rattle.columns.specs.Same.{sameAnswers}
+use Rattle.columns.specs.Same.{sameEntries}
 use Rattle.columns.proofs.Exactly.{lent-exactly, lent-refused-exactly}
 use Rattle.columns.proofs.Refuses.{Refuses, none-refuses, test-refuses, then-refuses}
-use Rattle.settle.specs.Settling.{answersOf}
-use Rattle.settle.proofs.Demands.{answers-mean, answers-sized}
-use Rattle.settle.proofs.Exactly.{same-exactly, same-fails, yes-exactly}
+use Rattle.settle.specs.Settling.{entriesOf}
+use Rattle.settle.proofs.Demands.{entries-mean, entries-sized}
+use Rattle.settle.proofs.Exactly.{same-exactly, same-fails, yes-exactly, demand-entry}
 use Rattle.settle.proofs.States.{answers-state}
 use Rattle.settle.specs.Checking.{answersAcceptance}
 use Rattle.reprice.specs.Repricing.{stands, lineAcceptance, repriceAcceptance, strikeAcceptance, numberedAcceptance, struckAcceptance, restoreAcceptance}
@@ -80,28 +80,28 @@ no-test : Tests true (Unit {0})
 no-test = record { pass = λ p. tt; fail = λ p. apart (sym p) }
 
 -- a change answers what its tests do
-changed-result : (m : Measure) (c : Columns) (a : Answers) (e w : ℕ) (x : Acceptance) → changed m c a e w x .result ≡ x
+changed-result : (m : Measure) (c : Columns) (a : Entries) (e w : ℕ) (x : Acceptance) → changed m c a e w x .result ≡ x
 changed-result m c a e w Accepted = refl
 changed-result m c a e w (Refused r) = refl
 
-marked-result : (m : Measure) (c : Columns) (a : Answers) (e s : ℕ) (x : Acceptance) → marked m c a e s x .result ≡ x
+marked-result : (m : Measure) (c : Columns) (a : Entries) (e s : ℕ) (x : Acceptance) → marked m c a e s x .result ≡ x
 marked-result m c a e s Accepted = refl
 marked-result m c a e s (Refused r) = refl
 
-pub repriced-result : (m : Measure) (c : Columns) (a : Answers) (e w : ℕ) → repriced m c a e w .result ≡ repriceAcceptance m c a e w
+pub repriced-result : (m : Measure) (c : Columns) (a : Entries) (e w : ℕ) → repriced m c a e w .result ≡ repriceAcceptance m c a e w
 unfolding repriced
 repriced-result m c a e w = changed-result m c a e w (repriceAcceptance m c a e w)
 
-pub stricken-result : (m : Measure) (c : Columns) (a : Answers) (e : ℕ) → stricken m c a e .result ≡ strikeAcceptance m c a e
+pub stricken-result : (m : Measure) (c : Columns) (a : Entries) (e : ℕ) → stricken m c a e .result ≡ strikeAcceptance m c a e
 unfolding stricken
 stricken-result m c a e = marked-result m c a e struckMark (strikeAcceptance m c a e)
 
-pub restored-result : (m : Measure) (c : Columns) (a : Answers) (e : ℕ) → restored m c a e .result ≡ restoreAcceptance m c a e
+pub restored-result : (m : Measure) (c : Columns) (a : Entries) (e : ℕ) → restored m c a e .result ≡ restoreAcceptance m c a e
 unfolding restored
 restored-result m c a e = marked-result m c a e standing (restoreAcceptance m c a e)
 
 -- a change whose line passes the test l, and then b or is refused by r
-module _ (m : Measure) (c : Columns) (a : Answers) {l : Bool} {Line : Type 0} (line : Tests l Line) {b : Bool} {Further : Type 0} (further : Tests b Further) (r : Refusal) where
+module _ (m : Measure) (c : Columns) (a : Entries) {l : Bool} {Line : Type 0} (line : Tests l Line) {b : Bool} {Further : Type 0} (further : Tests b Further) (r : Refusal) where
   abbrev chain : Acceptance
   chain = andThen (andThen (lentAcceptance c a) (test l NoSuchEdge Accepted)) (test b r (answersAcceptance m c a))
 
@@ -115,7 +115,7 @@ module _ (m : Measure) (c : Columns) (a : Answers) {l : Bool} {Line : Type 0} (l
       let g = lent-exactly c a .0 (t .0) in
       let n = line .pass (test-passed l NoSuchEdge Accepted (t .1) .0) in
       test-refuses b _ _ (λ h. WrongChange.further g n (further .fail h)) (λ h.
-      test-refuses (sameAnswers a (answersOf m c)) _ _ (λ s. WrongChange.answers g n (further .pass h) (same-fails m c a (t .0) .0 s)) (λ _. none-refuses)))
+      test-refuses (sameEntries a (entriesOf m c)) _ _ (λ s. WrongChange.answers g n (further .pass h) (same-fails m c a (t .0) .0 s)) (λ _. none-refuses)))
 
   wrong-chain : {s : Refusal} → WrongChange m c a Line Further r s → chain ≡ Refused s
   wrong-chain (WrongChange.lent w) = let q = lent-refused-exactly c a _ .1 w in rw q
@@ -132,7 +132,7 @@ module _ (m : Measure) (c : Columns) (a : Answers) {l : Bool} {Line : Type 0} (l
         lent = lent-exactly c a .0 (k .0);
         line = line .pass (test-passed l NoSuchEdge Accepted (k .1) .0);
         further = further .pass (f .0);
-        answers = same-exactly m c a (k .0) .0 (test-passed (sameAnswers a (answersOf m c)) WrongAnswers Accepted (f .1) .0);
+        answers = same-exactly m c a (k .0) .0 (test-passed (sameEntries a (entriesOf m c)) WrongAnswers Accepted (f .1) .0);
       }
 
   right-chain : RightChange m c a Line Further → chain ≡ Accepted
@@ -150,12 +150,12 @@ apart-test Accepted y true r = refl
 apart-test Accepted y false r = refl
 apart-test (Refused s) y b r = refl
 
-restore-chain : (m : Measure) (c : Columns) (a : Answers) (e : ℕ) → chain m c a (numbered-tests c e) (struck-tests c e) NotStruck ≡ restoreAcceptance m c a e
+restore-chain : (m : Measure) (c : Columns) (a : Entries) (e : ℕ) → chain m c a (numbered-tests c e) (struck-tests c e) NotStruck ≡ restoreAcceptance m c a e
 unfolding restoreAcceptance struckAcceptance numberedAcceptance
 restore-chain m c a e = apart-test (numberedAcceptance c a e) (answersAcceptance m c a) (isStruckMark (strikeAt c e)) NotStruck
 
 -- what a change of line e leaves
-module _ (m : Measure) (c : Columns) (a : Answers) (e : ℕ) {Right : Type 0} {Wrong : Refusal → Type 0} (x : Acceptance) where
+module _ (m : Measure) (c : Columns) (a : Entries) (e : ℕ) {Right : Type 0} {Wrong : Refusal → Type 0} (x : Acceptance) where
   change-owes : (w : ℕ) → (x ≡ Accepted) ↔ Right → ((r : Refusal) → (x ≡ Refused r) ↔ Wrong r) → ChangeOwes m c a e w Right Wrong (changed m c a e w x)
   change-owes w f g = go x refl
     where
@@ -171,18 +171,18 @@ module _ (m : Measure) (c : Columns) (a : Answers) (e : ℕ) {Right : Type 0} {W
       go (Refused r) p = Owed.refused (g r .0 p)
 
 -- a table that is accepted with its answers
-table-leaves : (m : Measure) (c : Columns) (column : List ℕ) → acceptance c ≡ Accepted → Leaves m c column column (answersOf m c)
+table-leaves : (m : Measure) (c : Columns) (column : List ℕ) → acceptance c ≡ Accepted → Leaves m c column column (entriesOf m c)
 table-leaves m c column t =
-    let s = columns-accept c (answersOf m c) t (answers-sized m c t) in
+    let s = columns-accept c (entriesOf m c) t (entries-sized m c t) in
     record {
       stored = refl;
       accepted = t;
-      means = answers-mean m c t;
+      means = entries-mean m c t;
       states = answers-state m c t;
-      checks = yes-exactly m c _ .1 (record { accepted = s; means = λ v h. answers-mean m c t v .means });
+      checks = yes-exactly m c _ .1 (record { accepted = s; means = λ v h. demand-entry (entries-mean m c t v) });
     }
 
-module _ (m : Measure) (c : Columns) (a : Answers) (e : ℕ) (x : Acceptance) (lent : x ≡ Accepted → lentAcceptance c a ≡ Accepted) (numbered : x ≡ Accepted → e < length (c .heads)) where
+module _ (m : Measure) (c : Columns) (a : Entries) (e : ℕ) (x : Acceptance) (lent : x ≡ Accepted → lentAcceptance c a ≡ Accepted) (numbered : x ≡ Accepted → e < length (c .heads)) where
   change-leaves : (w : ℕ) → (x ≡ Accepted → w ≤ greatest) → changed m c a e w x .result ≡ Accepted
       → Leaves m (withOwn c e w) (set (c .own) e w) (changed m c a e w x .own) (changed m c a e w x .left)
   change-leaves w low q = go x refl q
@@ -207,7 +207,7 @@ module _ (m : Measure) (c : Columns) (a : Answers) (e : ℕ) (x : Acceptance) (l
           let o = lent-exactly c a .0 (lent p) .table .level .strikes in
           table-leaves m (withStrike c e s) (set (c .strikes) e s) (strike-kept c e s (omega (arith, o, numbered p)) low t)
 
-module _ (m : Measure) (c : Columns) (a : Answers) (e w : ℕ) where
+module _ (m : Measure) (c : Columns) (a : Entries) (e w : ℕ) where
   -- "Reprice an unstruck line to 0 to 1,000,000,000"
   pub reprice-exactly : (repriceAcceptance m c a e w ≡ Accepted) ↔ RightReprice m c a e w
   unfolding repriceAcceptance lineAcceptance
@@ -227,7 +227,7 @@ module _ (m : Measure) (c : Columns) (a : Answers) (e w : ℕ) where
       change-leaves m c a e (repriceAcceptance m c a e w) (λ p. lent-exactly c a .1 (reprice-exactly .0 p .lent)) (λ p. reprice-exactly .0 p .line .numbered)
       w (λ p. reprice-exactly .0 p .further)
 
-module _ (m : Measure) (c : Columns) (a : Answers) (e : ℕ) where
+module _ (m : Measure) (c : Columns) (a : Entries) (e : ℕ) where
   -- "and strike an unstruck line"
   pub strike-exactly : (strikeAcceptance m c a e ≡ Accepted) ↔ RightStrike m c a e
   unfolding strikeAcceptance lineAcceptance

@@ -14,13 +14,13 @@ use Rattle.weights.specs.declared.State.the-variants as state
 use Rattle.weights.specs.declared.Label.{Label}
 use Rattle.weights.specs.Figures.{greatest, over, isStruckMark}
 use Rattle.weights.specs.Measures.{algebra}
-use Rattle.weights.specs.Labels.{entryOf}
+use Rattle.weights.specs.Labels.{labelState}
 use Rattle.weights.proofs.Laws.{lawful, below-over}
 use Rattle.refusal.specs.declared.Acceptance.the-variants.{Accepted}
 use Rattle.provenance.specs.Hypergraph.{Hypergraph, Derivation, listing}
 use Rattle.provenance.specs.Labelling.{Made, Fixpoint}
 use Rattle.provenance.specs.Means.{Follows}
-use Rattle.columns.specs.Columns.{Answers, Columns, columns, ownAt, strikeAt, withOwn}
+use Rattle.columns.specs.Columns.{Entries, Columns, columns, ownAt, strikeAt, withOwn}
 use Rattle.provenance.proofs.Existence.{label-within}
 use Rattle.provenance.specs.Counting.{count, Raised}
 use Rattle.provenance.proofs.Sensitivity.{same-made, cost-rise, days-rise}
@@ -29,25 +29,25 @@ use Rattle.tables.specs.Table.{hypergraph}
 use Rattle.columns.specs.Acceptance.{acceptance}
 use Rattle.columns.proofs.Accepted.{table-accepted, columns-accept}
 use Rattle.columns.proofs.Repriced.{own-here, own-elsewhere}
-use Rattle.columns.proofs.Same.{same-refl}
-use Rattle.settle.specs.Settling.{answersOf, settled}
+use Rattle.columns.proofs.Same.{entries-refl}
+use Rattle.settle.specs.Settling.{entriesOf, settled}
 use Rattle.weights.proofs.States.{unmade-state, made-state}
-use Rattle.settle.proofs.Demands.{answers-fixpoint, answers-sized, answers-mean, settled-left, settled-result}
+use Rattle.settle.proofs.Demands.{answers-fixpoint, entries-sized, entries-mean, settled-left, settled-result}
 use Rattle.reprice.specs.Demand3.{labelsOf, Pair, Rise, Carries, Demand3}
 use Rattle.reprice.specs.Repricing.{lineAcceptance, repriceAcceptance, repriced}
 
 -- repricing a settled table
 module _ (m : Measure) (c : Columns) (e w : ℕ) (p : acceptance c ≡ Accepted) (n : e < length (c .heads)) (u : isStruckMark (strikeAt c e) ≡ false) (h : w ≤ greatest) where
-  accepted-reprice : repriceAcceptance m c (answersOf m c) e w ≡ Accepted
+  accepted-reprice : repriceAcceptance m c (entriesOf m c) e w ≡ Accepted
   unfolding repriceAcceptance lineAcceptance
-  accepted-reprice = rw (columns-accept c (answersOf m c) p (answers-sized m c p), lt-ltb _ _ n, u, le-leb _ _ h, same-refl (answersOf m c))
+  accepted-reprice = rw (columns-accept c (entriesOf m c) p (entries-sized m c p), lt-ltb _ _ n, u, le-leb _ _ h, entries-refl (entriesOf m c))
 
-  reprice-settled : repriced m c (answersOf m c) e w ≡ record { result = Accepted; own = set (c .own) e w; left = answersOf m (withOwn c e w) }
+  reprice-settled : repriced m c (entriesOf m c) e w ≡ record { result = Accepted; own = set (c .own) e w; left = entriesOf m (withOwn c e w) }
   unfolding repriced
   reprice-settled = rw accepted-reprice
 
 -- what settling left
-left-is : (m : Measure) (c : Columns) (a : Answers) → settled m c a .result ≡ Accepted → settled m c a .left ≡ answersOf m c
+left-is : (m : Measure) (c : Columns) (a : Entries) → settled m c a .result ≡ Accepted → settled m c a .left ≡ entriesOf m c
 left-is m c a q = settled-left m c a (sym (settled-result m c a) ∙ q)
 
 -- a part that is unmade by one labelling is by another that makes no more
@@ -63,7 +63,7 @@ record Told (l : Label) : Type 0 where
   deep : 0 < l .depth
   low : ¬ (l .weight .0 ≡ over)
 
-made-told : (l : Label) → entryOf l .state ≡ state.Made → Told l
+made-told : (l : Label) → labelState l ≡ state.Made → Told l
 made-told l p = let t = made-state (l .weight .0) (l .depth) .0 p in record { deep = t .0; low = t .1 }
 
 within : (m : Measure) {H : Hypergraph} {own : ℕ → ℕ} {ls : ℕ → Label} → Fixpoint (algebra m) H own ls → (v : ℕ) → Told (ls v) → MadeWithin (ls v)
@@ -106,22 +106,22 @@ module _ (m : Measure) (c : Columns) (e d : ℕ) (p : Pair c (withOwn c e (ownAt
   own-low : (c : Columns) → acceptance c ≡ Accepted → (x : ℕ) → x < length (c .heads) → ownAt c x ≤ greatest
   own-low c q x h = table-accepted c q .each x h .1 .own
 
-  upward : (a a′ : Answers) → settled m c a .result ≡ Accepted → settled m new a′ .result ≡ Accepted
+  upward : (a a′ : Entries) → settled m c a .result ≡ Accepted → settled m new a′ .result ≡ Accepted
       → repriced m c (settled m c a .left) e (ownAt new e) ≡ record { result = Accepted; own = new .own; left = settled m new a′ .left }
   upward a a′ q q′ =
-      ap (λ (b : Answers). repriced m c b e (ownAt new e)) (left-is m c a q)
-      ∙ ap (repriced m c (answersOf m c) e) here
+      ap (λ (b : Entries). repriced m c b e (ownAt new e)) (left-is m c a q)
+      ∙ ap (repriced m c (entriesOf m c) e) here
       ∙ reprice-settled m c e (ownAt c e + d) (p .accepted) (p .numbered) (p .unstruck) (subst (λ (x : ℕ). x ≤ greatest) here (own-low new (p .accepted′) e (p .numbered)))
-      ∙ ap (λ (b : Answers). record { result = Accepted; own = new .own; left = b }) (sym (left-is m new a′ q′))
+      ∙ ap (λ (b : Entries). record { result = Accepted; own = new .own; left = b }) (sym (left-is m new a′ q′))
 
-  downward : (a a′ : Answers) → settled m c a .result ≡ Accepted → settled m new a′ .result ≡ Accepted
+  downward : (a a′ : Entries) → settled m c a .result ≡ Accepted → settled m new a′ .result ≡ Accepted
       → repriced m new (settled m new a′ .left) e (ownAt c e) ≡ record { result = Accepted; own = c .own; left = settled m c a .left }
   downward a a′ q q′ =
-      ap (λ (b : Answers). repriced m new b e (ownAt c e)) (left-is m new a′ q′)
+      ap (λ (b : Entries). repriced m new b e (ownAt c e)) (left-is m new a′ q′)
       ∙ reprice-settled m new e (ownAt c e) (p .accepted′) (p .numbered) (p .unstruck) (own-low c (p .accepted) e (p .numbered))
-      ∙ (λ i. record { result = Accepted; own = back i; left = (ap (answersOf m) old-again ∙ sym (left-is m c a q)) i })
+      ∙ (λ i. record { result = Accepted; own = back i; left = (ap (entriesOf m) old-again ∙ sym (left-is m c a q)) i })
 
-  unmade-in : (ls ls′ : ℕ → Label) (v : ℕ) → (Made (ls′ v) → Made (ls v)) → entryOf (ls v) .state ≡ state.Unmade → entryOf (ls′ v) .state ≡ state.Unmade
+  unmade-in : (ls ls′ : ℕ → Label) (v : ℕ) → (Made (ls′ v) → Made (ls v)) → labelState (ls v) ≡ state.Unmade → labelState (ls′ v) ≡ state.Unmade
   unmade-in ls ls′ v f s = unmade-state (ls′ v .weight .0) (ls′ v .depth) .1 (zero-kept ls ls′ v f (unmade-state (ls v .weight .0) (ls v .depth) .0 s))
 
   carries : Carries m c new e
@@ -137,8 +137,8 @@ module _ (m : Measure) (c : Columns) (e d : ℕ) (p : Pair c (withOwn c e (ownAt
   demand : Demand3 m c new e d
   demand = record {
     carries = carries;
-    means = answers-mean m c (p .accepted);
-    means′ = answers-mean m new (p .accepted′);
+    means = entries-mean m c (p .accepted);
+    means′ = entries-mean m new (p .accepted′);
     rises = λ v k k′. rise-of m fix fix′ raise v (made-told (labelsOf m c v) k) (made-told (labelsOf m new v) k′);
   }
 

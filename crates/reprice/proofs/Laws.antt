@@ -13,13 +13,13 @@ use Rattle.refusal.specs.declared.Refusal.{Refusal}
 use Rattle.refusal.specs.declared.Refusal.the-variants.{WrongAnswers, NoSuchEdge, NewWeight, NotStruck}
 use Rattle.refusal.specs.declared.Acceptance.{Acceptance}
 use Rattle.refusal.specs.declared.Acceptance.the-variants.{Accepted, Refused}
-use Rattle.columns.specs.Columns.{Answers, Columns, strikeAt, withOwn, withStrike}
+use Rattle.columns.specs.Columns.{Entries, Columns, strikeAt, withOwn, withStrike}
 use Rattle.columns.specs.Acceptance.{test, andThen, lentAcceptance}
 use Rattle.columns.proofs.Accepted.{AcceptedColumns, test-passed, both-accepted, columns-accepted, table-accepted}
 use Rattle.columns.proofs.Repriced.{acceptance-kept, strike-kept}
 use Rattle.columns.proofs.Usable.{same-table}
-use Rattle.columns.specs.Same.{sameAnswers}
-use Rattle.settle.specs.Settling.{answersOf}
+use Rattle.columns.specs.Same.{sameEntries}
+use Rattle.settle.specs.Settling.{entriesOf}
 use Rattle.settle.proofs.Settled.{told-accepted, told-answers}
 use Rattle.settle.specs.Checking.{answersAcceptance}
 use Rattle.reprice.specs.Repricing.{lineAcceptance, repriceAcceptance, strikeAcceptance, numberedAcceptance, struckAcceptance, restoreAcceptance}
@@ -31,7 +31,7 @@ two-tests Accepted true b r = refl
 two-tests Accepted false b r = refl
 two-tests (Refused s) a b r = refl
 
-module _ (c : Columns) (a : Answers) (e : ℕ) where
+module _ (c : Columns) (a : Entries) (e : ℕ) where
   -- a line that stands is one that exists, and has no strike mark
   line-is : andThen (numberedAcceptance c a e) (test (not (isStruckMark (strikeAt c e))) NoSuchEdge Accepted) ≡ lineAcceptance c a e
   unfolding numberedAcceptance lineAcceptance
@@ -90,38 +90,38 @@ module _ (c : Columns) (a : Answers) (e : ℕ) where
     line-markable s h = record { accepted = numbered-lent; placed = numbered-placed; allowed = h }
 
 -- a line that can be changed: the table as it then is, whose number of parts `label` takes from the answer columns, is accepted
-module _ (c : Columns) (a : Answers) (e w : ℕ) (h : Changeable c a e w) where
+module _ (c : Columns) (a : Entries) (e w : ℕ) (h : Changeable c a e w) where
   changed-kept : AcceptedColumns (withOwn c e w) a
   changed-kept = record { table = acceptance-kept c e w (h .placed) (h .allowed) (h .accepted .table); sized = h .accepted .sized }
 
-  pub change-accepted : AcceptedColumns (same-table (withOwn c e w) (length (a .depths))) a
+  pub change-accepted : AcceptedColumns (same-table (withOwn c e w) (length (a .labels .depths))) a
   change-accepted = told-accepted (withOwn c e w) a changed-kept
 
   module _ (m : Measure) where
-    pub change-made : {b : Answers} → sameAnswers a (answersOf m c) ≡ true → b ≡ answersOf m (same-table (withOwn c e w) (length (a .depths)))
+    pub change-made : {b : Entries} → sameEntries a (entriesOf m c) ≡ true → b ≡ entriesOf m (same-table (withOwn c e w) (length (a .labels .depths)))
         → record { result = Accepted; own = set (c .own) e w; left = b } ≡ changed m c a e w (answersAcceptance m c a)
     change-made q r = rw (q, told-answers (withOwn c e w) a changed-kept m r)
 
-    pub change-refused : sameAnswers a (answersOf m c) ≡ false → record { result = Refused WrongAnswers; own = c .own; left = a } ≡ changed m c a e w (answersAcceptance m c a)
+    pub change-refused : sameEntries a (entriesOf m c) ≡ false → record { result = Refused WrongAnswers; own = c .own; left = a } ≡ changed m c a e w (answersAcceptance m c a)
     change-refused q = rw q
 
 -- the same of its mark
-module _ (c : Columns) (a : Answers) (e s : ℕ) (h : Markable c a e s) where
+module _ (c : Columns) (a : Entries) (e s : ℕ) (h : Markable c a e s) where
   marked-kept : AcceptedColumns (withStrike c e s) a
   marked-kept = record { table = strike-kept c e s (h .placed) (h .allowed) (h .accepted .table); sized = h .accepted .sized }
 
-  pub mark-accepted : AcceptedColumns (same-table (withStrike c e s) (length (a .depths))) a
+  pub mark-accepted : AcceptedColumns (same-table (withStrike c e s) (length (a .labels .depths))) a
   mark-accepted = told-accepted (withStrike c e s) a marked-kept
 
   module _ (m : Measure) where
-    pub mark-made : {b : Answers} → sameAnswers a (answersOf m c) ≡ true → b ≡ answersOf m (same-table (withStrike c e s) (length (a .depths)))
+    pub mark-made : {b : Entries} → sameEntries a (entriesOf m c) ≡ true → b ≡ entriesOf m (same-table (withStrike c e s) (length (a .labels .depths)))
         → record { result = Accepted; strikes = set (c .strikes) e s; left = b } ≡ marked m c a e s (answersAcceptance m c a)
     mark-made q r = rw (q, told-answers (withStrike c e s) a marked-kept m r)
 
-    pub mark-refused : sameAnswers a (answersOf m c) ≡ false → record { result = Refused WrongAnswers; strikes = c .strikes; left = a } ≡ marked m c a e s (answersAcceptance m c a)
+    pub mark-refused : sameEntries a (entriesOf m c) ≡ false → record { result = Refused WrongAnswers; strikes = c .strikes; left = a } ≡ marked m c a e s (answersAcceptance m c a)
     mark-refused q = rw q
 
-module _ (m : Measure) (c : Columns) (a : Answers) (e : ℕ) where
+module _ (m : Measure) (c : Columns) (a : Entries) (e : ℕ) where
   -- a change is made of its acceptance
   pub reprice-by : (w : ℕ) {x : Acceptance} {r : ChangeOutcome} → r ≡ changed m c a e w x → x ≡ repriceAcceptance m c a e w → r ≡ repriced m c a e w
   unfolding repriced

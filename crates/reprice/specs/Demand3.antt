@@ -13,17 +13,17 @@ use Rattle.weights.specs.declared.State.{State}
 use Rattle.weights.specs.declared.State.the-variants.{Made, Unmade}
 use Rattle.weights.specs.declared.Label.{Label}
 use Rattle.weights.specs.Figures.{isStruckMark}
-use Rattle.weights.specs.Labels.{entryOf}
+use Rattle.weights.specs.Labels.{labelState}
 use Rattle.refusal.specs.declared.Acceptance.the-variants.{Accepted}
 use Rattle.provenance.specs.Hypergraph.{Derivation, listing}
 use Rattle.provenance.specs.Means.{Follows}
-use Rattle.columns.specs.Columns.{Answers, Columns, ownAt, strikeAt, withOwn}
+use Rattle.columns.specs.Columns.{Entries, Columns, ownAt, strikeAt, withOwn}
 use Rattle.provenance.specs.BestFirst.{labels}
 use Rattle.provenance.specs.Counting.{count}
 use Rattle.provenance.specs.Sensitivity.{CostRise, DaysRise}
 use Rattle.tables.specs.Table.{hypergraph}
 use Rattle.columns.specs.Acceptance.{acceptance}
-use Rattle.settle.specs.Settling.{answersOf, settled}
+use Rattle.settle.specs.Settling.{answersOf, entriesOf, settled}
 use Rattle.settle.specs.Demands.{Demand2}
 use Rattle.reprice.specs.Repricing.{repriced}
 
@@ -32,7 +32,7 @@ abbrev pub labelsOf : Measure → Columns → ℕ → Label
 labelsOf m c = labels (answersOf m c)
 
 abbrev pub stateIn : Measure → Columns → ℕ → State
-stateIn m c v = entryOf (labelsOf m c v) .state
+stateIn m c v = labelState (labelsOf m c v)
 
 -- the two tables: the new one is the old with line e raised by d
 pub record Pair (c c′ : Columns) (e d : ℕ) : Type 0 where
@@ -49,17 +49,17 @@ Rise Days d w w′ old new = DaysRise d w w′
 
 -- no tree in it: settling either table and then repricing the line to the other's figure leaves what settling the other gives, and the same parts are unmade
 pub record Carries (m : Measure) (c c′ : Columns) (e : ℕ) : Type 0 where
-  pub up : (a a′ : Answers) → settled m c a .result ≡ Accepted → settled m c′ a′ .result ≡ Accepted
+  pub up : (a a′ : Entries) → settled m c a .result ≡ Accepted → settled m c′ a′ .result ≡ Accepted
       → repriced m c (settled m c a .left) e (ownAt c′ e) ≡ record { result = Accepted; own = c′ .own; left = settled m c′ a′ .left }
-  pub down : (a a′ : Answers) → settled m c a .result ≡ Accepted → settled m c′ a′ .result ≡ Accepted
+  pub down : (a a′ : Entries) → settled m c a .result ≡ Accepted → settled m c′ a′ .result ≡ Accepted
       → repriced m c′ (settled m c′ a′ .left) e (ownAt c e) ≡ record { result = Accepted; own = c .own; left = settled m c a .left }
   pub unmade : (v : ℕ) → (stateIn m c v ≡ Unmade) ↔ (stateIn m c′ v ≡ Unmade)
 
 pub record Demand3 (m : Measure) (c c′ : Columns) (e d : ℕ) : Type 0 where
   pub carries : Carries m c c′ e
   -- the answers of either table are its own by demand 2: every part that is made or over has its chosen make-up
-  pub means : (v : ℕ) → Demand2 m c (labelsOf m c) v
-  pub means′ : (v : ℕ) → Demand2 m c′ (labelsOf m c′) v
+  pub means : (v : ℕ) → Demand2 m c (entriesOf m c) v
+  pub means′ : (v : ℕ) → Demand2 m c′ (entriesOf m c′) v
   -- every part that is made in both rises within its bounds, the counts taken in its chosen make-ups
   pub rises : (v : ℕ) → stateIn m c v ≡ Made → stateIn m c′ v ≡ Made
       → (t : Derivation (hypergraph c) v) → Follows (labelsOf m c) t → (t′ : Derivation (hypergraph c′) v) → Follows (labelsOf m c′) t′

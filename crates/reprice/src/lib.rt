@@ -7,7 +7,7 @@ use weights::Mark;
 use weights::Measure;
 use weights::Weight;
 ghost use mathlib.Core.Path.{_≡_};
-ghost use Rattle.columns.specs.Columns.{columns, answers};
+ghost use Rattle.columns.specs.Columns.{columns, entries};
 ghost use Rattle.settle.specs.Checking.{answersAcceptance};
 ghost use Rattle.reprice.specs.Repricing.{numberedAcceptance, lineAcceptance, struckAcceptance, changed, marked, Changeable, Markable, repriced, stricken, restored};
 
@@ -22,14 +22,26 @@ fn check_numbered(
     weights: &[u64],
     depths: &[u64],
     edges: &[u64],
+    pieces: &[u64],
     line: Hyperedge,
 ) -> Acceptance
     ensures { λ r.
         let c = columns n (now (heads .entry)) (now (own .entry)) (now (strikes .entry)) (now (spans .entry)) (now (tails .entry)) in
-        let a = answers (now (weights .entry)) (now (depths .entry)) (now (edges .entry)) in
+        let a = entries (now (weights .entry)) (now (depths .entry)) (now (edges .entry)) (now (pieces .entry)) in
         ⌜ r ≡ numberedAcceptance c a (line .0) ⌝ }
 {
-    let a = columns::check_lent(n, heads, own, strikes, spans, tails, weights, depths, edges);
+    let a = columns::check_lent(
+        n,
+        heads,
+        own,
+        strikes,
+        spans,
+        tails,
+        weights,
+        depths,
+        edges,
+        pieces,
+    );
     match a {
         Acceptance::Refused(r) => return Acceptance::Refused(r),
         Acceptance::Accepted => {}
@@ -51,11 +63,12 @@ fn check_line(
     weights: &[u64],
     depths: &[u64],
     edges: &[u64],
+    pieces: &[u64],
     line: Hyperedge,
 ) -> Acceptance
     ensures { λ r.
         let c = columns n (now (heads .entry)) (now (own .entry)) (now (strikes .entry)) (now (spans .entry)) (now (tails .entry)) in
-        let a = answers (now (weights .entry)) (now (depths .entry)) (now (edges .entry)) in
+        let a = entries (now (weights .entry)) (now (depths .entry)) (now (edges .entry)) (now (pieces .entry)) in
         ⌜ r ≡ lineAcceptance c a (line .0) ⌝ }
 {
     let a = check_numbered(
@@ -68,6 +81,7 @@ fn check_line(
         weights,
         depths,
         edges,
+        pieces,
         line,
     );
     match a {
@@ -94,11 +108,12 @@ fn check_struck(
     weights: &[u64],
     depths: &[u64],
     edges: &[u64],
+    pieces: &[u64],
     line: Hyperedge,
 ) -> Acceptance
     ensures { λ r.
         let c = columns n (now (heads .entry)) (now (own .entry)) (now (strikes .entry)) (now (spans .entry)) (now (tails .entry)) in
-        let a = answers (now (weights .entry)) (now (depths .entry)) (now (edges .entry)) in
+        let a = entries (now (weights .entry)) (now (depths .entry)) (now (edges .entry)) (now (pieces .entry)) in
         ⌜ r ≡ struckAcceptance c a (line .0) ⌝ }
 {
     let a = check_numbered(
@@ -111,6 +126,7 @@ fn check_struck(
         weights,
         depths,
         edges,
+        pieces,
         line,
     );
     match a {
@@ -139,16 +155,17 @@ fn change(
     weights: &mut [u64],
     depths: &mut [u64],
     edges: &mut [u64],
+    pieces: &mut [u64],
     line: Hyperedge,
     figure: Weight,
 ) -> Acceptance
     requires { let c = columns n (now heads) (now own) (now strikes) (now spans) (now tails) in
-        let a = answers (now weights) (now depths) (now edges) in
+        let a = entries (now weights) (now depths) (now edges) (now pieces) in
         ⌜ Changeable c a (line .0) (figure .0) ⌝ }
     ensures { λ r.
         let c = columns n (now (heads .entry)) (now (own .entry)) (now (strikes .entry)) (now (spans .entry)) (now (tails .entry)) in
-        let a = answers (now (weights .entry)) (now (depths .entry)) (now (edges .entry)) in
-        let a′ = answers (now (weights .exit)) (now (depths .exit)) (now (edges .exit)) in
+        let a = entries (now (weights .entry)) (now (depths .entry)) (now (edges .entry)) (now (pieces .entry)) in
+        let a′ = entries (now (weights .exit)) (now (depths .exit)) (now (edges .exit)) (now (pieces .exit)) in
         ⌜ record { result = r; own = now (own .exit); left = a′ } ≡ changed measure c a (line .0) (figure .0) (answersAcceptance measure c a) ⌝ }
 {
     if !settle::answers_right(
@@ -162,6 +179,7 @@ fn change(
         weights,
         depths,
         edges,
+        pieces,
     ) {
         return Acceptance::Refused(Refusal::WrongAnswers);
     }
@@ -177,6 +195,7 @@ fn change(
         weights,
         depths,
         edges,
+        pieces,
     );
     Acceptance::Accepted
 }
@@ -193,16 +212,17 @@ fn put_mark(
     weights: &mut [u64],
     depths: &mut [u64],
     edges: &mut [u64],
+    pieces: &mut [u64],
     line: Hyperedge,
     mark: Mark,
 ) -> Acceptance
     requires { let c = columns n (now heads) (now own) (now strikes) (now spans) (now tails) in
-        let a = answers (now weights) (now depths) (now edges) in
+        let a = entries (now weights) (now depths) (now edges) (now pieces) in
         ⌜ Markable c a (line .0) (mark .0) ⌝ }
     ensures { λ r.
         let c = columns n (now (heads .entry)) (now (own .entry)) (now (strikes .entry)) (now (spans .entry)) (now (tails .entry)) in
-        let a = answers (now (weights .entry)) (now (depths .entry)) (now (edges .entry)) in
-        let a′ = answers (now (weights .exit)) (now (depths .exit)) (now (edges .exit)) in
+        let a = entries (now (weights .entry)) (now (depths .entry)) (now (edges .entry)) (now (pieces .entry)) in
+        let a′ = entries (now (weights .exit)) (now (depths .exit)) (now (edges .exit)) (now (pieces .exit)) in
         ⌜ record { result = r; strikes = now (strikes .exit); left = a′ } ≡ marked measure c a (line .0) (mark .0) (answersAcceptance measure c a) ⌝ }
 {
     if !settle::answers_right(
@@ -216,6 +236,7 @@ fn put_mark(
         weights,
         depths,
         edges,
+        pieces,
     ) {
         return Acceptance::Refused(Refusal::WrongAnswers);
     }
@@ -231,6 +252,7 @@ fn put_mark(
         weights,
         depths,
         edges,
+        pieces,
     );
     Acceptance::Accepted
 }
@@ -248,13 +270,14 @@ pub fn reprice(
     weights: &mut [u64],
     depths: &mut [u64],
     edges: &mut [u64],
+    pieces: &mut [u64],
     line: Hyperedge,
     figure: Weight,
 ) -> Acceptance
     ensures { λ r.
         let c = columns n (now (heads .entry)) (now (own .entry)) (now (strikes .entry)) (now (spans .entry)) (now (tails .entry)) in
-        let a = answers (now (weights .entry)) (now (depths .entry)) (now (edges .entry)) in
-        let a′ = answers (now (weights .exit)) (now (depths .exit)) (now (edges .exit)) in
+        let a = entries (now (weights .entry)) (now (depths .entry)) (now (edges .entry)) (now (pieces .entry)) in
+        let a′ = entries (now (weights .exit)) (now (depths .exit)) (now (edges .exit)) (now (pieces .exit)) in
         ⌜ record { result = r; own = now (own .exit); left = a′ } ≡ repriced measure c a (line .0) (figure .0) ⌝ }
 {
     let a = check_line(
@@ -267,6 +290,7 @@ pub fn reprice(
         weights,
         depths,
         edges,
+        pieces,
         line,
     );
     match a {
@@ -287,6 +311,7 @@ pub fn reprice(
         weights,
         depths,
         edges,
+        pieces,
         line,
         figure,
     )
@@ -305,12 +330,13 @@ pub fn strike(
     weights: &mut [u64],
     depths: &mut [u64],
     edges: &mut [u64],
+    pieces: &mut [u64],
     line: Hyperedge,
 ) -> Acceptance
     ensures { λ r.
         let c = columns n (now (heads .entry)) (now (own .entry)) (now (strikes .entry)) (now (spans .entry)) (now (tails .entry)) in
-        let a = answers (now (weights .entry)) (now (depths .entry)) (now (edges .entry)) in
-        let a′ = answers (now (weights .exit)) (now (depths .exit)) (now (edges .exit)) in
+        let a = entries (now (weights .entry)) (now (depths .entry)) (now (edges .entry)) (now (pieces .entry)) in
+        let a′ = entries (now (weights .exit)) (now (depths .exit)) (now (edges .exit)) (now (pieces .exit)) in
         ⌜ record { result = r; strikes = now (strikes .exit); left = a′ } ≡ stricken measure c a (line .0) ⌝ }
 {
     let a = check_line(
@@ -323,6 +349,7 @@ pub fn strike(
         weights,
         depths,
         edges,
+        pieces,
         line,
     );
     match a {
@@ -340,6 +367,7 @@ pub fn strike(
         weights,
         depths,
         edges,
+        pieces,
         line,
         Mark::STRUCK,
     )
@@ -358,12 +386,13 @@ pub fn restore(
     weights: &mut [u64],
     depths: &mut [u64],
     edges: &mut [u64],
+    pieces: &mut [u64],
     line: Hyperedge,
 ) -> Acceptance
     ensures { λ r.
         let c = columns n (now (heads .entry)) (now (own .entry)) (now (strikes .entry)) (now (spans .entry)) (now (tails .entry)) in
-        let a = answers (now (weights .entry)) (now (depths .entry)) (now (edges .entry)) in
-        let a′ = answers (now (weights .exit)) (now (depths .exit)) (now (edges .exit)) in
+        let a = entries (now (weights .entry)) (now (depths .entry)) (now (edges .entry)) (now (pieces .entry)) in
+        let a′ = entries (now (weights .exit)) (now (depths .exit)) (now (edges .exit)) (now (pieces .exit)) in
         ⌜ record { result = r; strikes = now (strikes .exit); left = a′ } ≡ restored measure c a (line .0) ⌝ }
 {
     let a = check_struck(
@@ -376,6 +405,7 @@ pub fn restore(
         weights,
         depths,
         edges,
+        pieces,
         line,
     );
     match a {
@@ -393,6 +423,7 @@ pub fn restore(
         weights,
         depths,
         edges,
+        pieces,
         line,
         Mark::STANDS,
     )

@@ -26,6 +26,7 @@ use Rattle.columns.proofs.Same.{entries-refl, entries-true}
 use Rattle.settle.specs.Settling.{answersOf, entriesOf}
 use Rattle.settle.specs.Checking.{verdict as told, checked}
 use Rattle.settle.proofs.Demands.{answers-fixpoint, answers-sized, answers-means, entries-at, entries-sized, entries-mean}
+use Rattle.settle.specs.Demands.{Demand2}
 use Rattle.settle.specs.Defined.{EntryMeans, AllMean, Defined}
 
 yes-not-no : {A : Type 0} → verdict.No ≡ verdict.Yes → A
@@ -36,6 +37,10 @@ no-refusal e = let z : _≡_ {A = ℕ} 0 1 = cc in absurd (omega arith)
 
 yes-refusal : {A : Type 0} {r : Refusal} → verdict.Refused r ≡ verdict.Yes → A
 yes-refusal e = let z : _≡_ {A = ℕ} 0 1 = cc in absurd (omega arith)
+
+-- an entry that meets demand 2 is the one that the paper defines
+pub demand-entry : {m : Measure} {c : Columns} {a : Entries} {v : ℕ} → Demand2 m c a v → EntryMeans m c a v
+demand-entry d = record { means = d .means; pieces = d .pieces }
 
 module _ (m : Measure) (c : Columns) (a : Entries) where
   defined-labels : Defined m c a → a .labels ≡ answersOf m c
@@ -67,8 +72,7 @@ module _ (m : Measure) (c : Columns) (a : Entries) where
   same-exactly p = (
     λ q v h.
         let e = sym (entries-true a (entriesOf m c) q) in
-        let d = entries-mean m c (columns-accepted c a p .table) v in
-        subst (λ (b : Entries). EntryMeans m c b v) e (record { means = d .means; pieces = d .pieces }),
+        subst (λ (b : Entries). EntryMeans m c b v) e (demand-entry (entries-mean m c (columns-accepted c a p .table) v)),
     λ f. subst (λ (b : Entries). sameEntries a b ≡ true) (defined-answers (record { accepted = p; means = f })) (entries-refl a),
   )
 

@@ -21,8 +21,8 @@ use Rattle.provenance.specs.BestFirst.{labels}
 use Rattle.provenance.proofs.Sensitivity.{cost-total, days-total}
 use Rattle.tables.specs.Table.{hypergraph}
 use Rattle.columns.specs.Acceptance.{acceptance}
-use Rattle.settle.specs.Settling.{answersOf, settled}
-use Rattle.settle.proofs.Demands.{answers-means, demand-2}
+use Rattle.settle.specs.Settling.{entriesOf, settled}
+use Rattle.settle.proofs.Demands.{entries-mean, demand-2}
 use Rattle.settle.specs.States.{uncapped, Dear, Affordable, StateMeans}
 
 deep : {H : Hypergraph} {v : ℕ} (d : Derivation H v) → 0 < depth d
@@ -94,8 +94,8 @@ module _ (m : Measure) (c : Columns) (l : Label) (v : ℕ) where
   means-state k = record { made = (made-means k, means-made k); over = (over-means k, means-over k); unmade = unmade-means k }
 
 -- of the answers of an accepted table
-pub answers-state : (m : Measure) (c : Columns) → acceptance c ≡ Accepted → (v : ℕ) → StateMeans m c (labels (answersOf m c) v) v
-answers-state m c p v = means-state m c (labels (answersOf m c) v) v (answers-means m c p v)
+pub answers-state : (m : Measure) (c : Columns) → acceptance c ≡ Accepted → (v : ℕ) → StateMeans m c (labels (entriesOf m c .labels) v) v
+answers-state m c p v = means-state m c (labels (entriesOf m c .labels) v) v (entries-mean m c p v .means)
 
 -- of what settling leaves
 pub settled-state : (m : Measure) (c : Columns) (a : Entries) → settled m c a .result ≡ Accepted → (v : ℕ) → StateMeans m c (labels (settled m c a .left .labels) v) v

@@ -2,7 +2,7 @@
 use mathlib.Core.Path.{_≡_, sym, _∙_}
 use borrow.Author.Tests.{lt-ltb, le-ltb}
 use Rattle.refusal.specs.declared.Acceptance.the-variants.{Accepted}
-use Rattle.columns.specs.Columns.{Answers, Columns, columns, answers}
+use Rattle.columns.specs.Columns.{Entries, Columns, columns, entries}
 use Rattle.columns.specs.Acceptance.{lentAcceptance}
 use Rattle.reprice.specs.Repricing.{numberedAcceptance}
 use borrow.Author.Needs.{needs}
@@ -13,11 +13,11 @@ use Rattle.reprice.proofs.check_numbered.Tie as tie
 abbrev tableOf : tie.Start → Columns
 tableOf c = let a = c .args in columns (a .n) (a .heads .now) (a .own .now) (a .strikes .now) (a .spans .now) (a .tails .now)
 
-abbrev came : tie.Start → Answers
-came c = let a = c .args in answers (a .weights .now) (a .depths .now) (a .edges .now)
+abbrev came : tie.Start → Entries
+came c = let a = c .args in entries (a .weights .now) (a .depths .now) (a .edges .now) (a .pieces .now)
 
 abbrev entry : tie.After-enum-told → tie.Start
-entry c = c .before .before .before .before .before .before .before .before .before .before .before
+entry c = c .before .before .before .before .before .before .before .before .before .before .before .before
 
 accepted : (c : tie.After-enum-told) → lentAcceptance (tableOf (entry c)) (came (entry c)) ≡ Accepted
 accepted c = sym (c .before .before .check-lent .ensures) ∙ c .enum-told .given .1

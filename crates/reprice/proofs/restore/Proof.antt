@@ -5,7 +5,7 @@ use Rattle.reprice.proofs.restore.Tie as tie
 use mathlib.Core.Path.{_≡_, refl, sym, _∙_}
 use native.Mathlib.Omega.{arith}
 use Rattle.refusal.specs.declared.Acceptance.the-variants.{Accepted}
-use Rattle.columns.specs.Columns.{Answers, Columns, columns, answers}
+use Rattle.columns.specs.Columns.{Entries, Columns, columns, entries}
 use Rattle.reprice.specs.Repricing.{struckAcceptance}
 use Rattle.reprice.proofs.Laws.{restore-by, restore-line, restore-answers, struck-numbered, line-markable}
 
@@ -13,11 +13,11 @@ use Rattle.reprice.proofs.Laws.{restore-by, restore-line, restore-answe
 abbrev tableOf : tie.Start → Columns
 tableOf c = let a = c .args in columns (a .n) (a .heads .now) (a .own .now) (a .strikes .now) (a .spans .now) (a .tails .now)
 
-abbrev came : tie.Start → Answers
-came c = let a = c .args in answers (a .weights .now) (a .depths .now) (a .edges .now)
+abbrev came : tie.Start → Entries
+came c = let a = c .args in entries (a .weights .now) (a .depths .now) (a .edges .now) (a .pieces .now)
 
 abbrev entry : tie.After-enum-told → tie.Start
-entry c = c .before .before .before .before .before .before .before .before .before .before .before .before .before .before .before
+entry c = c .before .before .before .before .before .before .before .before .before .before .before .before .before .before .before .before .before
 
 accepted : (c : tie.After-enum-told) → struckAcceptance (tableOf (entry c)) (came (entry c)) (entry c .args .line .0) ≡ Accepted
 accepted c = sym (c .before .before .check-struck .ensures) ∙ c .enum-told .given .1
@@ -26,12 +26,12 @@ returns : tie.Need-returns
 returns c = restore-by _ _ _ _ refl (restore-line _ _ _ _ _ (sym (c .before .before .before .check-struck .ensures) ∙ c .before .a .given .1))
 
 put-mark-requires : tie.Need-put-mark-requires
-put-mark-requires c κs = line-markable _ _ _ (struck-numbered _ _ _ (accepted (c .before .before .before .before))) _ (omega arith)
+put-mark-requires c κs = line-markable _ _ _ (struck-numbered _ _ _ (accepted (c .before .before .before .before .before))) _ (omega arith)
 
 returns-2 : tie.Need-returns-2
 returns-2 c =
-    let p = c .before .before .before .before .before .before .before .before in
-    restore-by _ _ _ _ (p .put-mark .ensures) (restore-answers _ _ _ _ (accepted (p .before .before .before .before .before)))
+    let p = c .before .before .before .before .before .before .before .before .before .before in
+    restore-by _ _ _ _ (p .put-mark .ensures) (restore-answers _ _ _ _ (accepted (p .before .before .before .before .before .before)))
 
 pub restore-spec : {M : Type 1} → statement M
 restore-spec =
@@ -43,9 +43,11 @@ restore-spec =
     (λ c. search needs)
     (λ c. search needs)
     (λ c. search needs)
+    (λ c. search needs)
     returns
     (λ c. search needs)
     put-mark-requires
+    (λ c. search needs)
     (λ c. search needs)
     (λ c. search needs)
     (λ c. search needs)
