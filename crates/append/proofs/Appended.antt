@@ -12,15 +12,15 @@ use Rattle.refusal.specs.declared.Acceptance.{Acceptance}
 use Rattle.refusal.specs.declared.Acceptance.the-variants.{Accepted, Refused}
 use Rattle.refusal.specs.declared.Appending.{Appending}
 use Rattle.refusal.specs.declared.Appending.the-variants as appending
-use Rattle.columns.specs.Columns.{Answers, Columns}
+use Rattle.columns.specs.Columns.{Entries, Columns}
 use Rattle.columns.specs.Filled.{filled}
 use Rattle.columns.specs.Longer.{NewLine, inUse, longer}
 use Rattle.columns.proofs.Accepted.{columns-accept}
 use Rattle.columns.proofs.Filled.{take-filled}
 use Rattle.columns.proofs.Longer.{longer-lines}
-use Rattle.settle.specs.Settling.{answersOf}
-use Rattle.settle.proofs.Demands.{answers-mean, answers-sized}
-use Rattle.settle.proofs.Exactly.{yes-exactly}
+use Rattle.settle.specs.Settling.{entriesOf}
+use Rattle.settle.proofs.Demands.{entries-mean, entries-sized}
+use Rattle.settle.proofs.Exactly.{yes-exactly, demand-entry}
 use Rattle.settle.proofs.States.{answers-state}
 use Rattle.uses.specs.Uses.{useOffset, useCount}
 use Rattle.uses.proofs.Pairs.{length-pairs}
@@ -43,7 +43,7 @@ same-counts e = cc
 no-counts : {r : Refusal} {x : Counts} {A : Type 0} → appending.Refused r ≡ appending.Counts x → A
 no-counts e = let z : _≡_ {A = ℕ} 0 1 = cc in absurd (omega arith)
 
-module _ (m : Measure) (c : Columns) (k : Counts) (a : Answers) (index list : List ℕ) (l : NewLine) where
+module _ (m : Measure) (c : Columns) (k : Counts) (a : Entries) (index list : List ℕ) (l : NewLine) where
   abbrev t : Columns
   t = longer (inUse c k) l
 
@@ -60,7 +60,7 @@ module _ (m : Measure) (c : Columns) (k : Counts) (a : Answers) (index list : Li
         let g = append-passed m c k a index list l p in
         let h = g .appendable in
         let q = next-accepted c k a l h in
-        let s = columns-accept t (answersOf m t) q (answers-sized m t q) in
+        let s = columns-accept t (entriesOf m t) q (entries-sized m t q) in
         let n : length (indexOf t .pairs) ≡ 2 * t .vertices = length-pairs _ _ (t .vertices) in
         let ps = take-filled (indexOf t .pairs) index (2 * t .vertices) n in
         let ls = take-filled (indexOf t .list) list (length (indexOf t .list)) refl in
@@ -74,9 +74,9 @@ module _ (m : Measure) (c : Columns) (k : Counts) (a : Answers) (index list : Li
           list = ls;
           told = subst₂ (Told t) (sym ps) (sym ls) (index-told t q);
           answers = refl;
-          means = answers-mean m t q;
+          means = entries-mean m t q;
           states = answers-state m t q;
-          checks = yes-exactly m t (answersOf m t) .1 (record { accepted = s; means = λ v _. answers-mean m t q v .means });
+          checks = yes-exactly m t (entriesOf m t) .1 (record { accepted = s; means = λ v _. demand-entry (entries-mean m t q v) });
         }
 
     behind-by : Behind c index list (newCounts c k l) (grown m c k a index list l Accepted) t

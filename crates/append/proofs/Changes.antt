@@ -5,7 +5,7 @@ use native.Mathlib.Omega.{arith}
 use lib.ListN.{length}
 use Rattle.weights.specs.declared.Measure.{Measure}
 use Rattle.weights.specs.Figures.{standing, struckMark}
-use Rattle.columns.specs.Columns.{Answers, Columns, ownAt, strikeAt, withOwn, withStrike}
+use Rattle.columns.specs.Columns.{Entries, Columns, ownAt, strikeAt, withOwn, withStrike}
 use Rattle.columns.specs.Longer.{inUse}
 use Rattle.columns.proofs.Repriced.{own-elsewhere, strike-elsewhere}
 use Rattle.settle.specs.Defined.{Defined}
@@ -18,7 +18,7 @@ use Rattle.append.proofs.Appended.{appended-longer}
 
 module _ (m : Measure) (e : ℕ) where
   -- a table that is t, with the answers of t
-  kept-by : (s : Priced) (c : Columns) (a : Answers) (t : Columns) → c ≡ t → Defined m t a → e < length (t .heads)
+  kept-by : (s : Priced) (c : Columns) (a : Entries) (t : Columns) → c ≡ t → Defined m t a → e < length (t .heads)
       → ownAt t e ≡ ownAt (s .table) e → strikeAt t e ≡ strikeAt (s .table) e → Kept m e s (priced c a)
   kept-by s c a t p d n o k =
       subst (λ (z : Columns). Kept m e s (priced z a)) (sym p) (record { holds = record { answers = d; numbered = n }; own = o; mark = k })

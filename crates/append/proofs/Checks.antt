@@ -14,7 +14,7 @@ use Rattle.refusal.specs.declared.Refusal.the-variants.{WrongIndex}
 use Rattle.refusal.specs.declared.Counts.{Counts}
 use Rattle.refusal.specs.declared.Acceptance.{Acceptance}
 use Rattle.refusal.specs.declared.Acceptance.the-variants.{Accepted, Refused}
-use Rattle.columns.specs.Columns.{Answers, Columns, Sized}
+use Rattle.columns.specs.Columns.{Entries, Columns, SizedEntries}
 use Rattle.columns.specs.Acceptance.{mostListed, test, andThen, acceptance}
 use Rattle.columns.specs.Longer.{NewLine, endIn, longer, inUse, RightLine}
 use Rattle.columns.proofs.Accepted.{test-passed, both-accepted, below-at, below-all}
@@ -87,13 +87,14 @@ line-passed n e l p =
       listed = below-at n (l .tail) (t5 .0);
     }
 
-pub sizes-passed : (n : ℕ) (a : Answers) → sizedAcceptance n a ≡ Accepted → Sized n a
+pub sizes-passed : (n : ℕ) (a : Entries) → sizedAcceptance n a ≡ Accepted → SizedEntries n a
 unfolding sizedAcceptance
 sizes-passed n a p =
     let t1 = test-passed _ _ _ p in
     let t2 = test-passed _ _ _ (t1 .1) in
     let t3 = test-passed _ _ _ (t2 .1) in
-    record { weights = eqb-true _ _ (t1 .0); depths = eqb-true _ _ (t2 .0); edges = eqb-true _ _ (t3 .0) }
+    let t4 = test-passed _ _ _ (t3 .1) in
+    record { labels = record { weights = eqb-true _ _ (t1 .0); depths = eqb-true _ _ (t2 .0); edges = eqb-true _ _ (t3 .0) }; pieces = eqb-true _ _ (t4 .0) }
 
 pub room-passed : (heads own strikes spans tails : List ℕ) (m size : ℕ) → roomAcceptance heads own strikes spans tails m size ≡ Accepted
     → Storable heads own strikes spans tails m (endIn spans m) size
@@ -128,7 +129,7 @@ module _ (c : Columns) (k : Counts) (l : NewLine) where
       let u = both-accepted (acceptance (inUse c k)) _ (t .1) in
       (counts-passed c k (length (l .tail)) (t .0), (u .0, line-passed (c .vertices) _ l (u .1)))
 
-  module _ (a : Answers) where
+  module _ (a : Entries) where
     abbrev room : Acceptance
     room = roomAcceptance (c .heads) (c .own) (c .strikes) (c .spans) (c .tails) (k .edges) (length (l .tail))
 
@@ -159,7 +160,7 @@ module _ (c : Columns) (k : Counts) (l : NewLine) where
         }
 
 -- the table in use and the answers, for the checks that follow
-pub appendable-holding : {c : Columns} {k : Counts} {a : Answers} {l : NewLine} → Appendable c k a l → Holding (inUse c k) a (l .tail)
+pub appendable-holding : {c : Columns} {k : Counts} {a : Entries} {l : NewLine} → Appendable c k a l → Holding (inUse c k) a (l .tail)
 appendable-holding {c} {l = l} g =
     record { accepted = record { table = g .table; sized = g .sized }; short = g .line .short; listed = below-all (c .vertices) (l .tail) (g .line .listed) }
 
@@ -177,7 +178,7 @@ held-then (Refused q) b r y = refl
 held-then Accepted true r y = refl
 held-then Accepted false r y = refl
 
-module _ (m : Measure) (c : Columns) (k : Counts) (a : Answers) (index list : List ℕ) (l : NewLine) where
+module _ (m : Measure) (c : Columns) (k : Counts) (a : Entries) (index list : List ℕ) (l : NewLine) where
   -- the whole chain: what is behind the first five steps
   abbrev rest : Acceptance
   rest =

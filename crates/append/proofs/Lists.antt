@@ -13,16 +13,16 @@ use Rattle.refusal.specs.declared.Refusal.{Refusal}
 use Rattle.refusal.specs.declared.Refusal.the-variants.{WrongAnswers}
 use Rattle.refusal.specs.declared.Acceptance.{Acceptance}
 use Rattle.refusal.specs.declared.Acceptance.the-variants.{Accepted, Refused}
-use Rattle.columns.specs.Columns.{Answers, Columns, tailAt}
+use Rattle.columns.specs.Columns.{Entries, Columns, tailAt}
 use Rattle.columns.specs.Acceptance.{andThen, acceptance}
-use Rattle.columns.specs.Same.{sameAnswers}
+use Rattle.columns.specs.Same.{sameEntries}
 use Rattle.columns.specs.Longer.{NewLine, longer, RightLine}
 use Rattle.columns.proofs.Accepted.{table-accepted}
 use Rattle.columns.proofs.Longer.{longer-count, longer-lines}
 use Rattle.uses.specs.Uses.{usesBelow, useList, pairsIn, distinctIn}
 use Rattle.uses.proofs.Room.{hits, list-more, list-fits, pairs-in}
 use Rattle.uses.proofs.Hits.{hits-distinct}
-use Rattle.settle.specs.Settling.{answersOf}
+use Rattle.settle.specs.Settling.{entriesOf}
 use Rattle.settle.specs.Checking.{answersAcceptance}
 use Rattle.indextable.specs.Index.{indexBy, indexOf, heldAcceptance}
 use Rattle.indextable.specs.Checkable.{Checkable}
@@ -66,7 +66,7 @@ module _ (c : Columns) (l : NewLine) (p : acceptance c ≡ Accepted) (g : RightL
       ∙ ap₂ (λ (x : List ℕ) (y : ℕ). length x + y) (list-alike t (tailAt c) m n (o .tails)) (ap (hits n) (o .new-tail) ∙ hits-distinct n (l .tail) (g .listed))
 
 -- what the check of an index asks, of an accepted table and the parts of a line
-module _ (c : Columns) (a : Answers) (tail : List ℕ) (h : Holding c a tail) {more : ℕ} (e : more ≡ distinctIn tail (length tail)) where
+module _ (c : Columns) (a : Entries) (tail : List ℕ) (h : Holding c a tail) {more : ℕ} (e : more ≡ distinctIn tail (length tail)) where
   accepted : acceptance c ≡ Accepted
   accepted = h .accepted .table
 
@@ -97,8 +97,8 @@ module _ (c : Columns) (a : Answers) (tail : List ℕ) (h : Holding c a tail) {m
     pub held-refused : (r : Refusal) → told ≡ Refused r → Refused r ≡ andThen told (answersAcceptance m c a)
     held-refused r p = rw p
 
-    pub held-right : told ≡ Accepted → sameAnswers a (answersOf m c) ≡ true → Accepted ≡ andThen told (answersAcceptance m c a)
+    pub held-right : told ≡ Accepted → sameEntries a (entriesOf m c) ≡ true → Accepted ≡ andThen told (answersAcceptance m c a)
     held-right p q = rw (p, q)
 
-    pub held-wrong : told ≡ Accepted → sameAnswers a (answersOf m c) ≡ false → Refused WrongAnswers ≡ andThen told (answersAcceptance m c a)
+    pub held-wrong : told ≡ Accepted → sameEntries a (entriesOf m c) ≡ false → Refused WrongAnswers ≡ andThen told (answersAcceptance m c a)
     held-wrong p q = rw (p, q)

@@ -6,7 +6,7 @@ use native.Mathlib.Omega.{arith}
 use lib.ListN.{length, take, drop}
 use lib.Seq.{length-take-le}
 use Rattle.refusal.specs.declared.Counts.{Counts}
-use Rattle.columns.specs.Columns.{Answers, Columns, tailAt}
+use Rattle.columns.specs.Columns.{Entries, Columns, tailAt}
 use Rattle.columns.specs.Filled.{filled}
 use Rattle.columns.specs.Longer.{inUse}
 use Rattle.columns.proofs.Accepted.{AcceptedColumns}
@@ -17,7 +17,7 @@ use Rattle.uses.proofs.Room.{table-indexable, table-indexed}
 use Rattle.indextable.specs.Index.{indexOf}
 use Rattle.append.specs.Growing.{Renewable}
 
-module _ (c : Columns) (k : Counts) (a : Answers) (index list : List ℕ) (g : Renewable c k a index list) where
+module _ (c : Columns) (k : Counts) (a : Entries) (index list : List ℕ) (g : Renewable c k a index list) where
   abbrev held : Columns
   held = inUse c k
 

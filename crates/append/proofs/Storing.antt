@@ -11,14 +11,14 @@ use Rattle.refusal.specs.declared.Refusal.{Refusal}
 use Rattle.refusal.specs.declared.Counts.{Counts}
 use Rattle.refusal.specs.declared.Acceptance.the-variants as answer
 use Rattle.refusal.specs.declared.Appending.the-variants as appending
-use Rattle.columns.specs.Columns.{Answers, Columns, columns}
+use Rattle.columns.specs.Columns.{Entries, Columns, columns}
 use Rattle.columns.specs.Acceptance.{acceptance}
 use Rattle.columns.specs.Filled.{filled}
 use Rattle.columns.specs.Longer.{NewLine, endIn, endOf, longer, inUse}
 use Rattle.columns.proofs.Exactly.{accepted-exactly}
 use Rattle.columns.proofs.Filled.{length-filled, take-filled, filled-set, filled-part, part-whole, part-back}
 use Rattle.columns.proofs.Longer.{end-within, longer-count, longer-listed, longer-accepted}
-use Rattle.settle.specs.Settling.{answersOf}
+use Rattle.settle.specs.Settling.{entriesOf}
 use Rattle.indextable.specs.Index.{indexOf}
 use Rattle.append.specs.Appending.{newEnd, newCounts, over, Grown, leaves, grown, appendAcceptance, appended}
 use Rattle.append.specs.Growing.{Storable, Appendable, Renewable}
@@ -52,7 +52,7 @@ end-start : (spans : List ℕ) (m : ℕ) → endIn (take (2 * m) spans) m ≡ en
 end-start spans zero = refl
 end-start spans (suc e) = ap₂ _+_ (getD-take (2 * suc e) spans (2 * e) 0 (omega arith)) (getD-take (2 * suc e) spans (2 * e + 1) 0 (omega arith))
 
-module _ (c : Columns) (k : Counts) (a : Answers) (l : NewLine) (g : Appendable c k a l) where
+module _ (c : Columns) (k : Counts) (a : Entries) (l : NewLine) (g : Appendable c k a l) where
   abbrev held : Columns
   held = inUse c k
 
@@ -171,19 +171,19 @@ module _ (c : Columns) (k : Counts) (a : Answers) (l : NewLine) (g : Appendable 
     pub renewable : 2 * c .vertices ≤ length index → length (indexOf next .list) ≤ length list → Renewable c′ k′ a index list
     renewable h r = subst₂ (λ (x : Columns) (y : Counts). Renewable x y a index list) (sym p) (sym q) (renewable-over h r)
 
-    pub all-grown : (m : Measure) {a′ : Answers} {index′ list′ : List ℕ} → appendAcceptance m c k a index list l ≡ answer.Accepted
-        → a′ ≡ answersOf m (inUse c′ k′) → index′ ≡ filled (indexOf (inUse c′ k′) .pairs) index → list′ ≡ filled (indexOf (inUse c′ k′) .list) list
+    pub all-grown : (m : Measure) {a′ : Entries} {index′ list′ : List ℕ} → appendAcceptance m c k a index list l ≡ answer.Accepted
+        → a′ ≡ entriesOf m (inUse c′ k′) → index′ ≡ filled (indexOf (inUse c′ k′) .pairs) index → list′ ≡ filled (indexOf (inUse c′ k′) .list) list
         → leaves (appending.Counts k′) c′ a′ index′ list′ ≡ appended m c k a index list l
     unfolding appended
     all-grown m e u v w =
         let t = cut in
-        let u′ = u ∙ ap (answersOf m) t in
+        let u′ = u ∙ ap (entriesOf m) t in
         let v′ = v ∙ ap (λ (z : Columns). filled (indexOf z .pairs) index) t in
         let w′ = w ∙ ap (λ (z : Columns). filled (indexOf z .list) list) t in
         rw e (λ i. leaves (appending.Counts (q i)) (p i) (u′ i) (v′ i) (w′ i))
 
 -- a refusal leaves everything
-pub refused-grown : (m : Measure) (c : Columns) (k : Counts) (a : Answers) (index list : List ℕ) (l : NewLine) {r : Refusal}
+pub refused-grown : (m : Measure) (c : Columns) (k : Counts) (a : Entries) (index list : List ℕ) (l : NewLine) {r : Refusal}
     → appendAcceptance m c k a index list l ≡ answer.Refused r → leaves (appending.Refused r) c a index list ≡ appended m c k a index list l
 unfolding appended
 refused-grown m c k a index list l p = rw p

@@ -12,11 +12,11 @@ use Rattle.refusal.specs.declared.Acceptance.{Acceptance}
 use Rattle.refusal.specs.declared.Acceptance.the-variants as answer
 use Rattle.refusal.specs.declared.Appending.{Appending}
 use Rattle.refusal.specs.declared.Appending.the-variants as appending
-use Rattle.columns.specs.Columns.{Answers, Columns, columns}
+use Rattle.columns.specs.Columns.{Entries, Columns, columns}
 use Rattle.columns.specs.Acceptance.{mostVertices, mostEdges, mostListed, longestTail, test, andThen, allBelow, acceptance}
 use Rattle.columns.specs.Filled.{filled}
 use Rattle.columns.specs.Longer.{NewLine, endIn, longer, inUse}
-use Rattle.settle.specs.Settling.{answersOf}
+use Rattle.settle.specs.Settling.{entriesOf}
 use Rattle.settle.specs.Checking.{answersAcceptance}
 use Rattle.indextable.specs.Index.{indexOf, isIndex, indexRoom}
 
@@ -49,12 +49,13 @@ newLineAcceptance n e l =
     answer.Accepted))))
 
 -- 7
-unfoldable pub sizedAcceptance : ℕ → Answers → Acceptance
+unfoldable pub sizedAcceptance : ℕ → Entries → Acceptance
 sizedAcceptance n a =
-    test (eqb (length (a .weights)) n) AnswerLength
-    (test (eqb (length (a .depths)) n) AnswerLength
-    (test (eqb (length (a .edges)) n) AnswerLength
-    answer.Accepted))
+    test (eqb (length (a .labels .weights)) n) AnswerLength
+    (test (eqb (length (a .labels .depths)) n) AnswerLength
+    (test (eqb (length (a .labels .edges)) n) AnswerLength
+    (test (eqb (length (a .pieces)) n) AnswerLength
+    answer.Accepted)))
 
 -- 18, of the columns of the table: places for the new line and its needed parts
 unfoldable pub roomAcceptance : (heads own strikes spans tails : List ℕ) → (m size : ℕ) → Acceptance
@@ -67,7 +68,7 @@ roomAcceptance heads own strikes spans tails m size =
     answer.Accepted))))
 
 -- the order: 1, 2, the lines that stand, the new line, 7, 18, 19, 8. The list must have room for that of the longer table; index and answers are those of the table in use
-unfoldable pub appendAcceptance : Measure → Columns → Counts → Answers → (index list : List ℕ) → NewLine → Acceptance
+unfoldable pub appendAcceptance : Measure → Columns → Counts → Entries → (index list : List ℕ) → NewLine → Acceptance
 appendAcceptance m c k a index list l =
     andThen (countsAcceptance c k (length (l .tail)))
     (andThen (acceptance (inUse c k))
@@ -85,7 +86,7 @@ linesAcceptance c k l =
     (andThen (acceptance (inUse c k))
     (newLineAcceptance (c .vertices) (record { 0 = k .edges }) l))
 
-unfoldable pub columnsAcceptance : Columns → Counts → Answers → NewLine → Acceptance
+unfoldable pub columnsAcceptance : Columns → Counts → Entries → NewLine → Acceptance
 columnsAcceptance c k a l =
     andThen (linesAcceptance c k l)
     (andThen (sizedAcceptance (c .vertices) a)
@@ -95,11 +96,11 @@ columnsAcceptance c k a l =
 pub record Grown : Type 0 where
   pub result : Appending
   pub table : Columns
-  pub answers : Answers
+  pub answers : Entries
   pub index : List ℕ
   pub list : List ℕ
 
-abbrev pub leaves : Appending → Columns → Answers → (index list : List ℕ) → Grown
+abbrev pub leaves : Appending → Columns → Entries → (index list : List ℕ) → Grown
 leaves r c a index list = record { result = r; table = c; answers = a; index = index; list = list }
 
 -- the new counts
@@ -113,11 +114,11 @@ over t c =
     (filled (t .spans) (c .spans)) (filled (t .tails) (c .tails))
 
 -- on acceptance table, index and answers are those of the longer table, at the start of their columns; on a refusal nothing has changed
-abbrev pub grown : Measure → Columns → Counts → Answers → (index list : List ℕ) → NewLine → Acceptance → Grown
+abbrev pub grown : Measure → Columns → Counts → Entries → (index list : List ℕ) → NewLine → Acceptance → Grown
 grown m c k a index list l answer.Accepted =
     let t = longer (inUse c k) l in
-    leaves (appending.Counts (newCounts c k l)) (over t c) (answersOf m t) (filled (indexOf t .pairs) index) (filled (indexOf t .list) list)
+    leaves (appending.Counts (newCounts c k l)) (over t c) (entriesOf m t) (filled (indexOf t .pairs) index) (filled (indexOf t .list) list)
 grown m c k a index list l (answer.Refused r) = leaves (appending.Refused r) c a index list
 
-unfoldable pub appended : Measure → Columns → Counts → Answers → (index list : List ℕ) → NewLine → Grown
+unfoldable pub appended : Measure → Columns → Counts → Entries → (index list : List ℕ) → NewLine → Grown
 appended m c k a index list l = grown m c k a index list l (appendAcceptance m c k a index list l)

@@ -9,7 +9,7 @@ use Rattle.refusal.specs.declared.Refusal.the-variants.{NoSuchEdge}
 use Rattle.refusal.specs.declared.Counts.{Counts}
 use Rattle.refusal.specs.declared.Acceptance.the-variants.{Accepted, Refused}
 use Rattle.refusal.specs.declared.Appending.the-variants as appending
-use Rattle.columns.specs.Columns.{Answers, Columns, columns, ownAt, strikeAt}
+use Rattle.columns.specs.Columns.{Entries, Columns, columns, ownAt, strikeAt}
 use Rattle.columns.specs.Longer.{NewLine, inUse}
 use Rattle.settle.specs.Defined.{Defined}
 use Rattle.reprice.specs.Repricing.{ChangeOutcome, MarkOutcome, repriced, stricken, restored}
@@ -19,9 +19,9 @@ use Rattle.append.specs.Appending.{Grown, appended}
 -- a table, as long as its lines, and answer columns
 pub record Priced : Type 0 where
   pub table : Columns
-  pub answers : Answers
+  pub answers : Entries
 
-abbrev pub priced : Columns → Answers → Priced
+abbrev pub priced : Columns → Entries → Priced
 priced c a = record { table = c; answers = a }
 
 -- the same columns with other own figures

@@ -8,11 +8,11 @@ use Rattle.weights.specs.declared.Measure.{Measure}
 use Rattle.refusal.specs.declared.Counts.{Counts}
 use Rattle.refusal.specs.declared.Acceptance.the-variants.{Accepted}
 use Rattle.refusal.specs.declared.Verdict.the-variants.{Yes}
-use Rattle.columns.specs.Columns.{Answers, Columns}
+use Rattle.columns.specs.Columns.{Entries, Columns}
 use Rattle.columns.specs.Acceptance.{acceptance}
 use Rattle.columns.specs.Longer.{NewLine, inUse, longer, OneMore}
 use Rattle.provenance.specs.BestFirst.{labels}
-use Rattle.settle.specs.Settling.{answersOf}
+use Rattle.settle.specs.Settling.{entriesOf}
 use Rattle.settle.specs.Checking.{checked}
 use Rattle.settle.specs.Demands.{Demand2}
 use Rattle.settle.specs.States.{StateMeans}
@@ -31,9 +31,9 @@ pub record Extended (m : Measure) (c : Columns) (k : Counts) (l : NewLine) (k′
   pub pairs : take (2 * t .vertices) (o .index) ≡ indexOf t .pairs
   pub list : take (length (indexOf t .list)) (o .list) ≡ indexOf t .list
   pub told : Told t (take (2 * t .vertices) (o .index)) (take (length (indexOf t .list)) (o .list))
-  pub answers : o .answers ≡ answersOf m t
-  pub means : (v : ℕ) → Demand2 m t (labels (o .answers)) v
-  pub states : (v : ℕ) → StateMeans m t (labels (o .answers) v) v
+  pub answers : o .answers ≡ entriesOf m t
+  pub means : (v : ℕ) → Demand2 m t (o .answers) v
+  pub states : (v : ℕ) → StateMeans m t (labels (o .answers .labels) v) v
   pub checks : checked m t (o .answers) ≡ Yes
 
 -- behind the counts, the pairs and the list every place is as it was

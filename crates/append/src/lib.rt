@@ -15,12 +15,12 @@ ghost use mathlib.Core.List.{_++_};
 ghost use Prim.Native.Nat.{_+_, _*_, _≤_};
 ghost use lib.ListN.{length, set, take, drop};
 ghost use lib.Dec.{leb};
-ghost use Rattle.columns.specs.Columns.{columns, answers};
+ghost use Rattle.columns.specs.Columns.{columns, entries};
 ghost use Rattle.columns.specs.Acceptance.{mostListed, andThen};
 ghost use Rattle.columns.specs.Filled.{filled};
 ghost use Rattle.columns.specs.Longer.{newLine, endIn, inUse};
 ghost use Rattle.uses.specs.Uses.{distinctIn};
-ghost use Rattle.settle.specs.Settling.{answersOf};
+ghost use Rattle.settle.specs.Settling.{entriesOf};
 ghost use Rattle.settle.specs.Checking.{answersAcceptance};
 ghost use Rattle.indextable.specs.Index.{indexOf, heldAcceptance};
 ghost use Rattle.append.specs.Appending.{countsAcceptance, newLineAcceptance, sizedAcceptance, roomAcceptance, linesAcceptance, columnsAcceptance, appendAcceptance, leaves, appended};
@@ -139,8 +139,8 @@ fn check_line(
 }
 
 // 7: whether the answer columns are n long.
-fn check_sizes(n: u64, weights: &[u64], depths: &[u64], edges: &[u64]) -> Acceptance
-    ensures { λ r. ⌜ r ≡ sizedAcceptance n (answers (now (weights .entry)) (now (depths .entry)) (now (edges .entry))) ⌝ }
+fn check_sizes(n: u64, weights: &[u64], depths: &[u64], edges: &[u64], pieces: &[u64]) -> Acceptance
+    ensures { λ r. ⌜ r ≡ sizedAcceptance n (entries (now (weights .entry)) (now (depths .entry)) (now (edges .entry)) (now (pieces .entry))) ⌝ }
 {
     if weights.len() as u64 != n {
         return Acceptance::Refused(Refusal::AnswerLength);
@@ -149,6 +149,9 @@ fn check_sizes(n: u64, weights: &[u64], depths: &[u64], edges: &[u64]) -> Accept
         return Acceptance::Refused(Refusal::AnswerLength);
     }
     if edges.len() as u64 != n {
+        return Acceptance::Refused(Refusal::AnswerLength);
+    }
+    if pieces.len() as u64 != n {
         return Acceptance::Refused(Refusal::AnswerLength);
     }
     Acceptance::Accepted
@@ -240,6 +243,7 @@ fn check_columns(
     weights: &[u64],
     depths: &[u64],
     edges: &[u64],
+    pieces: &[u64],
     head: Vertex,
     figure: Weight,
     mark: Mark,
@@ -247,7 +251,7 @@ fn check_columns(
 ) -> Acceptance
     ensures { λ r.
         let c = columns n (now (heads .entry)) (now (own .entry)) (now (strikes .entry)) (now (spans .entry)) (now (tails .entry)) in
-        let a = answers (now (weights .entry)) (now (depths .entry)) (now (edges .entry)) in
+        let a = entries (now (weights .entry)) (now (depths .entry)) (now (edges .entry)) (now (pieces .entry)) in
         ⌜ r ≡ columnsAcceptance c in_use a (newLine (head .0) (figure .0) (mark .0) (now (needed .entry))) ⌝ }
 {
     let a = check_lines(
@@ -267,7 +271,7 @@ fn check_columns(
         Acceptance::Refused(r) => return Acceptance::Refused(r),
         Acceptance::Accepted => {}
     }
-    let b = check_sizes(n, weights, depths, edges);
+    let b = check_sizes(n, weights, depths, edges, pieces);
     match b {
         Acceptance::Refused(r) => return Acceptance::Refused(r),
         Acceptance::Accepted => {}
@@ -288,16 +292,17 @@ fn check_held(
     weights: &[u64],
     depths: &[u64],
     edges: &[u64],
+    pieces: &[u64],
     index: &[u64],
     list: &[u64],
     needed: &[u64],
 ) -> Acceptance
     requires { let c = columns n (now heads) (now own) (now strikes) (now spans) (now tails) in
-        let a = answers (now weights) (now depths) (now edges) in
+        let a = entries (now weights) (now depths) (now edges) (now pieces) in
         ⌜ Holding c a (now needed) ⌝ }
     ensures { λ r.
         let c = columns n (now (heads .entry)) (now (own .entry)) (now (strikes .entry)) (now (spans .entry)) (now (tails .entry)) in
-        let a = answers (now (weights .entry)) (now (depths .entry)) (now (edges .entry)) in
+        let a = entries (now (weights .entry)) (now (depths .entry)) (now (edges .entry)) (now (pieces .entry)) in
         let more = distinctIn (now (needed .entry)) (length (now (needed .entry))) in
         ⌜ r ≡ andThen (heldAcceptance n more (indexOf c) (now (index .entry)) (now (list .entry))) (answersAcceptance measure c a) ⌝ }
 {
@@ -318,6 +323,7 @@ fn check_held(
         weights,
         depths,
         edges,
+        pieces,
     ) {
         return Acceptance::Accepted;
     }
@@ -337,6 +343,7 @@ fn check(
     weights: &[u64],
     depths: &[u64],
     edges: &[u64],
+    pieces: &[u64],
     index: &[u64],
     list: &[u64],
     head: Vertex,
@@ -346,7 +353,7 @@ fn check(
 ) -> Acceptance
     ensures { λ r.
         let c = columns n (now (heads .entry)) (now (own .entry)) (now (strikes .entry)) (now (spans .entry)) (now (tails .entry)) in
-        let a = answers (now (weights .entry)) (now (depths .entry)) (now (edges .entry)) in
+        let a = entries (now (weights .entry)) (now (depths .entry)) (now (edges .entry)) (now (pieces .entry)) in
         let l = newLine (head .0) (figure .0) (mark .0) (now (needed .entry)) in
         ⌜ r ≡ appendAcceptance measure c in_use a (now (index .entry)) (now (list .entry)) l ⌝ }
 {
@@ -361,6 +368,7 @@ fn check(
         weights,
         depths,
         edges,
+        pieces,
         head,
         figure,
         mark,
@@ -384,6 +392,7 @@ fn check(
         weights,
         depths,
         edges,
+        pieces,
         index,
         list,
         needed,
@@ -437,18 +446,19 @@ fn renew(
     weights: &mut [u64],
     depths: &mut [u64],
     edges: &mut [u64],
+    pieces: &mut [u64],
     index: &mut [u64],
     list: &mut [u64],
 )
     requires { let c = columns n (now heads) (now own) (now strikes) (now spans) (now tails) in
-        let a = answers (now weights) (now depths) (now edges) in
+        let a = entries (now weights) (now depths) (now edges) (now pieces) in
         ⌜ Renewable c in_use a (now index) (now list) ⌝ }
     ensures { λ r.
         let t = inUse (columns n (now (heads .entry)) (now (own .entry)) (now (strikes .entry)) (now (spans .entry)) (now (tails .entry))) in_use in
-        let a′ = answers (now (weights .exit)) (now (depths .exit)) (now (edges .exit)) in
+        let a′ = entries (now (weights .exit)) (now (depths .exit)) (now (edges .exit)) (now (pieces .exit)) in
         let i = now (index .exit) ≡ filled (indexOf t .pairs) (now (index .entry)) in
         let l = now (list .exit) ≡ filled (indexOf t .list) (now (list .entry)) in
-        ⌜ (a′ ≡ answersOf measure t) × (i × l) ⌝ }
+        ⌜ (a′ ≡ entriesOf measure t) × (i × l) ⌝ }
 {
     let lines = in_use.edges as usize;
     let places = 2 * lines;
@@ -470,6 +480,7 @@ fn renew(
         weights,
         depths,
         edges,
+        pieces,
     );
 }
 
@@ -487,6 +498,7 @@ pub fn append(
     weights: &mut [u64],
     depths: &mut [u64],
     edges: &mut [u64],
+    pieces: &mut [u64],
     index: &mut [u64],
     list: &mut [u64],
     head: Vertex,
@@ -497,8 +509,8 @@ pub fn append(
     ensures { λ r.
         let c = columns n (now (heads .entry)) (now (own .entry)) (now (strikes .entry)) (now (spans .entry)) (now (tails .entry)) in
         let c′ = columns n (now (heads .exit)) (now (own .exit)) (now (strikes .exit)) (now (spans .exit)) (now (tails .exit)) in
-        let a = answers (now (weights .entry)) (now (depths .entry)) (now (edges .entry)) in
-        let a′ = answers (now (weights .exit)) (now (depths .exit)) (now (edges .exit)) in
+        let a = entries (now (weights .entry)) (now (depths .entry)) (now (edges .entry)) (now (pieces .entry)) in
+        let a′ = entries (now (weights .exit)) (now (depths .exit)) (now (edges .exit)) (now (pieces .exit)) in
         let l = newLine (head .0) (figure .0) (mark .0) (now (needed .entry)) in
         let o = leaves r c′ a′ (now (index .exit)) (now (list .exit)) in
         ⌜ o ≡ appended measure c in_use a (now (index .entry)) (now (list .entry)) l ⌝ }
@@ -515,6 +527,7 @@ pub fn append(
         weights,
         depths,
         edges,
+        pieces,
         index,
         list,
         head,
@@ -558,6 +571,7 @@ pub fn append(
         weights,
         depths,
         edges,
+        pieces,
         index,
         list,
     );

@@ -3,7 +3,7 @@ use mathlib.Core.Path.{_≡_, sym, _∙_}
 use native.Mathlib.Omega.{arith}
 use borrow.Author.Needs.{needs}
 use Rattle.refusal.specs.declared.Acceptance.the-variants.{Accepted}
-use Rattle.columns.specs.Columns.{Answers, Columns, columns, answers}
+use Rattle.columns.specs.Columns.{Entries, Columns, columns, entries}
 use Rattle.columns.specs.Longer.{NewLine, newLine}
 use Rattle.append.specs.Appending.{appendAcceptance}
 use Rattle.append.specs.Growing.{Growable}
@@ -16,15 +16,15 @@ use Rattle.append.proofs.append.Tie as tie
 abbrev tableOf : tie.Start → Columns
 tableOf c = let a = c .args in columns (a .n) (a .heads .now) (a .own .now) (a .strikes .now) (a .spans .now) (a .tails .now)
 
-abbrev came : tie.Start → Answers
-came c = let a = c .args in answers (a .weights .now) (a .depths .now) (a .edges .now)
+abbrev came : tie.Start → Entries
+came c = let a = c .args in entries (a .weights .now) (a .depths .now) (a .edges .now) (a .pieces .now)
 
 abbrev lineOf : tie.Start → NewLine
 lineOf c = let a = c .args in newLine (a .head .0) (a .figure .0) (a .mark .0) (a .needed .now)
 
 abbrev entry : tie.After-enum-told → tie.Start
 entry c = let k = c .before .before in
-    k .before .before .before .before .before .before .before .before .before .before .before .before .before .before .before .before .before .before .before .before .before .before
+    k .before .before .before .before .before .before .before .before .before .before .before .before .before .before .before .before .before .before .before .before .before .before .before .before
 
 accepted : (c : tie.After-enum-told) → let s = entry c in let a = s .args in appendAcceptance (a .measure) (tableOf s) (a .in-use) (came s) (a .index .now) (a .list .now) (lineOf s) ≡ Accepted
 accepted c = sym (c .before .before .check .ensures) ∙ c .enum-told .given .1
@@ -35,7 +35,7 @@ ready c = let s = entry c in let a = s .args in append-passed (a .measure) (tabl
 returns : tie.Need-returns
 returns c =
     let k = c .before .before .before in
-    let s = k .before .before .before .before .before .before .before .before .before .before .before .before .before .before .before .before .before .before .before .before .before .before in
+    let s = k .before .before .before .before .before .before .before .before .before .before .before .before .before .before .before .before .before .before .before .before .before .before .before .before in
     refused-grown (s .args .measure) (tableOf s) (s .args .in-use) (came s) (s .args .index .now) (s .args .list .now) (lineOf s) (sym (k .check .ensures) ∙ c .before .a .given .1)
 
 end-of-requires : tie.Need-end-of-requires
@@ -48,20 +48,20 @@ store-line-requires c κs =
     let s = entry p in
     storable (tableOf s) (s .args .in-use) (came s) (lineOf s) (ready p .appendable) (e .end-of .ensures)
 
-add-t57 : tie.Need-add-t57
-add-t57 c =
+add-t60 : tie.Need-add-t60
+add-t60 c =
     let p = c .before .before .before .before .before .before .before .before .before .before .before .before .before .before .before .before .before .before in
     omega (arith, ready p .appendable .counted .spanned .edges)
 
-add-t60 : tie.Need-add-t60
-add-t60 c =
+add-t63 : tie.Need-add-t63
+add-t63 c =
     let p = c .before .before .before .before .before .before .before .before .before .before .before .before .before .before .before .before in
     let q = p .before .before in
     omega (arith, ready q .appendable .counted .spanned .listed, p .end-of .ensures)
 
 renew-requires : tie.Need-renew-requires
 renew-requires c κs =
-    let l = c .before .before .before .before .before .before .before .before .before .before .before .before .before .before .before .before .before .before .before .before in
+    let l = c .before .before .before .before .before .before .before .before .before .before .before .before .before .before .before .before .before .before .before .before .before in
     let e = l .before .before .before .before .before .before in
     let p = e .before .before in
     let s = entry p in
@@ -73,8 +73,8 @@ renew-requires c κs =
 
 returns-2 : tie.Need-returns-2
 returns-2 c =
-    let r = c .before .before .before .before .before .before .before .before .before .before in
-    let l = r .before .before .before .before .before .before .before .before .before .before .before .before .before .before .before .before .before .before .before .before .before in
+    let r = c .before .before .before .before .before .before .before .before .before .before .before .before in
+    let l = r .before .before .before .before .before .before .before .before .before .before .before .before .before .before .before .before .before .before .before .before .before .before in
     let e = l .before .before .before .before .before .before in
     let p = e .before .before in
     let s = entry p in
@@ -84,6 +84,39 @@ returns-2 c =
     let k = counts-are (tableOf s) (a .in-use) (came s) (lineOf s) g (e .end-of .ensures) in
     let o = r .renew .ensures in
     all-grown (tableOf s) (a .in-use) (came s) (lineOf s) g w k (a .index .now) (a .list .now) (a .measure) (accepted p) (o .0) (o .1 .0) (o .1 .1)
+
+same-length-12 : tie.Need-same-length-12
+same-length-12 c = search needs
+
+same-length-13 : tie.Need-same-length-13
+same-length-13 c = search needs
+
+same-length-14 : tie.Need-same-length-14
+same-length-14 c = search needs
+
+same-length-15 : tie.Need-same-length-15
+same-length-15 c = search needs
+
+same-length-16 : tie.Need-same-length-16
+same-length-16 c = search needs
+
+same-length-17 : tie.Need-same-length-17
+same-length-17 c = search needs
+
+same-length-18 : tie.Need-same-length-18
+same-length-18 c = search needs
+
+same-length-19 : tie.Need-same-length-19
+same-length-19 c = search needs
+
+same-length-20 : tie.Need-same-length-20
+same-length-20 c = search needs
+
+same-length-21 : tie.Need-same-length-21
+same-length-21 c = search needs
+
+same-length-22 : tie.Need-same-length-22
+same-length-22 c = search needs
 
 pub append-spec : {M : Type 1} → statement M
 append-spec =
@@ -101,21 +134,23 @@ append-spec =
     (λ c. search needs)
     (λ c. search needs)
     (λ c. search needs)
+    (λ c. search needs)
     returns
     (λ c. search needs)
     end-of-requires
     store-line-requires
-    add-t57
     add-t60
+    add-t63
     renew-requires
-    (λ c. search needs)
-    (λ c. search needs)
-    (λ c. search needs)
-    (λ c. search needs)
-    (λ c. search needs)
-    (λ c. search needs)
-    (λ c. search needs)
-    (λ c. search needs)
-    (λ c. search needs)
-    (λ c. search needs)
+    same-length-12
+    same-length-13
+    same-length-14
+    same-length-15
+    same-length-16
+    same-length-17
+    same-length-18
+    same-length-19
+    same-length-20
+    same-length-21
+    same-length-22
     returns-2)

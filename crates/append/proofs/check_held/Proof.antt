@@ -1,7 +1,7 @@
 -- `append::check_held` meets its contract: refused by the index, or else as the answers are. Assumes nothing.
 use mathlib.Core.Path.{_≡_, sym, _∙_}
 use borrow.Author.Needs.{needs}
-use Rattle.columns.specs.Columns.{Answers, Columns, columns, answers}
+use Rattle.columns.specs.Columns.{Entries, Columns, columns, entries}
 use Rattle.append.proofs.Lists.{holding-checkable, held-told, held-refused, held-right, held-wrong}
 use Rattle.append.proofs.check_held.Statement.{statement}
 use Rattle.append.proofs.check_held.Tie as tie
@@ -10,11 +10,11 @@ use Rattle.append.proofs.check_held.Tie as tie
 abbrev tableOf : tie.Start → Columns
 tableOf c = let a = c .args in columns (a .n) (a .heads .now) (a .own .now) (a .strikes .now) (a .spans .now) (a .tails .now)
 
-abbrev came : tie.Start → Answers
-came c = let a = c .args in answers (a .weights .now) (a .depths .now) (a .edges .now)
+abbrev came : tie.Start → Entries
+came c = let a = c .args in entries (a .weights .now) (a .depths .now) (a .edges .now) (a .pieces .now)
 
 abbrev entry : tie.After-distinct → tie.Start
-entry c = c .before .before .before .before .before .before .before .before .before .before .before .before
+entry c = c .before .before .before .before .before .before .before .before .before .before .before .before .before
 
 check-index-requires : tie.Need-check-index-requires
 check-index-requires c κs = let s = entry c in holding-checkable (tableOf s) (came s) (s .args .needed .now) (s .pre) (c .distinct .ensures)

@@ -20,5 +20,9 @@ returns-4 : tie.Need-returns-4
 unfolding sizedAcceptance
 returns-4 c = search tests
 
+returns-5 : tie.Need-returns-5
+unfolding sizedAcceptance
+returns-5 c = search tests
+
 pub check-sizes-spec : {M : Type 1} → statement M
-check-sizes-spec = tie.close (tie.spec returns returns-2 returns-3 returns-4)
+check-sizes-spec = tie.close (tie.spec returns returns-2 returns-3 returns-4 returns-5)

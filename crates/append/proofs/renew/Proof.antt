@@ -2,7 +2,7 @@
 use mathlib.Core.Path.{sym}
 use lib.Seq.{length-take-le}
 use borrow.Author.Needs.{needs}
-use Rattle.columns.specs.Columns.{Answers, Columns, columns, answers}
+use Rattle.columns.specs.Columns.{Entries, Columns, columns, entries}
 use Rattle.columns.specs.Longer.{inUse}
 use Rattle.settle.proofs.Settled.{told-accepted, told-answers}
 use Rattle.append.proofs.Renewing.{held-accepted, held-indexable, pairs-renewed, list-renewed}
@@ -13,12 +13,12 @@ use Rattle.append.proofs.renew.Tie as tie
 abbrev tableOf : tie.Start → Columns
 tableOf c = let a = c .args in columns (a .n) (a .heads .now) (a .own .now) (a .strikes .now) (a .spans .now) (a .tails .now)
 
-abbrev came : tie.Start → Answers
-came c = let a = c .args in answers (a .weights .now) (a .depths .now) (a .edges .now)
+abbrev came : tie.Start → Entries
+came c = let a = c .args in entries (a .weights .now) (a .depths .now) (a .edges .now) (a .pieces .now)
 
 -- what was given, before the index was built and behind it
 abbrev entry : tie.After-index-uses-arg → tie.Start
-entry c = c .before .before .before .before .before .before .before .before .before .before .before
+entry c = c .before .before .before .before .before .before .before .before .before .before .before .before
 
 abbrev given : tie.After-index-uses → tie.Start
 given c = entry (c .before .before .before .before)
@@ -54,13 +54,13 @@ slice-aggregate-label-5 c = sym (length-take-le _ _ (given (c .before .before .b
 
 label-requires : tie.Need-label-requires
 label-requires c κs =
-    let s = given (c .before .before .before .before .before .before .before .before .before .before .before .before) in
+    let s = given (c .before .before .before .before .before .before .before .before .before .before .before .before .before) in
     told-accepted (inUse (tableOf s) (s .args .in-use)) (came s) (held-accepted (tableOf s) (s .args .in-use) (came s) (s .args .index .now) (s .args .list .now) (s .pre))
 
 returns : tie.Need-returns
 returns c =
-    let l = c .before .before .before .before .before .before in
-    let u = l .before .before .before .before .before .before .before .before .before .before .before .before .before in
+    let l = c .before .before .before .before .before .before .before .before in
+    let u = l .before .before .before .before .before .before .before .before .before .before .before .before .before .before in
     let s = given u in
     let t = inUse (tableOf s) (s .args .in-use) in
     let h = held-accepted (tableOf s) (s .args .in-use) (came s) (s .args .index .now) (s .args .list .now) (s .pre) in (
@@ -88,6 +88,7 @@ renew-spec =
     slice-aggregate-label-4
     slice-aggregate-label-5
     label-requires
+    (λ c. search needs)
     (λ c. search needs)
     (λ c. search needs)
     (λ c. search needs)
