@@ -23,12 +23,12 @@ static uint64_t strikes[] = {   0,    0,   0,    0, 0,  0 };
 static uint64_t spans[] = { 0, 0, 0, 0, 0, 2, 2, 0, 2, 3, 5, 1 };
 static uint64_t tails[] = { 0, 1, 2, 1, 1, 4 };
 
-static uint64_t figures[PARTS], depths[PARTS], lines[PARTS];
+static uint64_t figures[PARTS], depths[PARTS], lines[PARTS], pieces[PARTS];
 
 #define TABLE \
     heads, COUNT(heads), own, COUNT(own), strikes, COUNT(strikes), spans, COUNT(spans), tails, \
         COUNT(tails)
-#define ANSWERS figures, PARTS, depths, PARTS, lines, PARTS
+#define ANSWERS figures, PARTS, depths, PARTS, lines, PARTS, pieces, PARTS
 
 static const char *state(size_t part)
 {
@@ -41,10 +41,10 @@ static void list(void)
 {
     size_t part;
 
-    printf("part state figure depth line\n");
+    printf("part state figure depth line pieces\n");
     for (part = 0; part < PARTS; part++)
-        printf("%zu %s %" PRIu64 " %" PRIu64 " %" PRIu64 "\n", part, state(part), figures[part],
-               depths[part], lines[part]);
+        printf("%zu %s %" PRIu64 " %" PRIu64 " %" PRIu64 " %" PRIu64 "\n", part, state(part),
+               figures[part], depths[part], lines[part], pieces[part]);
 }
 
 static const char *reason(uint64_t number)

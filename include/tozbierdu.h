@@ -9,9 +9,11 @@
  * struck line makes nothing and keeps its figure. Spans are sorted by their offset and do not
  * overlap; places of tails between them are not looked at.
  *
- * THE ANSWERS. Three columns of exactly n places: a part's best figure, the depth of its chosen
- * make-up, and its chosen line. A part is unmade if its depth is 0 (figure and line are 0 then),
- * else over if its figure is TOZBIERDU_OVER, else made.
+ * THE ANSWERS. Four columns of exactly n places: a part's best figure, the depth of its chosen
+ * make-up, its chosen line, and how many bought pieces its chosen make-up holds: the lines without
+ * needed parts in it, counted as often as they stand there, at most TOZBIERDU_MOST_PIECES. A part is
+ * unmade if its depth is 0 (the other three are 0 then), else over if its figure is TOZBIERDU_OVER,
+ * else made.
  *
  * THE RESULT. At most 4294967295: accepted, and it is 0 or a bill's length. Above: refused, and it
  * is the refusal's number times 4294967296, plus a place (tozbierdu_number, tozbierdu_place). A
@@ -54,6 +56,9 @@ extern "C" {
 /* The greatest figure of a part that is made, and the figure of one that is over. */
 #define TOZBIERDU_CEILING UINT64_C(1000000000000)
 #define TOZBIERDU_OVER UINT64_C(1000000000001)
+
+/* The greatest piece count: that many, or more. */
+#define TOZBIERDU_MOST_PIECES UINT64_C(1000000000)
 
 /* Limits: parts, lines, places of tails, parts that one line needs, places of a room that count. */
 #define TOZBIERDU_MOST_PARTS 1024
@@ -115,7 +120,7 @@ static inline uint64_t tozbierdu_place(uint64_t result)
 }
 
 /*
- * Settles a table: fills weights, depths and edges with its answers, whatever they held.
+ * Settles a table: fills weights, depths, edges and pieces with its answers, whatever they held.
  * Returns 0. Refusals: 16, 1 to 7 and 21.
  */
 uint64_t settle(uint64_t measure, uint64_t n,
@@ -126,12 +131,13 @@ uint64_t settle(uint64_t measure, uint64_t n,
                 const uint64_t *tails, size_t tails_count,
                 uint64_t *weights, size_t weights_count,
                 uint64_t *depths, size_t depths_count,
-                uint64_t *edges, size_t edges_count);
+                uint64_t *edges, size_t edges_count,
+                uint64_t *pieces, size_t pieces_count);
 
 /*
- * Gives a line that is not struck another own figure: writes own[line], and fills weights, depths
- * and edges, which must hold the answers of the table as it was, with those of the table as it is
- * then. Returns 0. Refusals: 16, 1 to 7 and 21, 9, 10, 8.
+ * Gives a line that is not struck another own figure: writes own[line], and fills weights, depths,
+ * edges and pieces, which must hold the answers of the table as it was, with those of the table as
+ * it is then. Returns 0. Refusals: 16, 1 to 7 and 21, 9, 10, 8.
  */
 uint64_t reprice(uint64_t measure, uint64_t n,
                  const uint64_t *heads, size_t heads_count,
@@ -142,6 +148,7 @@ uint64_t reprice(uint64_t measure, uint64_t n,
                  uint64_t *weights, size_t weights_count,
                  uint64_t *depths, size_t depths_count,
                  uint64_t *edges, size_t edges_count,
+                 uint64_t *pieces, size_t pieces_count,
                  uint64_t line, uint64_t figure);
 
 /*
@@ -159,6 +166,7 @@ uint64_t bill(uint64_t measure, uint64_t n,
               const uint64_t *weights, size_t weights_count,
               const uint64_t *depths, size_t depths_count,
               const uint64_t *edges, size_t edges_count,
+              const uint64_t *pieces, size_t pieces_count,
               uint64_t part,
               uint64_t *room, size_t room_count);
 

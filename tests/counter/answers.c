@@ -6,25 +6,28 @@
 static void test_worked_cost(void)
 {
     static const uint64_t figures[] = { 1200, 300, 2000, 2600, 0 }, depths[] = { 1, 1, 2, 3, 0 },
-        lines[] = { 0, 1, 2, 4, 0 }, listed[] = { 4, 2, 0, 1, 1, 1 };
+        lines[] = { 0, 1, 2, 4, 0 }, pieces[] = { 1, 1, 2, 4, 0 }, listed[] = { 4, 2, 0, 1, 1, 1 };
     struct table *t = priced(TOZBIERDU_COST);
 
     check(holds(t, FIGURES, figures) && holds(t, DEPTHS, depths) && holds(t, LINES, lines), "answers");
+    check(holds(t, PIECES, pieces), "piece counts");
     bill_is(t, 3, 6, listed);
 }
 
 static void test_worked_days(void)
 {
-    static const uint64_t figures[] = { 1200, 300, 1700, 1700, 0 }, lines[] = { 0, 1, 2, 4, 0 };
+    static const uint64_t figures[] = { 1200, 300, 1700, 1700, 0 }, lines[] = { 0, 1, 2, 4, 0 },
+        pieces[] = { 1, 1, 2, 4, 0 };
     struct table *t = priced(TOZBIERDU_DAYS);
 
-    check(holds(t, FIGURES, figures) && holds(t, LINES, lines), "answers");
+    check(holds(t, FIGURES, figures) && holds(t, LINES, lines) && holds(t, PIECES, pieces), "answers");
 }
 
 static void test_worked_repriced(void)
 {
     static const uint64_t own[] = { 1200, 500, 500, 2100, 0, 10 }, depths[] = { 1, 1, 1, 2, 0 },
-        figures[] = { 1200, 500, 2100, 3100, 0 }, lines[] = { 0, 1, 3, 4, 0 }, listed[] = { 4, 3, 1, 1 };
+        figures[] = { 1200, 500, 2100, 3100, 0 }, lines[] = { 0, 1, 3, 4, 0 }, pieces[] = { 1, 1, 1, 3, 0 },
+        listed[] = { 4, 3, 1, 1 };
     struct table *t = priced(TOZBIERDU_COST);
 
     t->line = 1;
@@ -32,6 +35,7 @@ static void test_worked_repriced(void)
     expect(REPRICE, "line 1 to 500", run(REPRICE, t), 0, 0);
     check(holds(t, OWN, own), "own figures");
     check(holds(t, FIGURES, figures) && holds(t, DEPTHS, depths) && holds(t, LINES, lines), "answers");
+    check(holds(t, PIECES, pieces), "piece counts");
     bill_is(t, 3, 4, listed);
 }
 
@@ -39,13 +43,15 @@ static void test_worked_repriced(void)
 static void test_worked_struck(void)
 {
     static const uint64_t own[] = { 1200, 300, 500, 2100, 0, 10 }, depths[] = { 0, 1, 1, 2, 0 },
-        figures[] = { 0, 300, 2100, 2700, 0 }, lines[] = { 0, 1, 3, 4, 0 }, listed[] = { 4, 3, 1, 1 };
+        figures[] = { 0, 300, 2100, 2700, 0 }, lines[] = { 0, 1, 3, 4, 0 }, pieces[] = { 0, 1, 1, 3, 0 },
+        listed[] = { 4, 3, 1, 1 };
     struct table *t = priced(TOZBIERDU_COST), *before = copy(t);
 
     t->at[STRIKES][0] = TOZBIERDU_STRIKE;
     expect(SETTLE, "line 0 struck", run(SETTLE, t), 0, 0);
     check(holds(t, OWN, own), "own figures");
     check(holds(t, FIGURES, figures) && holds(t, DEPTHS, depths) && holds(t, LINES, lines), "answers");
+    check(holds(t, PIECES, pieces), "piece counts");
     bill_is(t, 3, 4, listed);
     t->line = 1;
     t->figure = 300;
@@ -53,7 +59,7 @@ static void test_worked_struck(void)
     t->at[STRIKES][0] = TOZBIERDU_STANDS;
     expect(SETTLE, "line 0 taken back", run(SETTLE, t), 0, 0);
     check(holds(t, OWN, own) && holds(t, FIGURES, before->at[FIGURES]) && holds(t, DEPTHS, before->at[DEPTHS])
-          && holds(t, LINES, before->at[LINES]), "the answers of before");
+          && holds(t, LINES, before->at[LINES]) && holds(t, PIECES, before->at[PIECES]), "the answers of before");
 }
 
 /* A part at the ceiling, and one over it; both have a bill. */
@@ -74,8 +80,30 @@ static void test_ceiling(void)
     expect(SETTLE, "the ceiling", run(SETTLE, t), 0, 0);
     check(t->at[FIGURES][3] == TOZBIERDU_CEILING, "the ceiling is made");
     check(t->at[FIGURES][4] == TOZBIERDU_OVER, "one more is over");
+    check(t->at[PIECES][3] == 1000 && t->at[PIECES][4] == 1000, "a thousand pieces");
     t->part = 4;
     expect(BILL, "an over part", run(BILL, t), 0, 1111);
+}
+
+/* A chain of tens: a thousand million pieces, and no more however many there are. */
+static void test_most_pieces(void)
+{
+    uint64_t ten[10], part, i, wanted = 1;
+    struct table *t = blank(12);
+
+    add(t, 0, 0, 0, NULL);
+    for (part = 1; part < t->n; part++) {
+        for (i = 0; i < 10; i++)
+            ten[i] = part - 1;
+        add(t, part, 0, 10, ten);
+    }
+    expect(SETTLE, "tens of tens", run(SETTLE, t), 0, 0);
+    for (part = 0; part < t->n; part++) {
+        check(t->at[PIECES][part] == wanted, "a power of ten, or the cap");
+        wanted = wanted * 10 < TOZBIERDU_MOST_PIECES ? wanted * 10 : TOZBIERDU_MOST_PIECES;
+    }
+    t->at[PIECES][11] = TOZBIERDU_MOST_PIECES + 1;
+    expect(REPRICE, "a count above the cap", run(REPRICE, t), 8, 0);
 }
 
 /* In days a chain of 1,000 lines of the greatest figure comes to the ceiling, and one more is over. */
@@ -155,7 +183,7 @@ static void rises(struct table *old, struct table *new, uint64_t part, uint64_t 
 static int same_answers(const struct table *t, const struct table *u)
 {
     return holds(t, OWN, u->at[OWN]) && holds(t, FIGURES, u->at[FIGURES])
-           && holds(t, DEPTHS, u->at[DEPTHS]) && holds(t, LINES, u->at[LINES]);
+           && holds(t, DEPTHS, u->at[DEPTHS]) && holds(t, LINES, u->at[LINES]) && holds(t, PIECES, u->at[PIECES]);
 }
 
 /* Settling one of two tables and repricing the line leaves what settling the other does. */
@@ -200,6 +228,7 @@ const struct test answer_tests[] = {
     { "worked_repriced", test_worked_repriced, 0 },
     { "worked_struck", test_worked_struck, 0 },
     { "ceiling", test_ceiling, 0 },
+    { "most_pieces", test_most_pieces, 0 },
     { "days_ceiling", test_days_ceiling, 0 },
     { "demand_3", test_demand_3, 0 },
     { NULL, NULL, 0 },

@@ -12,28 +12,30 @@ static void test_no_places(void)
 {
 #define NONE NULL, 0
     static const uint64_t zeros[3];
-    uint64_t figures[3] = { 7, 7, 7 }, depths[3] = { 7, 7, 7 }, lines[3] = { 7, 7, 7 }, result;
+    uint64_t figures[3] = { 7, 7, 7 }, depths[3] = { 7, 7, 7 }, lines[3] = { 7, 7, 7 }, pieces[3] = { 7, 7, 7 },
+        result;
 
-    result = settle(0, 0, NONE, NONE, NONE, NONE, NONE, NONE, NONE, NONE);
+    result = settle(0, 0, NONE, NONE, NONE, NONE, NONE, NONE, NONE, NONE, NONE);
     expect(SETTLE, "nothing", result, 0, 0);
-    result = reprice(0, 0, NONE, NONE, NONE, NONE, NONE, NONE, NONE, NONE, 0, 0);
+    result = reprice(0, 0, NONE, NONE, NONE, NONE, NONE, NONE, NONE, NONE, NONE, 0, 0);
     expect(REPRICE, "nothing", result, 9, 0);
-    result = bill(0, 0, NONE, NONE, NONE, NONE, NONE, NONE, NONE, NONE, 0, NONE);
+    result = bill(0, 0, NONE, NONE, NONE, NONE, NONE, NONE, NONE, NONE, NONE, 0, NONE);
     expect(BILL, "nothing", result, 11, 0);
-    result = settle(2, 0, NONE, NONE, NONE, NONE, NONE, NONE, NONE, NONE);
+    result = settle(2, 0, NONE, NONE, NONE, NONE, NONE, NONE, NONE, NONE, NONE);
     expect(SETTLE, "nothing, measure 2", result, 16, 0);
-    result = settle(0, 0, zeros, 1, NONE, NONE, NONE, NONE, NONE, NONE, NONE);
+    result = settle(0, 0, zeros, 1, NONE, NONE, NONE, NONE, NONE, NONE, NONE, NONE);
     expect(SETTLE, "a head and no figure", result, 2, 0);
-    result = settle(0, 0, zeros, 1, zeros, 1, NONE, zeros, 2, NONE, NONE, NONE, NONE);
+    result = settle(0, 0, zeros, 1, zeros, 1, NONE, zeros, 2, NONE, NONE, NONE, NONE, NONE);
     expect(SETTLE, "a line and no mark", result, 2, 0);
-    result = settle(0, 3, NONE, NONE, NONE, NONE, NONE, NONE, NONE, NONE);
+    result = settle(0, 3, NONE, NONE, NONE, NONE, NONE, NONE, NONE, NONE, NONE);
     expect(SETTLE, "no answers", result, 7, 0);
-    result = settle(1, 3, NONE, NONE, NONE, NONE, NONE, figures, 3, depths, 3, lines, 3);
+    result = settle(1, 3, NONE, NONE, NONE, NONE, NONE, figures, 3, depths, 3, lines, 3, pieces, 3);
     expect(SETTLE, "no lines", result, 0, 0);
     check(memcmp(figures, zeros, sizeof zeros) == 0, "figures without lines");
     check(memcmp(depths, zeros, sizeof zeros) == 0, "depths without lines");
     check(memcmp(lines, zeros, sizeof zeros) == 0, "lines without lines");
-    result = bill(1, 3, NONE, NONE, NONE, NONE, NONE, figures, 3, depths, 3, lines, 3, 2, NONE);
+    check(memcmp(pieces, zeros, sizeof zeros) == 0, "piece counts without lines");
+    result = bill(1, 3, NONE, NONE, NONE, NONE, NONE, figures, 3, depths, 3, lines, 3, pieces, 3, 2, NONE);
     expect(BILL, "no lines", result, 12, 0);
 }
 
@@ -79,7 +81,8 @@ static void test_mapped_room(void)
     for (i = count - 6; i < count; i++)
         room[i] = guard(i);
     result = bill(0, 5, t->at[HEADS], 6, t->at[OWN], 6, t->at[STRIKES], 6, t->at[SPANS], 12,
-                  t->at[TAILS], 6, t->at[FIGURES], 5, t->at[DEPTHS], 5, t->at[LINES], 5, 3, room, count);
+                  t->at[TAILS], 6, t->at[FIGURES], 5, t->at[DEPTHS], 5, t->at[LINES], 5,
+                  t->at[PIECES], 5, 3, room, count);
     expect(BILL, "a mapped room", result, 0, 6);
     check(room[0] == 4 && room[1] == 2 && room[5] == 1, "the bill");
     for (i = 6; i < 1024; i++)

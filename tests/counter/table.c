@@ -60,7 +60,7 @@ uint64_t invoke(enum call call, const struct table *t, uint64_t *const block[COL
 {
 #define COLUMN(c) block[c] + GUARD, t->count[c]
 #define TABLE COLUMN(HEADS), COLUMN(OWN), COLUMN(STRIKES), COLUMN(SPANS), COLUMN(TAILS)
-#define ANSWERS COLUMN(FIGURES), COLUMN(DEPTHS), COLUMN(LINES)
+#define ANSWERS COLUMN(FIGURES), COLUMN(DEPTHS), COLUMN(LINES), COLUMN(PIECES)
     switch (call) {
     case SETTLE: return settle(t->measure, t->n, TABLE, ANSWERS);
     case REPRICE: return reprice(t->measure, t->n, TABLE, ANSWERS, t->line, t->figure);
@@ -124,8 +124,8 @@ uint64_t run(enum call call, struct table *t)
 struct table *blank(uint64_t n)
 {
     static const size_t most[COLUMNS] = { TOZBIERDU_MOST_LINES + 1, TOZBIERDU_MOST_LINES + 1,
-        TOZBIERDU_MOST_LINES + 1, 2 * TOZBIERDU_MOST_LINES + 2, TOZBIERDU_MOST_TAILS + 1, TOZBIERDU_MOST_PARTS + 1,
-        TOZBIERDU_MOST_PARTS + 1, TOZBIERDU_MOST_PARTS + 1 };
+        TOZBIERDU_MOST_LINES + 1, 2 * TOZBIERDU_MOST_LINES + 2, TOZBIERDU_MOST_TAILS + 1,
+        TOZBIERDU_MOST_PARTS + 1, TOZBIERDU_MOST_PARTS + 1, TOZBIERDU_MOST_PARTS + 1, TOZBIERDU_MOST_PARTS + 1 };
     struct table *t = calloc(1, sizeof *t);
     int c;
 

@@ -17,6 +17,7 @@ uint64_t bill(uint64_t measure, uint64_t n,
               const uint64_t *weights, size_t weights_count,
               const uint64_t *depths, size_t depths_count,
               const uint64_t *edges, size_t edges_count,
+              const uint64_t *pieces, size_t pieces_count,
               uint64_t part,
               uint64_t *room, size_t room_count)
 {

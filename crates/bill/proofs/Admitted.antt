@@ -10,15 +10,15 @@ use Rattle.weights.specs.declared.Measure.{Measure}
 use Rattle.refusal.specs.declared.Refusal.{Refusal}
 use Rattle.refusal.specs.declared.Refusal.the-variants.{NoSuchVertex, WrongAnswers, Underivable}
 use Rattle.refusal.specs.declared.Acceptance.the-variants.{Accepted, Refused}
-use Rattle.columns.specs.Columns.{Answers, Columns}
+use Rattle.columns.specs.Columns.{Entries, Columns}
 use Rattle.provenance.specs.BestFirst.{labels}
 use Rattle.columns.specs.Acceptance.{lentAcceptance}
 use Rattle.columns.proofs.Accepted.{columns-accepted}
-use Rattle.columns.specs.Same.{sameAnswers}
-use Rattle.settle.specs.Settling.{answersOf}
+use Rattle.columns.specs.Same.{sameEntries}
+use Rattle.settle.specs.Settling.{entriesOf}
 use Rattle.bill.specs.Billing.{partAcceptance}
 
-module _ (m : Measure) (c : Columns) (a : Answers) (v : ℕ) where
+module _ (m : Measure) (c : Columns) (a : Entries) (v : ℕ) where
   pub part-refused : {r : Refusal} → lentAcceptance c a ≡ Refused r → Refused r ≡ partAcceptance m c a v
   unfolding partAcceptance
   part-refused p = rw p
@@ -29,18 +29,18 @@ module _ (m : Measure) (c : Columns) (a : Answers) (v : ℕ) where
     part-absent h = rw (p, le-ltb v (c .vertices) h)
 
     module _ (h : v < c .vertices) where
-      pub part-placed : v < length (a .depths)
-      part-placed = omega (arith, columns-accepted c a p .sized .depths)
+      pub part-placed : v < length (a .labels .depths)
+      part-placed = omega (arith, columns-accepted c a p .sized .labels .depths)
 
-      pub part-wrong : sameAnswers a (answersOf m c) ≡ false → Refused WrongAnswers ≡ partAcceptance m c a v
+      pub part-wrong : sameEntries a (entriesOf m c) ≡ false → Refused WrongAnswers ≡ partAcceptance m c a v
       unfolding partAcceptance
       part-wrong q = rw (p, lt-ltb v (c .vertices) h, q)
 
-      module _ (q : sameAnswers a (answersOf m c) ≡ true) where
-        pub part-underivable : labels a v .depth ≡ 0 → Refused Underivable ≡ partAcceptance m c a v
+      module _ (q : sameEntries a (entriesOf m c) ≡ true) where
+        pub part-underivable : labels (a .labels) v .depth ≡ 0 → Refused Underivable ≡ partAcceptance m c a v
         unfolding partAcceptance
-        part-underivable z = rw (p, lt-ltb v (c .vertices) h, q, le-ltb 0 (labels a v .depth) (omega arith))
+        part-underivable z = rw (p, lt-ltb v (c .vertices) h, q, le-ltb 0 (labels (a .labels) v .depth) (omega arith))
 
-        pub part-accepted : ¬ (labels a v .depth ≡ 0) → Accepted ≡ partAcceptance m c a v
+        pub part-accepted : ¬ (labels (a .labels) v .depth ≡ 0) → Accepted ≡ partAcceptance m c a v
         unfolding partAcceptance
-        part-accepted n = rw (p, lt-ltb v (c .vertices) h, q, lt-ltb 0 (labels a v .depth) (pos-of-ne-zero n))
+        part-accepted n = rw (p, lt-ltb v (c .vertices) h, q, lt-ltb 0 (labels (a .labels) v .depth) (pos-of-ne-zero n))

@@ -10,25 +10,25 @@ use Rattle.refusal.specs.declared.Acceptance.{Acceptance}
 use Rattle.refusal.specs.declared.Acceptance.the-variants as answer
 use Rattle.refusal.specs.declared.Extent.{Extent}
 use Rattle.refusal.specs.declared.Extent.the-variants.{Length, Refused}
-use Rattle.columns.specs.Columns.{Answers, Columns}
+use Rattle.columns.specs.Columns.{Answers, Entries, Columns}
 use Rattle.provenance.specs.BestFirst.{labels}
 use Rattle.provenance.specs.Support.{bill}
 use Rattle.tables.specs.Table.{hypergraph}
 use Rattle.columns.specs.Acceptance.{test, andThen, lentAcceptance}
-use Rattle.columns.specs.Same.{sameAnswers}
-use Rattle.settle.specs.Settling.{answersOf}
+use Rattle.columns.specs.Same.{sameEntries}
+use Rattle.settle.specs.Settling.{entriesOf}
 
 -- the bill of part v: the lines of its chosen make-up, as the answers tell it
 unfoldable pub billOf : Columns → Answers → (v : ℕ) → List ℕ
 billOf c a v = bill (hypergraph c) (labels a) (labels a v .depth) v
 
 -- the table, the answers and the part: 1 to 7 and 21, then 11, 8 and 12
-unfoldable pub partAcceptance : Measure → Columns → Answers → (v : ℕ) → Acceptance
+unfoldable pub partAcceptance : Measure → Columns → Entries → (v : ℕ) → Acceptance
 partAcceptance m c a v =
     andThen (lentAcceptance c a)
     (test (ltb v (c .vertices)) NoSuchVertex
-    (test (sameAnswers a (answersOf m c)) WrongAnswers
-    (test (ltb 0 (labels a v .depth)) Underivable
+    (test (sameEntries a (entriesOf m c)) WrongAnswers
+    (test (ltb 0 (labels (a .labels) v .depth)) Underivable
     answer.Accepted)))
 
 -- 13: a bill longer than the room
@@ -36,8 +36,8 @@ abbrev pub roomAcceptance : (bill : List ℕ) → (places : ℕ) → Acceptance
 roomAcceptance bill places = test (leb (length bill) places) BillRoom answer.Accepted
 
 -- 1 to 7 and 21, 11, 8 and 12, then 13
-unfoldable pub billAcceptance : Measure → Columns → Answers → (v places : ℕ) → Acceptance
-billAcceptance m c a v places = andThen (partAcceptance m c a v) (roomAcceptance (billOf c a v) places)
+unfoldable pub billAcceptance : Measure → Columns → Entries → (v places : ℕ) → Acceptance
+billAcceptance m c a v places = andThen (partAcceptance m c a v) (roomAcceptance (billOf c (a .labels) v) places)
 
 -- what the call returns, and the room as it leaves it
 pub record BillOutcome : Type 0 where
@@ -54,5 +54,5 @@ abbrev pub printed : (bill room : List ℕ) → BillOutcome
 printed bill room = outcome (roomAcceptance bill (length room)) bill room
 
 -- printing the bill of v, from the columns, the answers and the room at entry
-unfoldable pub billed : Measure → Columns → Answers → (v : ℕ) → List ℕ → BillOutcome
-billed m c a v room = outcome (billAcceptance m c a v (length room)) (billOf c a v) room
+unfoldable pub billed : Measure → Columns → Entries → (v : ℕ) → List ℕ → BillOutcome
+billed m c a v room = outcome (billAcceptance m c a v (length room)) (billOf c (a .labels) v) room

@@ -10,7 +10,7 @@ use Rattle.weights.specs.declared.Measure.the-variants.{Cost, Days}
 use Rattle.weights.specs.declared.Label.{Label}
 use Rattle.provenance.specs.Hypergraph.{Derivation, listing}
 use Rattle.provenance.specs.Means.{Follows}
-use Rattle.columns.specs.Columns.{Answers, Columns, ownAt}
+use Rattle.columns.specs.Columns.{Entries, Columns, ownAt}
 use Rattle.provenance.specs.BestFirst.{labels}
 use Rattle.provenance.specs.Support.{ChosenDerivation}
 use Rattle.provenance.proofs.Support.{chosen}
@@ -35,7 +35,7 @@ pub record IsBill (m : Measure) (c : Columns) (ls : ℕ → Label) (v : ℕ) (es
   pub worth : BillWorth m c ls v es
 
 -- what a length that the call returns says: it is that of the part's bill, and the room holds the bill and then what it held
-pub record Printed (m : Measure) (c : Columns) (a : Answers) (v : ℕ) (room : List ℕ) (size : ℕ) (left : List ℕ) : Type 0 where
-  pub bill : IsBill m c (labels a) v (billOf c a v)
-  pub counted : size ≡ length (billOf c a v)
-  pub holds : left ≡ billOf c a v ++ drop size room
+pub record Printed (m : Measure) (c : Columns) (a : Entries) (v : ℕ) (room : List ℕ) (size : ℕ) (left : List ℕ) : Type 0 where
+  pub bill : IsBill m c (labels (a .labels)) v (billOf c (a .labels) v)
+  pub counted : size ≡ length (billOf c (a .labels) v)
+  pub holds : left ≡ billOf c (a .labels) v ++ drop size room

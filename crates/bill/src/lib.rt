@@ -8,7 +8,7 @@ use weights::Measure;
 use weights::Vertex;
 ghost use mathlib.Core.Path.{_≡_};
 ghost use lib.ListN.{length};
-ghost use Rattle.columns.specs.Columns.{columns, answers};
+ghost use Rattle.columns.specs.Columns.{columns, entries};
 ghost use Rattle.bill.specs.Billing.{partAcceptance, printed, billed};
 ghost use Rattle.bill.specs.Walk.{vertexBill, tailBill, Grounded, AllGrounded, VertexFits, TailFits, WrittenFrom, spend};
 
@@ -125,14 +125,26 @@ fn check_part(
     weights: &[u64],
     depths: &[u64],
     edges: &[u64],
+    pieces: &[u64],
     part: Vertex,
 ) -> Acceptance
     ensures { λ r.
         let c = columns n (now (heads .entry)) (now (own .entry)) (now (strikes .entry)) (now (spans .entry)) (now (tails .entry)) in
-        let a = answers (now (weights .entry)) (now (depths .entry)) (now (edges .entry)) in
+        let a = entries (now (weights .entry)) (now (depths .entry)) (now (edges .entry)) (now (pieces .entry)) in
         ⌜ r ≡ partAcceptance measure c a (part .0) ⌝ }
 {
-    let a = columns::check_lent(n, heads, own, strikes, spans, tails, weights, depths, edges);
+    let a = columns::check_lent(
+        n,
+        heads,
+        own,
+        strikes,
+        spans,
+        tails,
+        weights,
+        depths,
+        edges,
+        pieces,
+    );
     match a {
         Acceptance::Refused(r) => return Acceptance::Refused(r),
         Acceptance::Accepted => {}
@@ -151,6 +163,7 @@ fn check_part(
         weights,
         depths,
         edges,
+        pieces,
     ) {
         return Acceptance::Refused(Refusal::WrongAnswers);
     }
@@ -195,12 +208,13 @@ pub fn bill(
     weights: &[u64],
     depths: &[u64],
     edges: &[u64],
+    pieces: &[u64],
     part: Vertex,
     room: &mut [u64],
 ) -> Extent
     ensures { λ r.
         let c = columns n (now (heads .entry)) (now (own .entry)) (now (strikes .entry)) (now (spans .entry)) (now (tails .entry)) in
-        let a = answers (now (weights .entry)) (now (depths .entry)) (now (edges .entry)) in
+        let a = entries (now (weights .entry)) (now (depths .entry)) (now (edges .entry)) (now (pieces .entry)) in
         ⌜ record { result = r; left = now (room .exit) } ≡ billed measure c a (part .0) (now (room .entry)) ⌝ }
 {
     let a = check_part(
@@ -214,6 +228,7 @@ pub fn bill(
         weights,
         depths,
         edges,
+        pieces,
         part,
     );
     match a {

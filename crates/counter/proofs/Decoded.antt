@@ -16,7 +16,7 @@ use Rattle.refusal.specs.declared.MeasureChoice.{MeasureChoice}
 use Rattle.refusal.specs.declared.MeasureChoice.the-variants as choice
 use Rattle.refusal.specs.Refusals.{placeOf, lastPlace, acceptanceResult, extentResult, measureOf}
 use Rattle.refusal.proofs.Refusals.{numbered}
-use Rattle.columns.specs.Columns.{Answers, Columns}
+use Rattle.columns.specs.Columns.{Entries, Columns}
 use Rattle.columns.proofs.Accepted.{both-accepted, test-passed}
 use Rattle.settle.specs.Settling.{settled}
 use Rattle.settle.proofs.Demands.{settled-result}
@@ -52,14 +52,14 @@ answer-decoded : (x : Acceptance) → ((s : Refusal) → x ≡ answer.Refused s 
 answer-decoded answer.Accepted h = decoded (Length 0) (omega arith)
 answer-decoded (answer.Refused r) h = decoded (Refused r) (h r refl)
 
-pub settled-decoded : (k : ℕ) (c : Columns) (a : Answers) → Decoded (settledExtent (measureOf k) c a) (settledResult (measureOf k) c a .result)
+pub settled-decoded : (k : ℕ) (c : Columns) (a : Entries) → Decoded (settledExtent (measureOf k) c a) (settledResult (measureOf k) c a .result)
 settled-decoded k c a = go (measureOf k) (λ r. measure-place k)
   where
     go : (o : MeasureChoice) → ((r : Refusal) → o ≡ choice.Refused r → placeOf r ≤ lastPlace) → Decoded (settledExtent o c a) (settledResult o c a .result)
     go (choice.Refused r) h = decoded (Refused r) (h r refl)
     go (choice.Measure m) h = answer-decoded (settled m c a .result) (λ s e. lent-place c a (sym (settled-result m c a) ∙ e))
 
-pub repriced-decoded : (k : ℕ) (c : Columns) (a : Answers) (e w : ℕ) → Decoded (repricedExtent (measureOf k) c a e w) (repricedResult (measureOf k) c a e w .result)
+pub repriced-decoded : (k : ℕ) (c : Columns) (a : Entries) (e w : ℕ) → Decoded (repricedExtent (measureOf k) c a e w) (repricedResult (measureOf k) c a e w .result)
 repriced-decoded k c a e w = go (measureOf k) (λ r. measure-place k)
   where
     go : (o : MeasureChoice) → ((r : Refusal) → o ≡ choice.Refused r → placeOf r ≤ lastPlace) → Decoded (repricedExtent o c a e w) (repricedResult o c a e w .result)
@@ -67,15 +67,15 @@ repriced-decoded k c a e w = go (measureOf k) (λ r. measure-place k)
     go (choice.Measure m) h = answer-decoded (repriced m c a e w .result) (λ s q. reprice-place m c a e w (sym (repriced-result m c a e w) ∙ q))
 
 -- a bill is at most as long as its room
-billed-reach : (m : Measure) (c : Columns) (a : Answers) (v : ℕ) (room : List ℕ) → length room ≤ lastPlace → reach (billed m c a v room .result) ≤ lastPlace
+billed-reach : (m : Measure) (c : Columns) (a : Entries) (v : ℕ) (room : List ℕ) → length room ≤ lastPlace → reach (billed m c a v room .result) ≤ lastPlace
 unfolding billed billAcceptance
 billed-reach m c a v room h = go (billAcceptance m c a v (length room)) refl
   where
-    go : (x : Acceptance) → billAcceptance m c a v (length room) ≡ x → reach (outcome x (billOf c a v) room .result) ≤ lastPlace
-    go answer.Accepted p = let t = both-accepted (partAcceptance m c a v) _ p in omega (arith, leb-true (length (billOf c a v)) (length room) (test-passed _ _ _ (t .1) .0))
+    go : (x : Acceptance) → billAcceptance m c a v (length room) ≡ x → reach (outcome x (billOf c (a .labels) v) room .result) ≤ lastPlace
+    go answer.Accepted p = let t = both-accepted (partAcceptance m c a v) _ p in omega (arith, leb-true (length (billOf c (a .labels) v)) (length room) (test-passed _ _ _ (t .1) .0))
     go (answer.Refused r) p = bill-place m c a v (length room) p
 
-pub billed-decoded : (k : ℕ) (c : Columns) (a : Answers) (v : ℕ) (room : List ℕ) → Decoded (billedExtent (measureOf k) c a v room) (billedResult (measureOf k) c a v room .result)
+pub billed-decoded : (k : ℕ) (c : Columns) (a : Entries) (v : ℕ) (room : List ℕ) → Decoded (billedExtent (measureOf k) c a v room) (billedResult (measureOf k) c a v room .result)
 billed-decoded k c a v room = go (measureOf k) (λ r. measure-place k)
   where
     go : (o : MeasureChoice) → ((r : Refusal) → o ≡ choice.Refused r → placeOf r ≤ lastPlace) → Decoded (billedExtent o c a v room) (billedResult o c a v room .result)

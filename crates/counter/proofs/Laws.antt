@@ -11,7 +11,7 @@ use Rattle.refusal.specs.declared.Extent.{Extent}
 use Rattle.refusal.specs.declared.MeasureChoice.{MeasureChoice}
 use Rattle.refusal.specs.declared.MeasureChoice.the-variants as choice
 use Rattle.refusal.specs.Refusals.{codeOf, resultOf, acceptanceResult, extentResult}
-use Rattle.columns.specs.Columns.{Answers, Columns}
+use Rattle.columns.specs.Columns.{Entries, Columns}
 use Rattle.settle.specs.Settling.{settled}
 use Rattle.reprice.specs.Repricing.{repriced}
 use Rattle.bill.specs.Billing.{billed}
@@ -28,11 +28,11 @@ drop-min zero xs = rw (zero-min (length xs))
 drop-min (suc k) [] = rw (min-zero (suc k))
 drop-min (suc k) (x ∷ xs) = rw (suc-min-suc k (length xs)) (drop-min k xs)
 
-module _ {o : MeasureChoice} (c : Columns) (a : Answers) {n : ℕ} where
+module _ {o : MeasureChoice} (c : Columns) (a : Entries) {n : ℕ} where
   pub settled-refused : {r : Refusal} → o ≡ choice.Refused r → n ≡ resultOf (codeOf r) → record { result = n; left = a } ≡ settledResult o c a
   settled-refused p q = rw (p, q)
 
-  pub settled-measure : {m : Measure} {x : Acceptance} {b : Answers} → o ≡ choice.Measure m → n ≡ acceptanceResult x → record { result = x; left = b } ≡ settled m c a
+  pub settled-measure : {m : Measure} {x : Acceptance} {b : Entries} → o ≡ choice.Measure m → n ≡ acceptanceResult x → record { result = x; left = b } ≡ settled m c a
       → record { result = n; left = b } ≡ settledResult o c a
   settled-measure {m} {x} {b} p q e = rw (p, q) (ap outcomeResult e)
 
@@ -41,7 +41,7 @@ module _ {o : MeasureChoice} (c : Columns) (a : Answers) {n : ℕ} where
     pub repriced-refused : {r : Refusal} → o ≡ choice.Refused r → n ≡ resultOf (codeOf r) → record { result = n; own = c .own; left = a } ≡ repricedResult o c a e w
     repriced-refused p q = rw (p, q)
 
-    pub repriced-measure : {m : Measure} {x : Acceptance} {os : List ℕ} {b : Answers} → o ≡ choice.Measure m → n ≡ acceptanceResult x
+    pub repriced-measure : {m : Measure} {x : Acceptance} {os : List ℕ} {b : Entries} → o ≡ choice.Measure m → n ≡ acceptanceResult x
         → record { result = x; own = os; left = b } ≡ repriced m c a e w → record { result = n; own = os; left = b } ≡ repricedResult o c a e w
     repriced-measure p q k = rw (p, q) (ap changeResult k)
 

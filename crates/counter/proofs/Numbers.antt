@@ -23,15 +23,17 @@ use Rattle.refusal.specs.declared.Extent.the-variants.{Refused}
 use Rattle.refusal.specs.declared.MeasureChoice.{MeasureChoice}
 use Rattle.refusal.specs.declared.MeasureChoice.the-variants as choice
 use Rattle.refusal.specs.Refusals.{numberOf, measureOf}
-use Rattle.columns.specs.Columns.{Answers, Columns, columns, answers}
+use Rattle.columns.specs.Columns.{Entries, Columns, columns, entries}
 use Rattle.provenance.specs.BestFirst.{opening, next, turn, turns, best-first}
 use Rattle.provenance.specs.Labelling.{each, greatestDepth as deepest, noneZero, offerOf}
 use Rattle.provenance.specs.Support.{bill, bills}
 use Rattle.columns.specs.Acceptance.{allBelow, edgeAcceptance, edgesAcceptance, acceptance, lentAcceptance}
 use Rattle.columns.specs.Right.{WrongEdge, WrongTable, WrongLent}
-use Rattle.columns.specs.Same.{equal, sameAnswers}
+use Rattle.columns.specs.Same.{equal, sameAnswers, sameEntries}
 use Rattle.columns.proofs.Exactly.{lent-refused-exactly}
-use Rattle.settle.specs.Settling.{answersOf, settled}
+use Rattle.provenance.specs.Counting.{total}
+use Rattle.provenance.specs.Pieces.{piece, piecesAt, below}
+use Rattle.settle.specs.Settling.{answersOf, entriesOf, settled}
 use Rattle.settle.proofs.Demands.{settled-result}
 use Rattle.reprice.specs.Repricing.{lineAcceptance, repriceAcceptance, repriced}
 use Rattle.reprice.specs.Changes.{WrongChange, WrongReprice}
@@ -54,7 +56,7 @@ module _ (P : ℕ → Type 0) (p1 : P 1) (p2 : P 2) (p3 : P 3) (p4 : P 4) (p21 :
   edge-number (WrongEdge.span h o m n) = p5
   edge-number (WrongEdge.tail h o m s n) = p6
 
-  lent-number : {c : Columns} {a : Answers} {r : Refusal} → WrongLent c a r → P (numberOf r)
+  lent-number : {c : Columns} {a : Entries} {r : Refusal} → WrongLent c a r → P (numberOf r)
   lent-number (WrongLent.table (WrongTable.many n)) = p1
   lent-number (WrongLent.table (WrongTable.unlevel f n)) = p2
   lent-number (WrongLent.table (WrongTable.edge f l e w)) = edge-number (w .wrong)
@@ -99,7 +101,7 @@ measured ns f h g rest k r e = go (measureOf k) refl e
         let j : s ≡ r = cc in
         subst (λ (n : ℕ). Among n ns) (sym (measure-number k p) ∙ ap numberOf j) (listed 16 ns h)
 
-settle-among : (c : Columns) (a : Answers) (m : Measure) (r : Refusal) → extentOf (settled m c a .result) ≡ Refused r → Among (numberOf r) settleList
+settle-among : (c : Columns) (a : Entries) (m : Measure) (r : Refusal) → extentOf (settled m c a .result) ≡ Refused r → Among (numberOf r) settleList
 unfolding among
 settle-among c a m r e =
     let L = settleList in
@@ -107,7 +109,7 @@ settle-among c a m r e =
     lent-number (λ n. Among n L) (l 1 refl) (l 2 refl) (l 3 refl) (l 4 refl) (l 21 refl) (l 5 refl) (l 6 refl) (l 7 refl)
     (lent-refused-exactly c a r .0 (sym (settled-result m c a) ∙ answered (settled m c a .result) e))
 
-reprice-among : (c : Columns) (a : Answers) (e w : ℕ) (m : Measure) (r : Refusal) → extentOf (repriced m c a e w .result) ≡ Refused r → Among (numberOf r) repriceList
+reprice-among : (c : Columns) (a : Entries) (e w : ℕ) (m : Measure) (r : Refusal) → extentOf (repriced m c a e w .result) ≡ Refused r → Among (numberOf r) repriceList
 unfolding among
 reprice-among c a e w m r q = go (reprice-refused-exactly m c a e w r .0 (sym (repriced-result m c a e w) ∙ answered (repriced m c a e w .result) q))
   where
@@ -120,7 +122,7 @@ reprice-among c a e w m r q = go (reprice-refused-exactly m c a e w r .0 (sym (r
     go (WrongChange.further x n h) = l 10 refl
     go (WrongChange.answers x n h f) = l 8 refl
 
-bill-among : (c : Columns) (a : Answers) (v : ℕ) (room : List ℕ) (m : Measure) (r : Refusal) → billed m c a v room .result ≡ Refused r → Among (numberOf r) billList
+bill-among : (c : Columns) (a : Entries) (v : ℕ) (room : List ℕ) (m : Measure) (r : Refusal) → billed m c a v room .result ≡ Refused r → Among (numberOf r) billList
 unfolding among
 bill-among c a v room m r q = go (bill-refused-exactly m c a v (length room) r .0 (bill-refused m c a v room r .0 q))
   where
@@ -148,13 +150,13 @@ each-of (All.more p ps) (Among.behind i) = each-of ps i
 -- lent columns that are refused by number n: the paper's small examples
 record Shown (n : ℕ) : Type 0 where
   columns : Columns
-  answers : Answers
+  answers : Entries
   refusal : Refusal
   refused : lentAcceptance columns answers ≡ answer.Refused refusal
   number : numberOf refusal ≡ n
 
-abbrev nothing : Answers
-nothing = answers [] [] []
+abbrev nothing : Entries
+nothing = entries [] [] [] []
 
 shown : All Shown (1 ∷ 2 ∷ 3 ∷ 4 ∷ 21 ∷ 5 ∷ 6 ∷ 7 ∷ [])
 unfolding lentAcceptance acceptance edgesAcceptance edgeAcceptance allBelow
@@ -185,11 +187,11 @@ single = columns 1 (0 ∷ []) (5 ∷ []) (0 ∷ []) (0 ∷ 0 ∷ []) []
 abbrev lineless : Columns
 lineless = columns 1 [] [] [] [] []
 
-abbrev unmade : Answers
-unmade = answers (0 ∷ []) (0 ∷ []) (0 ∷ [])
+abbrev unmade : Entries
+unmade = entries (0 ∷ []) (0 ∷ []) (0 ∷ []) (0 ∷ [])
 
-abbrev answer-of : ℕ → Answers
-answer-of w = answers (w ∷ []) (1 ∷ []) (0 ∷ [])
+abbrev answer-of : ℕ → Entries
+answer-of w = entries (w ∷ []) (1 ∷ []) (0 ∷ []) (1 ∷ [])
 
 -- settle -----------------------------------------------------------------------------------------------------------------------------------------
 
@@ -228,7 +230,7 @@ reprice-shown n s =
 
 -- a line that is not there, a figure above the greatest, a figure off by 1
 reprice-late : All RepriceReturns (9 ∷ 10 ∷ 8 ∷ [])
-unfolding repriced repriceAcceptance lineAcceptance lentAcceptance acceptance edgesAcceptance edgeAcceptance allBelow sameAnswers equal answersOf best-first turns turn next opening offerOf noneZero aheadOf weigh fold each deepest
+unfolding repriced repriceAcceptance lineAcceptance lentAcceptance acceptance edgesAcceptance edgeAcceptance allBelow sameAnswers sameEntries equal answersOf entriesOf below piecesAt piece total best-first turns turn next opening offerOf noneZero aheadOf weigh fold each deepest
 reprice-late =
     All.more (record { measure = 0; columns = single; answers = answer-of 5; edge = 1; weight = 0; refused = record { refusal = NoSuchEdge; returned = refl; number = refl } })
     (All.more (record { measure = 0; columns = single; answers = answer-of 5; edge = 0; weight = 1_000_000_001; refused = record { refusal = NewWeight; returned = refl; number = refl } })
@@ -264,7 +266,7 @@ bill-shown n s =
 
 -- a part that is not there, a figure off by 1, a part that no line yields, no room
 bill-late : All BillReturns (11 ∷ 8 ∷ 12 ∷ 13 ∷ [])
-unfolding billed billAcceptance partAcceptance billOf bill bills lentAcceptance acceptance edgesAcceptance edgeAcceptance allBelow sameAnswers equal answersOf best-first turns turn next opening offerOf noneZero aheadOf weigh fold each deepest
+unfolding billed billAcceptance partAcceptance billOf bill bills lentAcceptance acceptance edgesAcceptance edgeAcceptance allBelow sameAnswers sameEntries equal answersOf entriesOf below piecesAt piece total best-first turns turn next opening offerOf noneZero aheadOf weigh fold each deepest
 bill-late =
     All.more (record { measure = 0; columns = single; answers = answer-of 5; vertex = 1; room = []; refused = record { refusal = NoSuchVertex; returned = refl; number = refl } })
     (All.more (record { measure = 0; columns = single; answers = answer-of 6; vertex = 0; room = []; refused = record { refusal = WrongAnswers; returned = refl; number = refl } })

@@ -13,7 +13,7 @@ use Rattle.refusal.specs.declared.Refusal.the-variants.{MeasureNumber}
 use Rattle.refusal.specs.declared.Acceptance.the-variants as answer
 use Rattle.refusal.specs.declared.MeasureChoice.the-variants as choice
 use Rattle.refusal.specs.Refusals.{placeOf, lastPlace, measureOf}
-use Rattle.columns.specs.Columns.{Answers, Columns}
+use Rattle.columns.specs.Columns.{Entries, Columns}
 use Rattle.columns.specs.Acceptance.{mostEdges, lentAcceptance}
 use Rattle.columns.specs.Right.{WrongEdge, WrongTable, WrongLent}
 use Rattle.columns.proofs.Exactly.{lent-refused-exactly}
@@ -32,16 +32,16 @@ edge-place (WrongEdge.mark x y n) h = omega arith
 edge-place (WrongEdge.span x y m n) h = omega arith
 edge-place (WrongEdge.tail x y m z n) h = omega arith
 
-wrong-place : {c : Columns} {a : Answers} {r : Refusal} → WrongLent c a r → placeOf r ≤ lastPlace
+wrong-place : {c : Columns} {a : Entries} {r : Refusal} → WrongLent c a r → placeOf r ≤ lastPlace
 wrong-place (WrongLent.table (WrongTable.many n)) = omega arith
 wrong-place (WrongLent.table (WrongTable.unlevel f n)) = omega arith
 wrong-place (WrongLent.table (WrongTable.edge f l e w)) = edge-place (w .wrong) (omega (arith, w .numbered, l .edges))
 wrong-place (WrongLent.answers t n) = omega arith
 
-pub lent-place : (c : Columns) (a : Answers) {s : Refusal} → lentAcceptance c a ≡ answer.Refused s → placeOf s ≤ lastPlace
+pub lent-place : (c : Columns) (a : Entries) {s : Refusal} → lentAcceptance c a ≡ answer.Refused s → placeOf s ≤ lastPlace
 lent-place c a {s} p = wrong-place (lent-refused-exactly c a s .0 p)
 
-pub reprice-place : (m : Measure) (c : Columns) (a : Answers) (e w : ℕ) {s : Refusal} → repriceAcceptance m c a e w ≡ answer.Refused s → placeOf s ≤ lastPlace
+pub reprice-place : (m : Measure) (c : Columns) (a : Entries) (e w : ℕ) {s : Refusal} → repriceAcceptance m c a e w ≡ answer.Refused s → placeOf s ≤ lastPlace
 reprice-place m c a e w {s} p = go (reprice-refused-exactly m c a e w s .0 p)
   where
     go : {r : Refusal} → WrongReprice m c a e w r → placeOf r ≤ lastPlace
@@ -50,7 +50,7 @@ reprice-place m c a e w {s} p = go (reprice-refused-exactly m c a e w s .0 p)
     go (WrongChange.further l n h) = omega arith
     go (WrongChange.answers l n h f) = omega arith
 
-pub bill-place : (m : Measure) (c : Columns) (a : Answers) (v places : ℕ) {s : Refusal} → billAcceptance m c a v places ≡ answer.Refused s → placeOf s ≤ lastPlace
+pub bill-place : (m : Measure) (c : Columns) (a : Entries) (v places : ℕ) {s : Refusal} → billAcceptance m c a v places ≡ answer.Refused s → placeOf s ≤ lastPlace
 bill-place m c a v places {s} p = go (bill-refused-exactly m c a v places s .0 p)
   where
     go : {r : Refusal} → WrongBill m c a v places r → placeOf r ≤ lastPlace

@@ -13,7 +13,7 @@ use Rattle.refusal.specs.declared.Extent.the-variants.{Length, Refused}
 use Rattle.refusal.specs.declared.MeasureChoice.{MeasureChoice}
 use Rattle.refusal.specs.declared.MeasureChoice.the-variants as choice
 use Rattle.refusal.specs.Refusals.{numberOf, placeOf}
-use Rattle.columns.specs.Columns.{Answers, Columns}
+use Rattle.columns.specs.Columns.{Entries, Columns}
 use Rattle.settle.specs.Settling.{settled}
 use Rattle.reprice.specs.Repricing.{repriced}
 use Rattle.bill.specs.Billing.{billed}
@@ -38,14 +38,14 @@ extentOf answer.Accepted = Length 0
 extentOf (answer.Refused r) = Refused r
 
 -- what each call answers, before it is made one number
-abbrev pub settledExtent : MeasureChoice → Columns → Answers → Extent
+abbrev pub settledExtent : MeasureChoice → Columns → Entries → Extent
 settledExtent (choice.Refused r) c a = Refused r
 settledExtent (choice.Measure m) c a = extentOf (settled m c a .result)
 
-abbrev pub repricedExtent : MeasureChoice → Columns → Answers → (e w : ℕ) → Extent
+abbrev pub repricedExtent : MeasureChoice → Columns → Entries → (e w : ℕ) → Extent
 repricedExtent (choice.Refused r) c a e w = Refused r
 repricedExtent (choice.Measure m) c a e w = extentOf (repriced m c a e w .result)
 
-abbrev pub billedExtent : MeasureChoice → Columns → Answers → (v : ℕ) → List ℕ → Extent
+abbrev pub billedExtent : MeasureChoice → Columns → Entries → (v : ℕ) → List ℕ → Extent
 billedExtent (choice.Refused r) c a v room = Refused r
 billedExtent (choice.Measure m) c a v room = billed m c a v (take mostRoom room) .result

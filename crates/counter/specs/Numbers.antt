@@ -7,7 +7,7 @@ use Rattle.refusal.specs.declared.Refusal.{Refusal}
 use Rattle.refusal.specs.declared.Extent.{Extent}
 use Rattle.refusal.specs.declared.Extent.the-variants.{Refused}
 use Rattle.refusal.specs.Refusals.{numberOf, measureOf}
-use Rattle.columns.specs.Columns.{Answers, Columns}
+use Rattle.columns.specs.Columns.{Entries, Columns}
 use Rattle.counter.specs.Decoded.{settledExtent, repricedExtent, billedExtent}
 
 -- n stands in a list
@@ -25,13 +25,13 @@ pub record Numbered (n : ℕ) (x : Extent) : Type 0 where
 pub record SettleReturns (n : ℕ) : Type 0 where
   pub measure : ℕ
   pub columns : Columns
-  pub answers : Answers
+  pub answers : Entries
   pub refused : Numbered n (settledExtent (measureOf measure) columns answers)
 
 pub record RepriceReturns (n : ℕ) : Type 0 where
   pub measure : ℕ
   pub columns : Columns
-  pub answers : Answers
+  pub answers : Entries
   pub edge : ℕ
   pub weight : ℕ
   pub refused : Numbered n (repricedExtent (measureOf measure) columns answers edge weight)
@@ -39,7 +39,7 @@ pub record RepriceReturns (n : ℕ) : Type 0 where
 pub record BillReturns (n : ℕ) : Type 0 where
   pub measure : ℕ
   pub columns : Columns
-  pub answers : Answers
+  pub answers : Entries
   pub vertex : ℕ
   pub room : List ℕ
   pub refused : Numbered n (billedExtent (measureOf measure) columns answers vertex room)

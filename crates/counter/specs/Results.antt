@@ -5,7 +5,7 @@ use lib.ListN.{take, drop}
 use Rattle.refusal.specs.declared.MeasureChoice.{MeasureChoice}
 use Rattle.refusal.specs.declared.MeasureChoice.the-variants.{Measure, Refused}
 use Rattle.refusal.specs.Refusals.{codeOf, resultOf, acceptanceResult, extentResult}
-use Rattle.columns.specs.Columns.{Answers, Columns}
+use Rattle.columns.specs.Columns.{Entries, Columns}
 use Rattle.settle.specs.Settling.{SettleOutcome, settled}
 use Rattle.reprice.specs.Repricing.{ChangeOutcome, repriced}
 use Rattle.bill.specs.Billing.{BillOutcome as BillOutcome, billed}
@@ -13,13 +13,13 @@ use Rattle.bill.specs.Billing.{BillOutcome as BillOutcome, billed}
 -- a number, and the answer columns
 pub record Left : Type 0 where
   pub result : ℕ
-  pub left : Answers
+  pub left : Entries
 
 abbrev pub outcomeResult : SettleOutcome → Left
 outcomeResult o = record { result = acceptanceResult (o .result); left = o .left }
 
 -- a measure's number is tested before everything
-abbrev pub settledResult : MeasureChoice → Columns → Answers → Left
+abbrev pub settledResult : MeasureChoice → Columns → Entries → Left
 settledResult (Refused r) c a = record { result = resultOf (codeOf r); left = a }
 settledResult (Measure m) c a = outcomeResult (settled m c a)
 
@@ -27,12 +27,12 @@ settledResult (Measure m) c a = outcomeResult (settled m c a)
 pub record LeftOwn : Type 0 where
   pub result : ℕ
   pub own : List ℕ
-  pub left : Answers
+  pub left : Entries
 
 abbrev pub changeResult : ChangeOutcome → LeftOwn
 changeResult x = record { result = acceptanceResult (x .result); own = x .own; left = x .left }
 
-abbrev pub repricedResult : MeasureChoice → Columns → Answers → (e w : ℕ) → LeftOwn
+abbrev pub repricedResult : MeasureChoice → Columns → Entries → (e w : ℕ) → LeftOwn
 repricedResult (Refused r) c a e w = record { result = resultOf (codeOf r); own = c .own; left = a }
 repricedResult (Measure m) c a e w = changeResult (repriced m c a e w)
 
@@ -48,6 +48,6 @@ mostRoom = 4_294_967_295
 abbrev pub billResult : BillOutcome → (behind : List ℕ) → LeftRoom
 billResult o behind = record { result = extentResult (o .result); left = o .left ++ behind }
 
-abbrev pub billedResult : MeasureChoice → Columns → Answers → (v : ℕ) → List ℕ → LeftRoom
+abbrev pub billedResult : MeasureChoice → Columns → Entries → (v : ℕ) → List ℕ → LeftRoom
 billedResult (Refused r) c a v room = record { result = resultOf (codeOf r); left = room }
 billedResult (Measure m) c a v room = billResult (billed m c a v (take mostRoom room)) (drop mostRoom room)

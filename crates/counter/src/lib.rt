@@ -7,7 +7,7 @@ use weights::Weight;
 ghost use mathlib.Core.Path.{_≡_};
 ghost use Prim.Native.Nat.{min};
 ghost use Rattle.refusal.specs.Refusals.{measureOf};
-ghost use Rattle.columns.specs.Columns.{columns, answers};
+ghost use Rattle.columns.specs.Columns.{columns, entries};
 ghost use Rattle.counter.specs.Results.{settledResult, repricedResult, mostRoom, billedResult};
 
 #[no_mangle]
@@ -22,11 +22,12 @@ pub extern "C" fn settle(
     weights: &mut [u64],
     depths: &mut [u64],
     edges: &mut [u64],
+    pieces: &mut [u64],
 ) -> u64
     ensures { λ r.
         let c = columns n (now (heads .entry)) (now (own .entry)) (now (strikes .entry)) (now (spans .entry)) (now (tails .entry)) in
-        let a = answers (now (weights .entry)) (now (depths .entry)) (now (edges .entry)) in
-        let a′ = answers (now (weights .exit)) (now (depths .exit)) (now (edges .exit)) in
+        let a = entries (now (weights .entry)) (now (depths .entry)) (now (edges .entry)) (now (pieces .entry)) in
+        let a′ = entries (now (weights .exit)) (now (depths .exit)) (now (edges .exit)) (now (pieces .exit)) in
         ⌜ record { result = r; left = a′ } ≡ settledResult (measureOf measure) c a ⌝ }
 {
     let choice = refusal::measure_numbered(measure);
@@ -44,6 +45,7 @@ pub extern "C" fn settle(
                 weights,
                 depths,
                 edges,
+                pieces,
             );
             return a.result();
         }
@@ -62,13 +64,14 @@ pub extern "C" fn reprice(
     weights: &mut [u64],
     depths: &mut [u64],
     edges: &mut [u64],
+    pieces: &mut [u64],
     line: u64,
     figure: u64,
 ) -> u64
     ensures { λ r.
         let c = columns n (now (heads .entry)) (now (own .entry)) (now (strikes .entry)) (now (spans .entry)) (now (tails .entry)) in
-        let a = answers (now (weights .entry)) (now (depths .entry)) (now (edges .entry)) in
-        let a′ = answers (now (weights .exit)) (now (depths .exit)) (now (edges .exit)) in
+        let a = entries (now (weights .entry)) (now (depths .entry)) (now (edges .entry)) (now (pieces .entry)) in
+        let a′ = entries (now (weights .exit)) (now (depths .exit)) (now (edges .exit)) (now (pieces .exit)) in
         ⌜ record { result = r; own = now (own .exit); left = a′ } ≡ repricedResult (measureOf measure) c a line figure ⌝ }
 {
     let choice = refusal::measure_numbered(measure);
@@ -86,6 +89,7 @@ pub extern "C" fn reprice(
                 weights,
                 depths,
                 edges,
+                pieces,
                 Hyperedge(line),
                 Weight(figure),
             );
@@ -120,12 +124,13 @@ pub extern "C" fn bill(
     weights: &[u64],
     depths: &[u64],
     edges: &[u64],
+    pieces: &[u64],
     part: u64,
     room: &mut [u64],
 ) -> u64
     ensures { λ r.
         let c = columns n (now (heads .entry)) (now (own .entry)) (now (strikes .entry)) (now (spans .entry)) (now (tails .entry)) in
-        let a = answers (now (weights .entry)) (now (depths .entry)) (now (edges .entry)) in
+        let a = entries (now (weights .entry)) (now (depths .entry)) (now (edges .entry)) (now (pieces .entry)) in
         ⌜ record { result = r; left = now (room .exit) } ≡ billedResult (measureOf measure) c a part (now (room .entry)) ⌝ }
 {
     let choice = refusal::measure_numbered(measure);
@@ -144,6 +149,7 @@ pub extern "C" fn bill(
                 weights,
                 depths,
                 edges,
+                pieces,
                 Vertex(part),
                 &mut room[..places],
             );

@@ -5,7 +5,7 @@ use Rattle.bill.proofs.bill.Tie as tie
 use mathlib.Core.Path.{_≡_, sym, _∙_}
 use native.Mathlib.Omega.{arith}
 use Rattle.refusal.specs.declared.Acceptance.the-variants.{Accepted}
-use Rattle.columns.specs.Columns.{Answers, Columns, columns, answers}
+use Rattle.columns.specs.Columns.{Entries, Columns, columns, entries}
 use Rattle.bill.specs.Billing.{partAcceptance}
 use Rattle.bill.proofs.Printed.{bill-refused, bill-placed, bill-grounded, vertex-printed}
 
@@ -13,11 +13,11 @@ use Rattle.bill.proofs.Printed.{bill-refused, bill-placed, bill-grounde
 abbrev tableOf : tie.Start → Columns
 tableOf c = let a = c .args in columns (a .n) (a .heads .now) (a .own .now) (a .strikes .now) (a .spans .now) (a .tails .now)
 
-abbrev came : tie.Start → Answers
-came c = let a = c .args in answers (a .weights .now) (a .depths .now) (a .edges .now)
+abbrev came : tie.Start → Entries
+came c = let a = c .args in entries (a .weights .now) (a .depths .now) (a .edges .now) (a .pieces .now)
 
 abbrev entry : tie.After-enum-told → tie.Start
-entry c = c .before .before .before .before .before .before .before .before .before .before .before .before
+entry c = c .before .before .before .before .before .before .before .before .before .before .before .before .before
 
 accepted : (c : tie.After-enum-told) → let s = entry c in partAcceptance (s .args .measure) (tableOf s) (came s) (s .args .part .0) ≡ Accepted
 accepted c = sym (c .before .before .check-part .ensures) ∙ c .enum-told .given .1

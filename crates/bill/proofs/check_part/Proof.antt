@@ -5,11 +5,11 @@ use native.Mathlib.Omega.{arith}
 use borrow.Author.Needs.{needs}
 use borrow.Author.Tests.{not-true, not-false}
 use Rattle.refusal.specs.declared.Acceptance.the-variants.{Accepted}
-use Rattle.columns.specs.Columns.{Answers, Columns, columns, answers}
+use Rattle.columns.specs.Columns.{Entries, Columns, columns, entries}
 use Rattle.columns.specs.Acceptance.{lentAcceptance}
 use Rattle.columns.proofs.Accepted.{columns-accepted, table-accepted}
-use Rattle.columns.specs.Same.{sameAnswers}
-use Rattle.settle.specs.Settling.{answersOf}
+use Rattle.columns.specs.Same.{sameEntries}
+use Rattle.settle.specs.Settling.{entriesOf}
 use Rattle.bill.proofs.Admitted.{part-refused, part-absent, part-wrong, part-placed, part-underivable, part-accepted}
 use Rattle.bill.proofs.check_part.Statement.{statement}
 use Rattle.bill.proofs.check_part.Tie as tie
@@ -18,18 +18,18 @@ use Rattle.bill.proofs.check_part.Tie as tie
 abbrev tableOf : tie.Start → Columns
 tableOf c = let a = c .args in columns (a .n) (a .heads .now) (a .own .now) (a .strikes .now) (a .spans .now) (a .tails .now)
 
-abbrev came : tie.Start → Answers
-came c = let a = c .args in answers (a .weights .now) (a .depths .now) (a .edges .now)
+abbrev came : tie.Start → Entries
+came c = let a = c .args in entries (a .weights .now) (a .depths .now) (a .edges .now) (a .pieces .now)
 
 abbrev entry : tie.After-enum-told → tie.Start
-entry c = c .before .before .before .before .before .before .before .before .before .before .before
+entry c = c .before .before .before .before .before .before .before .before .before .before .before .before
 
 -- past 7 the columns are accepted
 accepted : (c : tie.After-enum-told) → lentAcceptance (tableOf (entry c)) (came (entry c)) ≡ Accepted
 accepted c = sym (c .before .before .check-lent .ensures) ∙ c .enum-told .given .1
 
 -- and past 8 the answers are the table's
-right : (c : tie.Else2) → let s = entry (c .before .before .before .before) in sameAnswers (came s) (answersOf (s .args .measure) (tableOf s)) ≡ true
+right : (c : tie.Else2) → let s = entry (c .before .before .before .before) in sameEntries (came s) (entriesOf (s .args .measure) (tableOf s)) ≡ true
 right c = sym (c .before .answers-right .ensures) ∙ not-false _ (c .if2 .left)
 
 returns : tie.Need-returns

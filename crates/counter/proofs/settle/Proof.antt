@@ -10,8 +10,8 @@ returns c = settled-refused _ _ (sym (c .before .before .before .before .measure
 
 returns-2 : tie.Need-returns-2
 returns-2 c =
-    let p = c .before .before .before .before .before .before .before in
-    let q = p .before .before .before .before .before in
+    let p = c .before .before .before .before .before .before .before .before .before in
+    let q = p .before .before .before .before .before .before in
     let r = q .before .before in
     settled-measure _ _ (sym (r .measure-numbered .ensures) ∙ q .choice2 .given .1) (c .result2 .ensures) (p .settle .ensures)
 
@@ -26,6 +26,7 @@ settle-spec =
     (λ c. search needs)
     (λ c κs. search needs)
     (λ c κs. search needs)
+    (λ c. search needs)
     (λ c. search needs)
     (λ c. search needs)
     (λ c. search needs)
