@@ -7,12 +7,13 @@ use Rattle.weights.specs.Labels.{aheadOf}
 use Rattle.provenance.specs.Labelling.{each, greatestDepth, noneZero, offerOf}
 use Rattle.provenance.specs.BestFirst.{opening, next, turn, turns, best-first}
 use Rattle.provenance.specs.Support.{bills, bill}
-use Rattle.provenance.specs.Counting.{count}
+use Rattle.provenance.specs.Counting.{count, total}
+use Rattle.provenance.specs.Pieces.{piece, piecesAt, below}
 use Rattle.columns.specs.Columns.{withOwn}
 use Rattle.columns.specs.Worked.{worked}
-use Rattle.columns.specs.Same.{equal, sameAnswers}
+use Rattle.columns.specs.Same.{equal, sameAnswers, sameEntries}
 use Rattle.columns.specs.Acceptance.{allBelow, edgeAcceptance, edgesAcceptance, acceptance, lentAcceptance}
-use Rattle.settle.specs.Settling.{answersOf, settled}
+use Rattle.settle.specs.Settling.{answersOf, entriesOf, settled}
 use Rattle.reprice.specs.Repricing.{lineAcceptance, repriceAcceptance, strikeAcceptance, numberedAcceptance, struckAcceptance, restoreAcceptance, repriced, stricken, restored}
 use Rattle.reprice.specs.Demand3.{Pair}
 use Rattle.bill.specs.Billing.{billOf, partAcceptance, billAcceptance, billed}
@@ -31,7 +32,7 @@ worked-bounds : Demand3Billed Cost worked (withOwn worked 1 500) 1 200
 worked-bounds = demand-3-billed Cost worked (withOwn worked 1 500) 1 200 worked-pair
 
 pub every-case-holds : AllHold cases
-unfolding cases AllHold states settled billed repriced stricken restored answersOf billOf partAcceptance billAcceptance repriceAcceptance strikeAcceptance lineAcceptance restoreAcceptance struckAcceptance numberedAcceptance sameAnswers equal lentAcceptance acceptance edgesAcceptance edgeAcceptance allBelow best-first turns turn next opening offerOf noneZero aheadOf weigh fold each greatestDepth bill bills count
+unfolding cases AllHold states settled billed repriced stricken restored answersOf entriesOf below piecesAt piece total billOf partAcceptance billAcceptance repriceAcceptance strikeAcceptance lineAcceptance restoreAcceptance struckAcceptance numberedAcceptance sameAnswers sameEntries equal lentAcceptance acceptance edgesAcceptance edgeAcceptance allBelow best-first turns turn next opening offerOf noneZero aheadOf weigh fold each greatestDepth bill bills count
 every-case-holds = (
   record { outcome = refl; told = refl },
   (

@@ -9,7 +9,7 @@ use Rattle.weights.specs.declared.State.{State}
 use Rattle.weights.specs.Labels.{stateOf}
 use Rattle.refusal.specs.declared.Acceptance.the-variants.{Accepted}
 use Rattle.refusal.specs.declared.Extent.the-variants.{Length}
-use Rattle.columns.specs.Columns.{Answers, Columns, ownAt, withOwn}
+use Rattle.columns.specs.Columns.{Entries, Columns, ownAt, withOwn}
 use Rattle.settle.specs.Settling.{settled}
 use Rattle.reprice.specs.Repricing.{repriced, stricken, restored}
 use Rattle.reprice.specs.Demand3.{labelsOf, Pair, Rise}
@@ -18,14 +18,14 @@ use Rattle.bill.specs.Rises.{countIn}
 
 pub data Case : Type 0 where
   -- settling leaves these answers, of these states
-  settles : Measure → Columns → (filler left : Answers) → List State → Case
+  settles : Measure → Columns → (filler left : Entries) → List State → Case
   -- once settled, the bill of part v stands at the start of the room
-  prints : Measure → Columns → (filler : Answers) → (v : ℕ) → (room bill : List ℕ) → Case
+  prints : Measure → Columns → (filler : Entries) → (v : ℕ) → (room bill : List ℕ) → Case
   -- once settled, repricing line e to w leaves these own figures and answers
-  reprices : Measure → Columns → (filler : Answers) → (e w : ℕ) → (own : List ℕ) → (left : Answers) → Case
+  reprices : Measure → Columns → (filler : Entries) → (e w : ℕ) → (own : List ℕ) → (left : Entries) → Case
   -- once settled, striking line e, or restoring it, leaves these strike marks and answers; the own figures are lent to be read alone
-  strikes : Measure → Columns → (filler : Answers) → (e : ℕ) → (marks : List ℕ) → (left : Answers) → Case
-  restores : Measure → Columns → (filler : Answers) → (e : ℕ) → (marks : List ℕ) → (left : Answers) → Case
+  strikes : Measure → Columns → (filler : Entries) → (e : ℕ) → (marks : List ℕ) → (left : Entries) → Case
+  restores : Measure → Columns → (filler : Entries) → (e : ℕ) → (marks : List ℕ) → (left : Entries) → Case
   -- line e raised by d carries part v from figure w to w′, and stands `old` times in its bill before and `new` times after
   raises : Measure → Columns → (e d v w w′ old new : ℕ) → Case
 
@@ -35,9 +35,9 @@ states [] ds = []
 states (w ∷ ws) [] = []
 states (w ∷ ws) (d ∷ ds) = stateOf w d ∷ states ws ds
 
-pub record Settles (m : Measure) (c : Columns) (filler left : Answers) (ss : List State) : Type 0 where
+pub record Settles (m : Measure) (c : Columns) (filler left : Entries) (ss : List State) : Type 0 where
   pub outcome : settled m c filler ≡ record { result = Accepted; left = left }
-  pub told : states (left .weights) (left .depths) ≡ ss
+  pub told : states (left .labels .weights) (left .labels .depths) ≡ ss
 
 -- the two tables are a pair of demand 3, and the rise keeps to its bounds
 pub record Raises (m : Measure) (c : Columns) (e d v w w′ old new : ℕ) : Type 0 where

@@ -3,7 +3,7 @@ use Prim.Native.Nat.{ℕ}
 use mathlib.Core.List.{List, [], _∷_}
 use Rattle.weights.specs.declared.Measure.the-variants.{Cost, Days}
 use Rattle.weights.specs.declared.State.the-variants.{Made, Over, Unmade}
-use Rattle.columns.specs.Columns.{Answers, Columns, columns, answers, withStrike}
+use Rattle.columns.specs.Columns.{Entries, Columns, columns, entries, withStrike}
 use Rattle.columns.specs.Worked.{worked}
 use Rattle.examples.specs.Case.{Case, settles, prints, reprices, strikes, restores, raises}
 
@@ -18,43 +18,44 @@ tens own =
     (0 ∷ 0 ∷ 0 ∷ 0 ∷ 0 ∷ 0 ∷ 0 ∷ 0 ∷ 0 ∷ 0 ∷ 1 ∷ 1 ∷ 1 ∷ 1 ∷ 1 ∷ 1 ∷ 1 ∷ 1 ∷ 1 ∷ 1 ∷ 2 ∷ 2 ∷ 2 ∷ 2 ∷ 2 ∷ 2 ∷ 2 ∷ 2 ∷ 2 ∷ 2 ∷ [])
 
 -- answer columns of n places that hold anything
-abbrev pub two : Answers
-two = answers (7 ∷ 7 ∷ []) (7 ∷ 7 ∷ []) (7 ∷ 7 ∷ [])
+abbrev pub two : Entries
+two = entries (7 ∷ 7 ∷ []) (7 ∷ 7 ∷ []) (7 ∷ 7 ∷ []) (7 ∷ 7 ∷ [])
 
-abbrev pub four : Answers
-four = answers (7 ∷ 7 ∷ 7 ∷ 7 ∷ []) (7 ∷ 7 ∷ 7 ∷ 7 ∷ []) (7 ∷ 7 ∷ 7 ∷ 7 ∷ [])
+abbrev pub four : Entries
+four = entries (7 ∷ 7 ∷ 7 ∷ 7 ∷ []) (7 ∷ 7 ∷ 7 ∷ 7 ∷ []) (7 ∷ 7 ∷ 7 ∷ 7 ∷ []) (7 ∷ 7 ∷ 7 ∷ 7 ∷ [])
 
-abbrev pub five : Answers
-five = answers (7 ∷ 7 ∷ 7 ∷ 7 ∷ 7 ∷ []) (7 ∷ 7 ∷ 7 ∷ 7 ∷ 7 ∷ []) (7 ∷ 7 ∷ 7 ∷ 7 ∷ 7 ∷ [])
+abbrev pub five : Entries
+five = entries (7 ∷ 7 ∷ 7 ∷ 7 ∷ 7 ∷ []) (7 ∷ 7 ∷ 7 ∷ 7 ∷ 7 ∷ []) (7 ∷ 7 ∷ 7 ∷ 7 ∷ 7 ∷ []) (7 ∷ 7 ∷ 7 ∷ 7 ∷ 7 ∷ [])
 
 unfoldable pub cases : List Case
 cases =
     -- P1: the answers
-    settles Cost worked five (answers (1200 ∷ 300 ∷ 2000 ∷ 2600 ∷ 0 ∷ []) (1 ∷ 1 ∷ 2 ∷ 3 ∷ 0 ∷ []) (0 ∷ 1 ∷ 2 ∷ 4 ∷ 0 ∷ [])) (Made ∷ Made ∷ Made ∷ Made ∷ Unmade ∷ [])
+    settles Cost worked five
+    (entries (1200 ∷ 300 ∷ 2000 ∷ 2600 ∷ 0 ∷ []) (1 ∷ 1 ∷ 2 ∷ 3 ∷ 0 ∷ []) (0 ∷ 1 ∷ 2 ∷ 4 ∷ 0 ∷ []) (1 ∷ 1 ∷ 2 ∷ 4 ∷ 0 ∷ [])) (Made ∷ Made ∷ Made ∷ Made ∷ Unmade ∷ [])
     -- P2: the bill of part 3, in a room of seven places
     ∷ prints Cost worked five 3 (9 ∷ 9 ∷ 9 ∷ 9 ∷ 9 ∷ 9 ∷ 9 ∷ []) (4 ∷ 2 ∷ 0 ∷ 1 ∷ 1 ∷ 1 ∷ [])
     -- P3: line 1 repriced to 500; part 3 rises from 2600 to 3100, between 2 × 200 and 3 × 200
-    ∷ reprices Cost worked five 1 500 (1200 ∷ 500 ∷ 500 ∷ 2100 ∷ 0 ∷ 10 ∷ []) (answers (1200 ∷ 500 ∷ 2100 ∷ 3100 ∷ 0 ∷ []) (1 ∷ 1 ∷ 1 ∷ 2 ∷ 0 ∷ []) (0 ∷ 1 ∷ 3 ∷ 4 ∷ 0 ∷ []))
+    ∷ reprices Cost worked five 1 500 (1200 ∷ 500 ∷ 500 ∷ 2100 ∷ 0 ∷ 10 ∷ []) (entries (1200 ∷ 500 ∷ 2100 ∷ 3100 ∷ 0 ∷ []) (1 ∷ 1 ∷ 1 ∷ 2 ∷ 0 ∷ []) (0 ∷ 1 ∷ 3 ∷ 4 ∷ 0 ∷ []) (1 ∷ 1 ∷ 1 ∷ 3 ∷ 0 ∷ []))
     ∷ raises Cost worked 1 200 3 2600 3100 3 2
     -- P4: with days, parts 2 and 3 are 1700, part 2 by line 2
-    ∷ settles Days worked five (answers (1200 ∷ 300 ∷ 1700 ∷ 1700 ∷ 0 ∷ []) (1 ∷ 1 ∷ 2 ∷ 3 ∷ 0 ∷ []) (0 ∷ 1 ∷ 2 ∷ 4 ∷ 0 ∷ [])) (Made ∷ Made ∷ Made ∷ Made ∷ Unmade ∷ [])
+    ∷ settles Days worked five (entries (1200 ∷ 300 ∷ 1700 ∷ 1700 ∷ 0 ∷ []) (1 ∷ 1 ∷ 2 ∷ 3 ∷ 0 ∷ []) (0 ∷ 1 ∷ 2 ∷ 4 ∷ 0 ∷ []) (1 ∷ 1 ∷ 2 ∷ 4 ∷ 0 ∷ [])) (Made ∷ Made ∷ Made ∷ Made ∷ Unmade ∷ [])
     -- P5: no parts and no lines have no entries
-    ∷ settles Cost (columns 0 [] [] [] [] []) (answers [] [] []) (answers [] [] []) []
+    ∷ settles Cost (columns 0 [] [] [] [] []) (entries [] [] [] []) (entries [] [] [] []) []
     -- P6: two lines that need one another make nothing
-    ∷ settles Cost (columns 2 (0 ∷ 1 ∷ []) (0 ∷ 0 ∷ []) (0 ∷ 0 ∷ []) (0 ∷ 1 ∷ 1 ∷ 1 ∷ []) (1 ∷ 0 ∷ [])) two (answers (0 ∷ 0 ∷ []) (0 ∷ 0 ∷ []) (0 ∷ 0 ∷ [])) (Unmade ∷ Unmade ∷ [])
+    ∷ settles Cost (columns 2 (0 ∷ 1 ∷ []) (0 ∷ 0 ∷ []) (0 ∷ 0 ∷ []) (0 ∷ 1 ∷ 1 ∷ 1 ∷ []) (1 ∷ 0 ∷ [])) two (entries (0 ∷ 0 ∷ []) (0 ∷ 0 ∷ []) (0 ∷ 0 ∷ []) (0 ∷ 0 ∷ [])) (Unmade ∷ Unmade ∷ [])
     -- P7: the ceiling itself is made
     ∷ settles Cost (tens 0) four
-    (answers (1_000_000_000 ∷ 10_000_000_000 ∷ 100_000_000_000 ∷ 1_000_000_000_000 ∷ []) (1 ∷ 2 ∷ 3 ∷ 4 ∷ []) (0 ∷ 1 ∷ 2 ∷ 3 ∷ []))
+    (entries (1_000_000_000 ∷ 10_000_000_000 ∷ 100_000_000_000 ∷ 1_000_000_000_000 ∷ []) (1 ∷ 2 ∷ 3 ∷ 4 ∷ []) (0 ∷ 1 ∷ 2 ∷ 3 ∷ []) (1 ∷ 10 ∷ 100 ∷ 1000 ∷ []))
     (Made ∷ Made ∷ Made ∷ Made ∷ [])
     -- P8: one more is over
     ∷ settles Cost (tens 1) four
-    (answers (1_000_000_000 ∷ 10_000_000_000 ∷ 100_000_000_000 ∷ 1_000_000_000_001 ∷ []) (1 ∷ 2 ∷ 3 ∷ 4 ∷ []) (0 ∷ 1 ∷ 2 ∷ 3 ∷ []))
+    (entries (1_000_000_000 ∷ 10_000_000_000 ∷ 100_000_000_000 ∷ 1_000_000_000_001 ∷ []) (1 ∷ 2 ∷ 3 ∷ 4 ∷ []) (0 ∷ 1 ∷ 2 ∷ 3 ∷ []) (1 ∷ 10 ∷ 100 ∷ 1000 ∷ []))
     (Made ∷ Made ∷ Made ∷ Over ∷ [])
     -- P9: a tie goes to the lesser depth before the lower line
-    ∷ settles Cost (columns 2 (0 ∷ 1 ∷ 1 ∷ []) (5 ∷ 0 ∷ 5 ∷ []) (0 ∷ 0 ∷ 0 ∷ []) (0 ∷ 0 ∷ 0 ∷ 1 ∷ 1 ∷ 0 ∷ []) (0 ∷ [])) two (answers (5 ∷ 5 ∷ []) (1 ∷ 1 ∷ []) (0 ∷ 2 ∷ [])) (Made ∷ Made ∷ [])
+    ∷ settles Cost (columns 2 (0 ∷ 1 ∷ 1 ∷ []) (5 ∷ 0 ∷ 5 ∷ []) (0 ∷ 0 ∷ 0 ∷ []) (0 ∷ 0 ∷ 0 ∷ 1 ∷ 1 ∷ 0 ∷ []) (0 ∷ [])) two (entries (5 ∷ 5 ∷ []) (1 ∷ 1 ∷ []) (0 ∷ 2 ∷ []) (1 ∷ 1 ∷ [])) (Made ∷ Made ∷ [])
     -- P10: line 0 struck; part 2 takes line 3, and part 0 is unmade
-    ∷ strikes Cost worked five 0 (1 ∷ 0 ∷ 0 ∷ 0 ∷ 0 ∷ 0 ∷ []) (answers (0 ∷ 300 ∷ 2100 ∷ 2700 ∷ 0 ∷ []) (0 ∷ 1 ∷ 1 ∷ 2 ∷ 0 ∷ []) (0 ∷ 1 ∷ 3 ∷ 4 ∷ 0 ∷ []))
+    ∷ strikes Cost worked five 0 (1 ∷ 0 ∷ 0 ∷ 0 ∷ 0 ∷ 0 ∷ []) (entries (0 ∷ 300 ∷ 2100 ∷ 2700 ∷ 0 ∷ []) (0 ∷ 1 ∷ 1 ∷ 2 ∷ 0 ∷ []) (0 ∷ 1 ∷ 3 ∷ 4 ∷ 0 ∷ []) (0 ∷ 1 ∷ 1 ∷ 3 ∷ 0 ∷ []))
     -- and restored: it stands at 1200, the figure that it kept, and the answers are those of P1
     ∷ restores Cost (withStrike worked 0 1) five 0 (0 ∷ 0 ∷ 0 ∷ 0 ∷ 0 ∷ 0 ∷ [])
-    (answers (1200 ∷ 300 ∷ 2000 ∷ 2600 ∷ 0 ∷ []) (1 ∷ 1 ∷ 2 ∷ 3 ∷ 0 ∷ []) (0 ∷ 1 ∷ 2 ∷ 4 ∷ 0 ∷ []))
+    (entries (1200 ∷ 300 ∷ 2000 ∷ 2600 ∷ 0 ∷ []) (1 ∷ 1 ∷ 2 ∷ 3 ∷ 0 ∷ []) (0 ∷ 1 ∷ 2 ∷ 4 ∷ 0 ∷ []) (1 ∷ 1 ∷ 2 ∷ 4 ∷ 0 ∷ []))
     ∷ []
