@@ -9,67 +9,67 @@ worked='parts 5 cost
 2 2100
 3 0 2 1 1
 4 10 4'
-list='part state figure depth line
-0 made 1200 1 0
-1 made 300 1 1
-2 made 2000 2 2
-3 made 2600 3 4
-4 unmade 0 0 0'
+list='part state figure depth line pieces
+0 made 1200 1 0 1
+1 made 300 1 1 1
+2 made 2000 2 2 2
+3 made 2600 3 4 4
+4 unmade 0 0 0 0'
 echo "$worked" >"$work/worked"
 prints 'the worked table' "$work/worked" <<<"$list"
 
 sed '1s/.*/parts 5/' "$work/worked" >"$work/days"
 prints 'the worked table in days' "$work/days" <<'END'
-part state figure depth line
-0 made 1200 1 0
-1 made 300 1 1
-2 made 1700 2 2
-3 made 1700 3 4
-4 unmade 0 0 0
+part state figure depth line pieces
+0 made 1200 1 0 1
+1 made 300 1 1 1
+2 made 1700 2 2 2
+3 made 1700 3 4 4
+4 unmade 0 0 0 0
 END
 
 sed '2s/.*/0 -1200/' "$work/worked" >"$work/struck"
 prints 'a struck line' "$work/struck" <<'END'
-part state figure depth line
-0 unmade 0 0 0
-1 made 300 1 1
-2 made 2100 1 3
-3 made 2700 2 4
-4 unmade 0 0 0
+part state figure depth line pieces
+0 unmade 0 0 0 0
+1 made 300 1 1 1
+2 made 2100 1 3 1
+3 made 2700 2 4 3
+4 unmade 0 0 0 0
 END
 
 printf 'parts 3 cost\n0 -0\n0 5\n1 -1000000000 0\n1 7 0\n2 -3\n' >"$work/kept"
 prints 'struck lines with every kept figure' "$work/kept" <<'END'
-part state figure depth line
-0 made 5 1 1
-1 made 12 2 3
-2 unmade 0 0 0
+part state figure depth line pieces
+0 made 5 1 1 1
+1 made 12 2 3 1
+2 unmade 0 0 0 0
 END
 
 echo 'parts 0 cost' >"$work/none"
-prints 'a table of no parts' "$work/none" <<<'part state figure depth line'
+prints 'a table of no parts' "$work/none" <<<'part state figure depth line pieces'
 
 # ten times ten times ten times the greatest own figure is the ceiling, and 1 more is over
 ten() { printf " $1%.0s" 1 2 3 4 5 6 7 8 9 10; }
 for own in 0 1; do
     printf 'parts 4 cost\n0 1000000000\n1 0%s\n2 0%s\n3 %s%s\n' "$(ten 0)" "$(ten 1)" "$own" "$(ten 2)" >"$work/over$own"
 done
-above='part state figure depth line
-0 made 1000000000 1 0
-1 made 10000000000 2 1
-2 made 100000000000 3 2'
+above='part state figure depth line pieces
+0 made 1000000000 1 0 1
+1 made 10000000000 2 1 10
+2 made 100000000000 3 2 100'
 prints 'a part at the ceiling' "$work/over0" <<<"$above
-3 made 1000000000000 4 3"
+3 made 1000000000000 4 3 1000"
 prints 'a part that is over' "$work/over1" <<<"$above
-3 over 1000000000001 4 3"
+3 over 1000000000001 4 3 1000"
 
 # in days the sums are along a chain: 1,000 lines of the greatest own figure, and 1 more
 chain() { echo "parts $1"; echo '0 1000000000'; for ((part = 1; part < $1; part++)); do echo "$part 1000000000 $((part - 1))"; done; }
 chain 1001 >"$work/chain"
 {
-    echo 'part state figure depth line'
-    for ((part = 0; part < 1000; part++)); do echo "$part made $((part + 1))000000000 $((part + 1)) $part"; done
-    echo '1000 over 1000000000001 1001 1000'
+    echo 'part state figure depth line pieces'
+    for ((part = 0; part < 1000; part++)); do echo "$part made $((part + 1))000000000 $((part + 1)) $part 1"; done
+    echo '1000 over 1000000000001 1001 1000 1'
 } >"$work/chained"
 prints 'a part at the ceiling and one over it, in days' "$work/chain" <"$work/chained"
 
@@ -129,12 +129,12 @@ done <docs/FORMAT.md
 holds 'docs/FORMAT.md has mistakes' "it has $tried" [ "$tried" -gt 20 ]
 sed -n 's/^    //p' docs/FORMAT.md | sed '/^ *$/,$d' | sed '/^text /,$d' >"$work/typed"
 prints 'the table of docs/FORMAT.md' "$work/typed" <<'END'
-part state figure depth line
-0 made 1200 1 0
-1 made 300 1 1
-2 made 2000 2 2
-3 made 2600 3 4
-4 unmade 0 0 0
+part state figure depth line pieces
+0 made 1200 1 0 1
+1 made 300 1 1 1
+2 made 2000 2 2 2
+3 made 2600 3 4 4
+4 unmade 0 0 0 0
 END
 
 # Long inputs ------------------------------------------------------------------------------------------------------------------------------
@@ -143,10 +143,10 @@ END
 { echo 'parts 1024 cost'; yes '1023 1000000000' | head -n 4094; echo '0 10000000'; echo '0 7'; } >"$work/full"
 holds 'the full table has 65,535 bytes' "it has $(wc -c <"$work/full")" [ "$(wc -c <"$work/full")" -eq 65535 ]
 awk 'BEGIN {
-    print "part state figure depth line"
-    print "0 made 7 1 4095"
-    for (v = 1; v < 1023; v++) print v " unmade 0 0 0"
-    print "1023 made 1000000000 1 0"
+    print "part state figure depth line pieces"
+    print "0 made 7 1 4095 1"
+    for (v = 1; v < 1023; v++) print v " unmade 0 0 0 0"
+    print "1023 made 1000000000 1 0 1"
 }' >"$work/full.list"
 prints 'an input of 65,535 bytes' "$work/full" <"$work/full.list"
 
@@ -170,7 +170,27 @@ awk 'BEGIN {
     for (e = 0; e < 3072; e++) print "0 9 1 2 3 4 5"
 }' >"$work/chain"
 awk 'BEGIN {
-    print "part state figure depth line"
-    for (v = 0; v < 1024; v++) print v, "made", v + 1, v + 1, 1023 - v
+    print "part state figure depth line pieces"
+    for (v = 0; v < 1024; v++) print v, "made", v + 1, v + 1, 1023 - v, 1
 }' >"$work/chain.list"
 prints 'a chain of 1,024 parts in 4,096 lines' "$work/chain" <"$work/chain.list"
+
+# Tens of tens of part 0: from part 4 on over, from part 9 on the greatest piece count; and 1,011 parts that each need the last of these.
+{
+    echo 'parts 1024 cost'
+    echo '0 1000000000'
+    for ((part = 1; part < 13; part++)); do echo "$part 0$(ten $((part - 1)))"; done
+    for ((part = 13; part < 1024; part++)); do echo "$part 0 12"; done
+} >"$work/many"
+{
+    echo 'part state figure depth line pieces'
+    echo '0 made 1000000000 1 0 1'
+    pieces=1
+    for ((part = 1; part < 1024; part++)); do
+        pieces=$((pieces * 10 < 1000000000 ? pieces * 10 : 1000000000))
+        state=over figure=1000000000001
+        [ "$part" -gt 3 ] || state=made figure=$((pieces * 1000000000))
+        echo "$part $state $figure $((part < 13 ? part + 1 : 14)) $part $pieces"
+    done
+} >"$work/many.list"
+prints 'parts of the greatest piece count' "$work/many" <"$work/many.list"

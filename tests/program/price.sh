@@ -5,13 +5,13 @@ cell() { awk -F ' *[|] *' -v number="$1" -v column="$2" '$2 == number { print $c
 
 price 'price prices the week' 0 '' examples/week.parts <<<"$list"
 price 'price prices lead times' 0 '' examples/lead-times.parts <<'END'
-part state figure depth line
-0 made 14 1 0
-1 made 3 1 1
-2 made 21 1 2
-3 made 16 2 3
-4 made 17 3 5
-5 unmade 0 0 0
+part state figure depth line pieces
+0 made 14 1 0 1
+1 made 3 1 1 1
+2 made 21 1 2 1
+3 made 16 2 3 2
+4 made 17 3 5 4
+5 unmade 0 0 0 0
 END
 
 # Refusals: the file's name, what docs/REFUSALS.md says of the number, and the line made visible -----------------------------------------------

@@ -26,13 +26,15 @@ use Rattle.refusal.specs.Refusals.{numberOf, placeOf, columnOf}
 use Rattle.refusal.proofs.Refusals.{numbered}
 use Rattle.provenance.specs.Hypergraph.{Derivation, node, weight, weights, root}
 use Rattle.provenance.specs.Means.{Means, underivable, derivable}
-use Rattle.columns.specs.Columns.{Answers, Columns, ownAt}
+use Rattle.columns.specs.Columns.{Entries, Columns, ownAt, cell}
 use Rattle.provenance.specs.BestFirst.{labels}
 use Rattle.tables.specs.Table.{hypergraph}
 use Rattle.columns.specs.Acceptance.{mostVertices, mostEdges, acceptance}
 use Rattle.columns.proofs.Accepted.{table-accepted}
-use Rattle.settle.specs.Settling.{answersOf}
-use Rattle.settle.proofs.Demands.{answers-fixpoint, answers-mean}
+use Rattle.settle.specs.Settling.{answersOf, entriesOf, entryAt}
+use Rattle.provenance.specs.Pieces.{mostPieces}
+use Rattle.provenance.proofs.Pieces.{pieces-most}
+use Rattle.settle.proofs.Demands.{answers-fixpoint, answers-means, entries-at, entries-mean}
 use Rattle.text.specs.Tables.{Edge, Table}
 use Rattle.text.specs.Render.{digits, tailText}
 use Rattle.text.proofs.Digits.{pick-by}
@@ -72,6 +74,10 @@ width-5 : (v : ℕ) → v < 100_000 → length (digits v) ≤ 5
 unfolding tens
 width-5 v h = width-below 4 v h
 
+width-10 : (v : ℕ) → v < 10_000_000_000 → length (digits v) ≤ 10
+unfolding tens
+width-10 v h = width-below 9 v h
+
 width-13 : (v : ℕ) → v < 10_000_000_000_000 → length (digits v) ≤ 13
 unfolding tens
 width-13 v h = width-below 12 v h
@@ -88,25 +94,31 @@ module _ (c : Columns) where
   unfolding root
   root-below (node e s h ds) = s .numbered
 
--- what the numbers of an entry can be
+-- what the numbers of a label can be
 pub record Ranged (l : Label) : Type 0 where
   pub weight : l .weight .0 ≤ over
   pub depth : l .depth ≤ mostVertices
   pub edge : l .edge .0 ≤ mostEdges
   pub blank : l .depth ≡ 0 → l ≡ unmade
 
+-- and what its piece count can be
+pub record RangedEntry (a : Entries) (v : ℕ) : Type 0 where
+  pub label : Ranged (labels (a .labels) v)
+  pub pieces : cell (a .pieces) v ≤ mostPieces
+
 ranged-unmade : Ranged unmade
 ranged-unmade = record { weight = omega arith; depth = omega arith; edge = omega arith; blank = λ _. refl }
 
--- the numbers of an accepted table's answers
-pub answers-ranged : (m : Measure) (c : Columns) → acceptance c ≡ Accepted → (v : ℕ) → Ranged (labels (answersOf m c) v)
-answers-ranged m c p v = go (answers-mean m c p v .means)
+-- the numbers of an accepted table's entries
+pub answers-ranged : (m : Measure) (c : Columns) → acceptance c ≡ Accepted → (v : ℕ) → RangedEntry (entriesOf m c) v
+unfolding entriesOf
+answers-ranged m c p v = record { label = go (answers-means m c p v); pieces = subst (λ (x : ℕ). x ≤ mostPieces) (sym (entries-at m c p v)) (pieces-most (hypergraph c) (labels (answersOf m c)) v) }
   where
     go : Means (algebra m) (hypergraph c) (ownAt c) (labels (answersOf m c) v) v → Ranged (labels (answersOf m c) v)
     go (underivable e n) = subst Ranged (sym e) ranged-unmade
     go (derivable d) = record {
       weight = let w = weight-most c m (d .shown) in let e = d .weighs in omega arith;
-      depth = let s = answers-mean m c p v .shallow in let f = table-accepted c p .few in omega arith;
+      depth = let s = entries-mean m c p v .shallow in let f = table-accepted c p .few in omega arith;
       edge = let r = root-below c (d .shown) in let e = d .rooted in let f = table-accepted c p .edges in omega arith;
       blank = answers-fixpoint m c p .blank v;
     }
@@ -114,18 +126,20 @@ answers-ranged m c p v = go (answers-mean m c p v .means)
 -- The list -------------------------------------------------------------------------------------------------------------------------------------
 
 row-length : (v : ℕ) (e : Entry)
-    → length (row v e) ≡ length (digits v) + (1 + length (stateWord (e .state))) + (1 + length (digits (e .weight .0))) + (1 + length (digits (e .depth))) + (1 + length (digits (e .edge .0))) + 1
+    → length (row v e) ≡ length (digits v) + (1 + length (stateWord (e .state))) + (1 + length (digits (e .weight .0))) + (1 + length (digits (e .depth))) + (1 + length (digits (e .edge .0))) + (1 + length (digits (e .pieces))) + 1
 unfolding row
 row-length v e =
     let s : List ℕ = 32 ∷ stateWord (e .state) in
     let a : List ℕ = 32 ∷ digits (e .weight .0) in
     let b : List ℕ = 32 ∷ digits (e .depth) in
     let d : List ℕ = 32 ∷ digits (e .edge .0) in
+    let g : List ℕ = 32 ∷ digits (e .pieces) in
     let p = length-append (digits v) s in
     let q = length-append (digits v ++ s) a in
     let r = length-append (digits v ++ s ++ a) b in
     let t = length-append (digits v ++ s ++ a ++ b) d in
-    let u = length-append (digits v ++ s ++ a ++ b ++ d) (10 ∷ []) in
+    let f = length-append (digits v ++ s ++ a ++ b ++ d) g in
+    let u = length-append (digits v ++ s ++ a ++ b ++ d ++ g) (10 ∷ []) in
     omega arith
 
 -- the words of parts that are not unmade are the shorter ones
@@ -133,16 +147,19 @@ short-word : (w d : ℕ) → (d ≡ 0 → ⊥) → length (stateWord (stateOf w 
 unfolding stateWord
 short-word w d n = rw (ne-eqb d 0 n) (pick-by (λ (s : State). length (stateWord s) ≡ 4) (isOver w) (λ _. refl) (λ _. refl))
 
-row-most : (v : ℕ) (l : Label) → v < mostVertices → Ranged l → length (row v (entryOf l)) ≤ 34
-row-most v l h r = go (ℕ-discrete (l .depth) 0)
+row-most : (v : ℕ) (l : Label) (p : ℕ) → v < mostVertices → Ranged l → p ≤ mostPieces → length (row v (entryOf l p)) ≤ 45
+row-most v l p h r k = go (ℕ-discrete (l .depth) 0)
   where
-    blank-row : length (row v (entryOf unmade)) ≤ 34
-    blank-row = unfold stateWord in let e = row-length v (entryOf unmade) in let a = width-4 v (omega arith) in let b = width-one 0 (omega arith) in omega arith
+    count : length (digits p) ≤ 10
+    count = width-10 p (omega arith)
 
-    go : Dec (l .depth ≡ 0) → length (row v (entryOf l)) ≤ 34
-    go (yes z) = subst (λ (x : Label). length (row v (entryOf x)) ≤ 34) (sym (r .blank z)) blank-row
+    blank-row : length (row v (entryOf unmade p)) ≤ 45
+    blank-row = unfold stateWord in let e = row-length v (entryOf unmade p) in let a = width-4 v (omega arith) in let b = width-one 0 (omega arith) in let c = count in omega arith
+
+    go : Dec (l .depth ≡ 0) → length (row v (entryOf l p)) ≤ 45
+    go (yes z) = subst (λ (x : Label). length (row v (entryOf x p)) ≤ 45) (sym (r .blank z)) blank-row
     go (no n) =
-        let e = row-length v (entryOf l) in
+        let e = row-length v (entryOf l p) in
         let s = short-word (l .weight .0) (l .depth) n in
         let a = width-4 v (omega arith) in
         let w = r .weight in
@@ -151,18 +168,19 @@ row-most v l h r = go (ℕ-discrete (l .depth) 0)
         let d = width-4 (l .depth) (omega arith) in
         let y = r .edge in
         let f = width-4 (l .edge .0) (omega arith) in
+        let c = count in
         omega arith
 
-rows-most : (a : Answers) → ((v : ℕ) → Ranged (labels a v)) → (n : ℕ) → n ≤ mostVertices → length (rows a n) ≤ 34 * n
+rows-most : (a : Entries) → ((v : ℕ) → RangedEntry a v) → (n : ℕ) → n ≤ mostVertices → length (rows a n) ≤ 45 * n
 unfolding rows
 rows-most a r zero h = omega arith
 rows-most a r (suc n) h =
     let i = rows-most a r n (omega arith) in
-    let w = row-most n (labels a n) (omega arith) (r n) in
-    let l = length-append (rows a n) (row n (entryOf (labels a n))) in
+    let w = row-most n (labels (a .labels) n) (cell (a .pieces) n) (omega arith) (r n .label) (r n .pieces) in
+    let l = length-append (rows a n) (row n (entryAt a n)) in
     omega arith
 
-pub list-most : (a : Answers) → ((v : ℕ) → Ranged (labels a v)) → (n : ℕ) → n ≤ mostVertices → length (list a n) ≤ mostOutput
+pub list-most : (a : Entries) → ((v : ℕ) → RangedEntry a v) → (n : ℕ) → n ≤ mostVertices → length (list a n) ≤ mostOutput
 unfolding list names
 list-most a r n h = let w = rows-most a r n h in let l = length-append names (rows a n) in omega arith
 

@@ -12,13 +12,14 @@ use Rattle.weights.specs.Figures.{isStruckMark}
 use Rattle.weights.specs.Measures.{algebra}
 use Rattle.refusal.specs.declared.Acceptance.the-variants.{Accepted}
 use Rattle.provenance.specs.Hypergraph.{Hypergraph}
-use Rattle.provenance.specs.BestFirst.{best-first}
+use Rattle.provenance.specs.BestFirst.{labels, best-first}
 use Rattle.columns.proofs.Filled.{take-filled}
 use Rattle.columns.specs.Columns.{Columns, columns, headAt, ownAt, strikeAt, part, tailAt}
 use Rattle.tables.specs.Table.{hypergraph}
 use Rattle.columns.specs.Acceptance.{acceptance}
 use Rattle.columns.proofs.Accepted.{AcceptedTable, table-accepted}
-use Rattle.settle.specs.Settling.{answersOf}
+use Rattle.settle.specs.Settling.{answersOf, entriesOf}
+use Rattle.provenance.specs.Pieces.{pieceColumn}
 use Rattle.text.specs.Tables.{Edge, edge, edgesFrom, edgesOf, closed}
 use Rattle.text.proofs.Rows.{length-heads, closed-edges, closed-accepted}
 use Rattle.readtable.specs.Read.{columnsRead}
@@ -77,9 +78,13 @@ module _ (m : Measure) (c : Columns) (p : acceptance c ≡ Accepted) where
         live = λ e. not (isStruckMark (same-edge e i .mark));
       }
 
-  pub answers-closed : answersOf m (closed c) ≡ answersOf m c
+  answers-closed : answersOf m (closed c) ≡ answersOf m c
   unfolding answersOf
   answers-closed = ap₂ (λ (H : Hypergraph) (own : ℕ → ℕ). best-first (algebra m) H own) same-hypergraph (λ i e. same-edge e i .own)
+
+  pub entries-closed : entriesOf m (closed c) ≡ entriesOf m c
+  unfolding entriesOf
+  entries-closed = let a = answers-closed in let H = same-hypergraph in λ i. record { labels = a i; pieces = pieceColumn (H i) (labels (a i)) (c .vertices) }
 
   -- the closed columns, filled into lent ones and read back from their start
   pub filled-back : (h o ms s t : List ℕ) → columnsRead (headerFor m (closed c)) (filledWith (closed c) m h o ms s t) ≡ closed c

@@ -12,7 +12,10 @@ use Rattle.provenance.specs.Labelling.{each, greatestDepth, noneZero, offerOf}
 use Rattle.provenance.specs.BestFirst.{opening, next, turn, turns, best-first}
 use Rattle.columns.specs.Worked.{worked}
 use Rattle.columns.specs.Acceptance.{allBelow, edgeAcceptance, edgesAcceptance, acceptance}
-use Rattle.settle.specs.Settling.{answersOf}
+use Rattle.settle.specs.Settling.{answersOf, entriesOf}
+use Rattle.provenance.specs.Support.{bill, bills}
+use Rattle.provenance.specs.Counting.{total}
+use Rattle.provenance.specs.Pieces.{piece, piecesAt, below}
 use Rattle.text.specs.Tables.{edgesFrom}
 use Rattle.text.specs.Render.{digitsOn, digits, word, firstWord as opened, measureText, header, markText, ownText, tailText, edgeText, edgesText, tableText, render}
 use Rattle.text.specs.Machine.{run, finish, parse}
@@ -31,8 +34,8 @@ rendered-cost : render Cost worked ≡ costText
 unfolding costText edgesFrom digitsOn digits word opened measureText header markText ownText tailText edgeText edgesText tableText
 rendered-cost = refl
 
-listed-cost : list (answersOf Cost worked) 5 ≡ costList
-unfolding costList fold weigh aheadOf each greatestDepth noneZero offerOf opening next turn turns best-first answersOf digitsOn digits names stateWord row rows list
+listed-cost : list (entriesOf Cost worked) 5 ≡ costList
+unfolding costList fold weigh aheadOf each greatestDepth noneZero offerOf opening next turn turns best-first answersOf entriesOf below piecesAt piece total bill bills digitsOn digits names stateWord row rows list
 listed-cost = refl
 
 pub worked-cost : report costText ≡ costList
@@ -45,8 +48,8 @@ rendered-days : render Days worked ≡ daysText
 unfolding daysText edgesFrom digitsOn digits word opened measureText header markText ownText tailText edgeText edgesText tableText
 rendered-days = refl
 
-listed-days : list (answersOf Days worked) 5 ≡ daysList
-unfolding daysList fold weigh aheadOf each greatestDepth noneZero offerOf opening next turn turns best-first answersOf digitsOn digits names stateWord row rows list
+listed-days : list (entriesOf Days worked) 5 ≡ daysList
+unfolding daysList fold weigh aheadOf each greatestDepth noneZero offerOf opening next turn turns best-first answersOf entriesOf below piecesAt piece total bill bills digitsOn digits names stateWord row rows list
 listed-days = refl
 
 pub worked-days : report daysText ≡ daysList

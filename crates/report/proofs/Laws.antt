@@ -7,46 +7,44 @@ use native.Mathlib.Omega.{arith}
 use lib.ListN.{length, take, drop, replicate, length-append, length-replicate}
 use Rattle.weights.specs.declared.Measure.{Measure}
 use Rattle.weights.specs.declared.Entry.{Entry}
-use Rattle.weights.specs.Labels.{entryOf}
 use Rattle.refusal.specs.declared.Refusal.{Refusal}
 use Rattle.refusal.specs.declared.Header.{Header}
 use Rattle.refusal.specs.declared.Acceptance.{Acceptance}
 use Rattle.refusal.specs.declared.Acceptance.the-variants as answer
 use Rattle.refusal.specs.declared.Reading.{Reading}
 use Rattle.refusal.specs.declared.Reading.the-variants as reading
-use Rattle.columns.specs.Columns.{Answers, Columns, answers}
-use Rattle.provenance.specs.BestFirst.{labels, blank}
+use Rattle.columns.specs.Columns.{Entries, Columns, entries}
 use Rattle.columns.specs.Acceptance.{mostVertices, lentAcceptance}
 use Rattle.columns.proofs.Accepted.{columns-accepted}
-use Rattle.settle.specs.Settling.{SettleOutcome, settled}
-use Rattle.settle.proofs.Demands.{answers-sized, settled-result, settled-left}
+use Rattle.settle.specs.Settling.{SettleOutcome, entryAt, settled}
+use Rattle.settle.proofs.Demands.{entries-sized, settled-result, settled-left}
 use Rattle.columns.specs.Filled.{filled}
 use Rattle.readtable.specs.Read.{ReadOutcome, readOutcome}
 use Rattle.writing.specs.Written.{Written}
 use Rattle.writing.proofs.Written.{lent, lent-room, within, written-part, written-as}
-use Rattle.report.specs.Report.{mostInput, mostOutput, row, rows, list, refusedLine, pricedAs, priced, listedAs, listed, readInput, report}
+use Rattle.report.specs.Report.{mostInput, mostOutput, row, rows, list, refusedLine, pricedAs, priced, blankEntries, listedAs, listed, readInput, report}
 use Rattle.report.specs.Pieces.{Lent, lentColumns}
 use Rattle.report.proofs.Reports.{report-short, report-fits, input-lent}
 
-rows-next : (a : Answers) (i : ℕ) → rows a (i + 1) ≡ rows a i ++ row i (entryOf (labels a i))
+rows-next : (a : Entries) (i : ℕ) → rows a (i + 1) ≡ rows a i ++ row i (entryAt a i)
 unfolding rows
 rows-next a i = ap (rows a) (add-one i)
 
-grows : (a : Answers) (i d : ℕ) → length (rows a i) ≤ length (rows a (i + d))
+grows : (a : Entries) (i d : ℕ) → length (rows a i) ≤ length (rows a (i + d))
 unfolding rows
 grows a i zero = let q : i + 0 ≡ i = omega arith in let e = ap (λ (k : ℕ). length (rows a k)) q in omega arith
 grows a i (suc d) =
     let q : i + suc d ≡ suc (i + d) = omega arith in
     let e = ap (λ (k : ℕ). length (rows a k)) q in
     let r = grows a i d in
-    let l = length-append (rows a (i + d)) (row (i + d) (entryOf (labels a (i + d)))) in
+    let l = length-append (rows a (i + d)) (row (i + d) (entryAt a (i + d))) in
     omega arith
 
 -- the rows so far are no longer than all
-pub rows-within : (a : Answers) (i n : ℕ) → i ≤ n → length (rows a i) ≤ length (rows a n)
+pub rows-within : (a : Entries) (i n : ℕ) → i ≤ n → length (rows a i) ≤ length (rows a n)
 rows-within a i n h = let q : i + (n - i) ≡ n = omega arith in let g = grows a i (n - i) in let e = ap (λ (k : ℕ). length (rows a k)) q in omega arith
 
-module _ (a : Answers) (old room : List ℕ) (i n at : ℕ) (h : i < n) (w : Written (rows a i) old at room) (l : length (rows a n) ≤ length old) (x : Entry) (q : x ≡ entryOf (labels a i)) where
+module _ (a : Entries) (old room : List ℕ) (i n at : ℕ) (h : i < n) (w : Written (rows a i) old at room) (l : length (rows a n) ≤ length old) (x : Entry) (q : x ≡ entryAt a i) where
   one-more : rows a (i + 1) ≡ rows a i ++ row i x
   one-more = rows-next a i ∙ ap (λ (z : Entry). rows a i ++ row i z) (sym q)
 
@@ -64,7 +62,7 @@ module _ (a : Answers) (old room : List ℕ) (i n at : ℕ) (h : i < n) (w : Wri
       → Written (rows a (i + 1)) old (at + r) (take at room ++ (new ++ drop (length room - at) (drop at room)))
   row-next r new m = written-as old (at + r) (take at room ++ (new ++ drop (length room - at) (drop at room))) (sym one-more) (written-part (rows a i) old at room w (row i x) r new fits m)
 
-pub rows-all : (a : Answers) (old room : List ℕ) (i n at : ℕ) → i ≤ n → n ≤ i → Written (rows a i) old at room → Written (rows a n) old at room
+pub rows-all : (a : Entries) (old room : List ℕ) (i n at : ℕ) → i ≤ n → n ≤ i → Written (rows a i) old at room → Written (rows a n) old at room
 rows-all a old room i n at h g w = let q : i ≡ n = omega arith in written-as old at room (ap (rows a) q) w
 
 -- Settling -------------------------------------------------------------------------------------------------------------------------------------
@@ -80,20 +78,22 @@ zeros-long n h = sym (ap length (take-zeros n mostVertices h) ∙ length-replica
 
 -- answer columns of n zeros, taken from larger ones
 pub priced-blank : (m : Measure) (c : Columns) (n : ℕ) → n ≤ mostVertices
-    → priced n (settled m c (answers (take n (replicate mostVertices 0)) (take n (replicate mostVertices 0)) (take n (replicate mostVertices 0)))) ≡ priced n (settled m c (blank n))
-priced-blank m c n h = ap (λ (z : List ℕ). priced n (settled m c (answers z z z))) (take-zeros n mostVertices h)
+    → priced n (settled m c (entries (take n (replicate mostVertices 0)) (take n (replicate mostVertices 0)) (take n (replicate mostVertices 0)) (take n (replicate mostVertices 0))))
+    ≡ priced n (settled m c (blankEntries n))
+priced-blank m c n h = ap (λ (z : List ℕ). priced n (settled m c (entries z z z z))) (take-zeros n mostVertices h)
 
-module _ (m : Measure) (c : Columns) (a : Answers) (x : Acceptance) (b : Answers) (q : record { result = x; left = b } ≡ settled m c a) where
+module _ (m : Measure) (c : Columns) (a : Entries) (x : Acceptance) (b : Entries) (q : record { result = x; left = b } ≡ settled m c a) where
   pub priced-refused : (r : Refusal) → x ≡ answer.Refused r → priced (c .vertices) (settled m c a) ≡ refusedLine r
   priced-refused r e = ap (priced (c .vertices)) (sym q) ∙ ap (λ (z : Acceptance). pricedAs (c .vertices) z b) e
 
   -- the columns left are as long as there are vertices
-  left-sized : x ≡ answer.Accepted → length (b .depths) ≡ c .vertices
+  left-sized : x ≡ answer.Accepted → length (b .labels .depths) ≡ c .vertices
   left-sized e =
       let p : lentAcceptance c a ≡ answer.Accepted = sym (settled-result m c a) ∙ sym (ap (λ (o : SettleOutcome). o .result) q) ∙ e in
-      ap (λ (o : SettleOutcome). length (o .left .depths)) q ∙ ap (λ (z : Answers). length (z .depths)) (settled-left m c a p) ∙ answers-sized m c (columns-accepted c a p .table) .depths
+      ap (λ (o : SettleOutcome). length (o .left .labels .depths)) q
+      ∙ ap (λ (z : Entries). length (z .labels .depths)) (settled-left m c a p) ∙ entries-sized m c (columns-accepted c a p .table) .labels .depths
 
-  pub priced-accepted : x ≡ answer.Accepted → priced (c .vertices) (settled m c a) ≡ list b (length (b .depths))
+  pub priced-accepted : x ≡ answer.Accepted → priced (c .vertices) (settled m c a) ≡ list b (length (b .labels .depths))
   priced-accepted e = ap (priced (c .vertices)) (sym q) ∙ ap (λ (z : Acceptance). pricedAs (c .vertices) z b) e ∙ ap (list b) (sym (left-sized e))
 
 -- The whole ------------------------------------------------------------------------------------------------------------------------------------
@@ -107,7 +107,7 @@ module _ (input : List ℕ) (short : length input ≤ mostInput) (a : Reading) (
   unfolding listedAs
   report-refused r e = report-short input short ∙ ap listed (sym q) ∙ ap (λ (z : Reading). listedAs z (readOutcome a h o ms s t)) e
 
-  pub report-table : (g : Header) → a ≡ reading.Table g → report input ≡ priced (g .vertices) (settled (g .measure) (lentColumns g h o ms s t) (blank (g .vertices)))
+  pub report-table : (g : Header) → a ≡ reading.Table g → report input ≡ priced (g .vertices) (settled (g .measure) (lentColumns g h o ms s t) (blankEntries (g .vertices)))
   unfolding listedAs
   report-table g e = report-short input short ∙ ap listed (sym q) ∙ ap (λ (z : Reading). listedAs z (readOutcome a h o ms s t)) e
 

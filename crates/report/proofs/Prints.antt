@@ -8,7 +8,7 @@ use lib.ListN.{length, take}
 use Rattle.weights.specs.declared.Measure.{Measure}
 use Rattle.refusal.specs.declared.Extent.the-variants as extent
 use Rattle.columns.specs.Columns.{Columns}
-use Rattle.settle.specs.Settling.{answersOf}
+use Rattle.settle.specs.Settling.{entriesOf}
 use Rattle.text.specs.Tables.{closed}
 use Rattle.text.specs.Machine.{Parse, Whole, Wrong, parse}
 use Rattle.text.proofs.Permitted.{read-permitted, wrong-unpermitted}
@@ -17,7 +17,7 @@ use Rattle.writetable.specs.Write.{writeTable}
 use Rattle.roundtrip.specs.RoundTrip.{Room, headerFor}
 use Rattle.roundtrip.proofs.RoundTrip.{written, read-after-write}
 use Rattle.report.specs.Report.{mostInput, report}
-use Rattle.report.proofs.Closed.{answers-closed, filled-back}
+use Rattle.report.proofs.Closed.{entries-closed, filled-back}
 use Rattle.report.proofs.Reports.{report-long, report-rendered, report-unpermitted}
 use Rattle.report.specs.Prints.{Prints, ReadsBack}
 
@@ -47,4 +47,4 @@ reads-back m c room k h o ms s t e r =
     let a = written m c room k e .0 in
     let q = read-after-write m c room k h o ms s t e r in
     let b = ap (columnsRead (headerFor m (closed c))) q ∙ filled-back m c a h o ms s t in
-    record { told = ap (λ (x : ReadOutcome). x .answer) q; table = b; answers = ap (answersOf m) b ∙ answers-closed m c a }
+    record { told = ap (λ (x : ReadOutcome). x .answer) q; table = b; answers = ap (entriesOf m) b ∙ entries-closed m c a }

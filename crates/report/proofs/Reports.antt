@@ -14,11 +14,10 @@ use Rattle.refusal.specs.declared.Acceptance.the-variants.{Accepted}
 use Rattle.refusal.specs.declared.Reading.{Reading}
 use Rattle.refusal.specs.declared.Reading.the-variants as reading
 use Rattle.refusal.specs.Refusals.{placeOf, columnOf}
-use Rattle.columns.specs.Columns.{Answers, Columns}
-use Rattle.provenance.specs.BestFirst.{blank}
+use Rattle.columns.specs.Columns.{Entries, Columns}
 use Rattle.columns.specs.Acceptance.{mostEdges, mostListed, acceptance, lentAcceptance}
 use Rattle.columns.proofs.Accepted.{table-accepted, columns-accept}
-use Rattle.settle.specs.Settling.{answersOf, settled}
+use Rattle.settle.specs.Settling.{entriesOf, settled}
 use Rattle.settle.proofs.Demands.{settled-result}
 use Rattle.text.specs.Tables.{Table, headsOf, ownsOf, marksOf, spansFrom, tailsOf, closed}
 use Rattle.text.specs.Render.{render, Permitted}
@@ -34,9 +33,9 @@ use Rattle.readtable.specs.Read.{ReadOutcome, columnsRead, roomFor, readInto}
 use Rattle.roundtrip.specs.RoundTrip.{Room, headerFor, filledWith}
 use Rattle.roundtrip.proofs.RoundTrip.{held, read-accepted, read-rendered}
 use Rattle.roundtrip.proofs.Refused.{unpermitted-is-refused}
-use Rattle.report.specs.Report.{mostInput, mostOutput, list, refusedLine, priced, listedAs, listed, readInput, report}
+use Rattle.report.specs.Report.{mostInput, mostOutput, list, refusedLine, priced, blankEntries, listedAs, listed, readInput, report}
 use Rattle.report.specs.Pieces.{Lent}
-use Rattle.report.proofs.Closed.{answers-closed, filled-back}
+use Rattle.report.proofs.Closed.{entries-closed, filled-back}
 use Rattle.report.proofs.Bounds.{answers-ranged, list-most, refused-most, column-most, wrong-low}
 
 -- A table that was read ------------------------------------------------------------------------------------------------------------------------
@@ -49,17 +48,20 @@ module _ (input : List ℕ) (g : Header) (e : readInput input .answer ≡ readin
   unfolding readInput
   input-accepted = read-accepted input _ _ _ _ _ g e
 
-  lent : lentAcceptance table (blank (g .vertices)) ≡ Accepted
+  lent : lentAcceptance table (blankEntries (g .vertices)) ≡ Accepted
   lent =
-      columns-accept table (blank (g .vertices)) input-accepted
-      (record { weights = length-replicate (g .vertices) 0; depths = length-replicate (g .vertices) 0; edges = length-replicate (g .vertices) 0 })
+      columns-accept table (blankEntries (g .vertices)) input-accepted
+      (record {
+        labels = record { weights = length-replicate (g .vertices) 0; depths = length-replicate (g .vertices) 0; edges = length-replicate (g .vertices) 0 };
+        pieces = length-replicate (g .vertices) 0;
+      })
 
   -- settling it is never refused
-  pub read-settles : settled (g .measure) table (blank (g .vertices)) .result ≡ Accepted
-  read-settles = settled-result (g .measure) table (blank (g .vertices)) ∙ lent
+  pub read-settles : settled (g .measure) table (blankEntries (g .vertices)) .result ≡ Accepted
+  read-settles = settled-result (g .measure) table (blankEntries (g .vertices)) ∙ lent
 
   -- so its list is printed
-  pub read-listed : listed (readInput input) ≡ list (answersOf (g .measure) table) (g .vertices)
+  pub read-listed : listed (readInput input) ≡ list (entriesOf (g .measure) table) (g .vertices)
   unfolding listedAs settled
   read-listed = rw (e, lent)
 
@@ -102,7 +104,7 @@ listed-fits input short = go (readInput input .answer) refl
     go (reading.Table g) e =
         let a = input-accepted input g e in
         let m =
-        list-most (answersOf (g .measure) (columnsRead g (readInput input))) (answers-ranged (g .measure) (columnsRead g (readInput input)) a)
+        list-most (entriesOf (g .measure) (columnsRead g (readInput input))) (answers-ranged (g .measure) (columnsRead g (readInput input)) a)
         (g .vertices) (table-accepted (columnsRead g (readInput input)) a .few) in
         subst (λ (z : List ℕ). length z ≤ mostOutput) (sym (read-listed input g e)) m
 
@@ -138,12 +140,12 @@ module _ (m : Measure) (c : Columns) (a : acceptance c ≡ Accepted) where
   columns-back = ap (columnsRead (headerFor m (closed c))) rendered ∙ filled-back m c a (zeros mostEdges) (zeros mostEdges) (zeros mostEdges) (zeros (2 * mostEdges)) (zeros mostListed)
 
   -- of an accepted table whose text is short enough: the list of its best-first answers
-  pub report-rendered : length (render m c) ≤ mostInput → report (render m c) ≡ list (answersOf m c) (c .vertices)
+  pub report-rendered : length (render m c) ≤ mostInput → report (render m c) ≡ list (entriesOf m c) (c .vertices)
   report-rendered h =
       report-short (render m c) h
       ∙ read-listed (render m c) (headerFor m (closed c)) (ap (λ (x : ReadOutcome). x .answer) rendered)
-      ∙ ap (λ (z : Columns). list (answersOf m z) (c .vertices)) columns-back
-      ∙ ap (λ (z : Answers). list z (c .vertices)) (answers-closed m c a)
+      ∙ ap (λ (z : Columns). list (entriesOf m z) (c .vertices)) columns-back
+      ∙ ap (λ (z : Entries). list z (c .vertices)) (entries-closed m c a)
 
 -- of a text that is not permitted: 14, at the first line that breaks a rule, and at the first byte that can't stand where it stands
 pub report-unpermitted : (input : List ℕ) → length input ≤ mostInput → (Permitted input → ⊥)
@@ -182,7 +184,7 @@ input-lent input g room short large e =
     let ms = ap (λ (x : ReadOutcome). length (x .strikes)) (k .outcome) ∙ length-filled (marksOf es) (replicate mostEdges 0) (omega arith) in
     let ss = ap (λ (x : ReadOutcome). length (x .spans)) (k .outcome) ∙ length-filled (spansFrom 0 es) (replicate (2 * mostEdges) 0) (omega arith) in
     let ts = ap (λ (x : ReadOutcome). length (x .tails)) (k .outcome) ∙ length-filled (tailsOf es) (replicate mostListed 0) (omega arith) in
-    let y : listed (readInput input) ≡ priced (g .vertices) (settled (g .measure) (columnsRead g (readInput input)) (blank (g .vertices))) = unfold listedAs in
+    let y : listed (readInput input) ≡ priced (g .vertices) (settled (g .measure) (columnsRead g (readInput input)) (blankEntries (g .vertices))) = unfold listedAs in
     ap (λ (z : Reading). listedAs z (readInput input)) e in
     let z = ap length (report-short input short ∙ y) in
     let w = report-fits input in

@@ -4,12 +4,11 @@ use mathlib.Core.List.{List}
 use lib.ListN.{length}
 use Rattle.refusal.specs.declared.Header.{Header}
 use Rattle.refusal.specs.declared.Reading.the-variants as reading
-use Rattle.provenance.specs.BestFirst.{blank}
 use Rattle.columns.specs.Columns.{Columns}
 use Rattle.columns.specs.Acceptance.{mostVertices}
 use Rattle.settle.specs.Settling.{settled}
 use Rattle.readtable.specs.Read.{readOutcome, columnsRead}
-use Rattle.report.specs.Report.{priced}
+use Rattle.report.specs.Report.{priced, blankEntries}
 
 -- the table that a header tells of, at the start of five columns
 abbrev pub lentColumns : Header → (heads own strikes spans tails : List ℕ) → Columns
@@ -23,4 +22,4 @@ pub record Lent (g : Header) (h o ms s t : List ℕ) (room : ℕ) : Type 0 where
   pub strikes : g .edges ≤ length ms
   pub spans : 2 * g .edges ≤ length s
   pub tails : g .listed ≤ length t
-  pub fits : length (priced (g .vertices) (settled (g .measure) (lentColumns g h o ms s t) (blank (g .vertices)))) ≤ room
+  pub fits : length (priced (g .vertices) (settled (g .measure) (lentColumns g h o ms s t) (blankEntries (g .vertices)))) ≤ room

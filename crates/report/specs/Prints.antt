@@ -8,7 +8,7 @@ use Rattle.weights.specs.declared.Measure.{Measure}
 use Rattle.refusal.specs.declared.Refusal.the-variants.{Text, InputLength}
 use Rattle.refusal.specs.declared.Reading.the-variants as reading
 use Rattle.columns.specs.Columns.{Columns}
-use Rattle.settle.specs.Settling.{answersOf}
+use Rattle.settle.specs.Settling.{entriesOf}
 use Rattle.text.specs.Tables.{closed}
 use Rattle.text.specs.Render.{Permitted}
 use Rattle.text.specs.Permitted.{FirstWrong}
@@ -21,7 +21,7 @@ use Rattle.report.specs.Report.{mostInput, list, refusedLine}
 -- line that breaks a rule and the first byte that can't stand where it stands
 pub data Prints (input : List ℕ) : List ℕ → Type 0 where
   long : mostInput < length input → Prints input (refusedLine InputLength)
-  listed : length input ≤ mostInput → (p : Permitted input) → Prints input (list (answersOf (p .measure) (p .table)) (p .table .vertices))
+  listed : length input ≤ mostInput → (p : Permitted input) → Prints input (list (entriesOf (p .measure) (p .table)) (p .table .vertices))
   wrong : length input ≤ mostInput → ¬ Permitted input → (k c : ℕ) → FirstWrong input k → FirstByte input k c
       → Prints input (refusedLine (Text (record { 0 = k }) (record { 0 = c })))
 
@@ -29,4 +29,4 @@ pub data Prints (input : List ℕ) : List ℕ → Type 0 where
 pub record ReadsBack (m : Measure) (c : Columns) (back : ReadOutcome) : Type 0 where
   pub told : back .answer ≡ reading.Table (headerFor m (closed c))
   pub table : columnsRead (headerFor m (closed c)) back ≡ closed c
-  pub answers : answersOf m (columnsRead (headerFor m (closed c)) back) ≡ answersOf m c
+  pub answers : entriesOf m (columnsRead (headerFor m (closed c)) back) ≡ entriesOf m c

@@ -8,7 +8,6 @@ use Rattle.weights.specs.declared.State.{State}
 use Rattle.weights.specs.declared.State.the-variants.{Made, Over, Unmade}
 use Rattle.weights.specs.declared.Entry.{Entry}
 use Rattle.weights.specs.Choice.{pick}
-use Rattle.weights.specs.Labels.{entryOf}
 use Rattle.refusal.specs.declared.Refusal.{Refusal}
 use Rattle.refusal.specs.declared.Refusal.the-variants.{InputLength}
 use Rattle.refusal.specs.declared.Acceptance.{Acceptance}
@@ -16,10 +15,10 @@ use Rattle.refusal.specs.declared.Acceptance.the-variants as answer
 use Rattle.refusal.specs.declared.Reading.{Reading}
 use Rattle.refusal.specs.declared.Reading.the-variants as reading
 use Rattle.refusal.specs.Refusals.{numberOf, placeOf, columnOf}
-use Rattle.columns.specs.Columns.{Answers}
-use Rattle.provenance.specs.BestFirst.{labels, blank}
+use Rattle.columns.specs.Columns.{Entries}
+use Rattle.provenance.specs.BestFirst.{blank}
 use Rattle.columns.specs.Acceptance.{mostEdges, mostListed}
-use Rattle.settle.specs.Settling.{SettleOutcome, settled}
+use Rattle.settle.specs.Settling.{SettleOutcome, entryAt, settled}
 use Rattle.text.specs.Render.{digits, tailText}
 use Rattle.readtable.specs.Read.{ReadOutcome, columnsRead, readTable}
 
@@ -27,15 +26,15 @@ use Rattle.readtable.specs.Read.{ReadOutcome, columnsRead, readTable}
 abbrev pub mostInput : ℕ
 mostInput = 65535
 
--- a bound on the bytes of an output (`report-fits`): the names, and 1,024 rows of 34, as if every part had four digits
+-- a bound on the bytes of an output (`report-fits`): the names, and 1,024 rows of 45, as if every part had four digits
 abbrev pub mostOutput : ℕ
-mostOutput = 34845
+mostOutput = 46116
 
 -- The list -------------------------------------------------------------------------------------------------------------------------------------
 
--- `part state figure depth line`
+-- `part state figure depth line pieces`
 unfoldable pub names : List ℕ
-names = 112 ∷ 97 ∷ 114 ∷ 116 ∷ 32 ∷ 115 ∷ 116 ∷ 97 ∷ 116 ∷ 101 ∷ 32 ∷ 102 ∷ 105 ∷ 103 ∷ 117 ∷ 114 ∷ 101 ∷ 32 ∷ 100 ∷ 101 ∷ 112 ∷ 116 ∷ 104 ∷ 32 ∷ 108 ∷ 105 ∷ 110 ∷ 101 ∷ 10 ∷ []
+names = 112 ∷ 97 ∷ 114 ∷ 116 ∷ 32 ∷ 115 ∷ 116 ∷ 97 ∷ 116 ∷ 101 ∷ 32 ∷ 102 ∷ 105 ∷ 103 ∷ 117 ∷ 114 ∷ 101 ∷ 32 ∷ 100 ∷ 101 ∷ 112 ∷ 116 ∷ 104 ∷ 32 ∷ 108 ∷ 105 ∷ 110 ∷ 101 ∷ 32 ∷ 112 ∷ 105 ∷ 101 ∷ 99 ∷ 101 ∷ 115 ∷ 10 ∷ []
 
 -- `made`, `over`, `unmade`
 unfoldable pub stateWord : State → List ℕ
@@ -43,16 +42,17 @@ stateWord Made = 109 ∷ 97 ∷ 100 ∷ 101 ∷ []
 stateWord Over = 111 ∷ 118 ∷ 101 ∷ 114 ∷ []
 stateWord Unmade = 117 ∷ 110 ∷ 109 ∷ 97 ∷ 100 ∷ 101 ∷ []
 
--- part, state, figure, depth, line, single spaces between and an LF
+-- part, state, figure, depth, line and, "as a last field" (document 02, 2026-09), pieces, single spaces between and an LF
 unfoldable pub row : ℕ → Entry → List ℕ
-row v e = digits v ++ (32 ∷ stateWord (e .state)) ++ (32 ∷ digits (e .weight .0)) ++ (32 ∷ digits (e .depth)) ++ (32 ∷ digits (e .edge .0)) ++ 10 ∷ []
+row v e =
+    digits v ++ (32 ∷ stateWord (e .state)) ++ (32 ∷ digits (e .weight .0)) ++ (32 ∷ digits (e .depth)) ++ (32 ∷ digits (e .edge .0)) ++ (32 ∷ digits (e .pieces)) ++ 10 ∷ []
 
 -- of the parts below k
-unfoldable pub rows : Answers → ℕ → List ℕ
+unfoldable pub rows : Entries → ℕ → List ℕ
 rows a zero = []
-rows a (suc k) = rows a k ++ row k (entryOf (labels a k))
+rows a (suc k) = rows a k ++ row k (entryAt a k)
 
-unfoldable pub list : Answers → ℕ → List ℕ
+unfoldable pub list : Entries → ℕ → List ℕ
 list a n = names ++ rows a n
 
 -- A refusal --------------------------------------------------------------------------------------------------------------------------------------
@@ -75,17 +75,21 @@ refusedLine r = refusedWith (numbersOf r)
 -- The whole --------------------------------------------------------------------------------------------------------------------------------------
 
 -- by what settling a table of n parts returned
-abbrev pub pricedAs : (n : ℕ) → Acceptance → Answers → List ℕ
+abbrev pub pricedAs : (n : ℕ) → Acceptance → Entries → List ℕ
 pricedAs n answer.Accepted a = list a n
 pricedAs n (answer.Refused r) a = refusedLine r
 
 abbrev pub priced : (n : ℕ) → SettleOutcome → List ℕ
 priced n o = pricedAs n (o .result) (o .left)
 
+-- answer columns of n zeros
+abbrev pub blankEntries : ℕ → Entries
+blankEntries n = record { labels = blank n; pieces = replicate n 0 }
+
 -- by what reading a text returned: the table that was read is settled from answer columns of zeros
 unfoldable pub listedAs : Reading → ReadOutcome → List ℕ
 listedAs (reading.Refused r) x = refusedLine r
-listedAs (reading.Table g) x = priced (g .vertices) (settled (g .measure) (columnsRead g x) (blank (g .vertices)))
+listedAs (reading.Table g) x = priced (g .vertices) (settled (g .measure) (columnsRead g x) (blankEntries (g .vertices)))
 
 abbrev pub listed : ReadOutcome → List ℕ
 listed x = listedAs (x .answer) x

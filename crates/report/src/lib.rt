@@ -16,21 +16,20 @@ ghost use mathlib.Core.Path.{_≡_};
 ghost use mathlib.Core.List.{_∷_, _++_};
 ghost use Prim.Native.Nat.{_≤_};
 ghost use lib.ListN.{length};
-ghost use Rattle.provenance.specs.BestFirst.{blank};
-ghost use Rattle.columns.specs.Columns.{columns, answers};
+ghost use Rattle.columns.specs.Columns.{columns, entries};
 ghost use Rattle.settle.specs.Settling.{settled};
 ghost use Rattle.text.specs.Render.{digits};
 ghost use Rattle.columns.specs.Filled.{filled};
 ghost use Rattle.writing.specs.Written.{Written};
-ghost use Rattle.report.specs.Report.{stateWord, row, rows, list, refusedWith, refusedLine, priced, report};
+ghost use Rattle.report.specs.Report.{stateWord, row, rows, list, refusedWith, refusedLine, priced, blankEntries, report};
 ghost use Rattle.report.specs.Pieces.{Lent, lentColumns};
 
 // The most bytes of an input.
 pub const MOST_INPUT: usize = 65535;
 
-// A bound on the bytes of an output: the names, and 1,024 rows of 34, as if every part had four
+// A bound on the bytes of an output: the names, and 1,024 rows of 45, as if every part had four
 // digits.
-pub const MOST_OUTPUT: usize = 34845;
+pub const MOST_OUTPUT: usize = 46116;
 
 // A state's word behind a space.
 fn put_state(room: &mut [u8], state: State) -> usize
@@ -54,7 +53,7 @@ fn put_stem(room: &mut [u8], v: Vertex, state: State) -> usize
     at + width
 }
 
-// The line of a part. Its three numbers are written as a list of numbers is.
+// The line of a part. Its four numbers are written as a list of numbers is.
 fn put_row(room: &mut [u8], v: Vertex, entry: Entry) -> usize
     requires { ⌜ length (row (v .0) entry) ≤ length (now room) ⌝ }
     ensures { λ r. ⌜ Written (row (v .0) entry) (now (room .entry)) r (now (room .exit)) ⌝ }
@@ -62,24 +61,30 @@ fn put_row(room: &mut [u8], v: Vertex, entry: Entry) -> usize
     let state = entry.state;
     let weight = entry.weight;
     let edge = entry.edge;
-    let numbers = [weight.0, entry.depth, edge.0];
+    let numbers = [weight.0, entry.depth, edge.0, entry.pieces];
     let at = put_stem(room, v, state);
     let width = put_tail(&mut room[at..], &numbers);
     at + width
 }
 
 // The lines of all parts.
-fn put_rows(room: &mut [u8], weights: &[u64], depths: &[u64], edges: &[u64]) -> usize
-    requires { ⌜ length (rows (answers (now weights) (now depths) (now edges)) (length (now depths))) ≤ length (now room) ⌝ }
+fn put_rows(
+    room: &mut [u8],
+    weights: &[u64],
+    depths: &[u64],
+    edges: &[u64],
+    pieces: &[u64],
+) -> usize
+    requires { ⌜ length (rows (entries (now weights) (now depths) (now edges) (now pieces)) (length (now depths))) ≤ length (now room) ⌝ }
     ensures { λ r.
-        let a = answers (now (weights .entry)) (now (depths .entry)) (now (edges .entry)) in
+        let a = entries (now (weights .entry)) (now (depths .entry)) (now (edges .entry)) (now (pieces .entry)) in
         ⌜ Written (rows a (length (now (depths .entry)))) (now (room .entry)) r (now (room .exit)) ⌝ }
 {
     let mut at: usize = 0;
     let mut i = 0;
     while i < depths.len() {
         let v = Vertex(i as u64);
-        let entry = settle::entry(weights, depths, edges, v);
+        let entry = settle::entry(weights, depths, edges, pieces, v);
         at += put_row(&mut room[at..], v, entry);
         i += 1;
     }
@@ -87,14 +92,20 @@ fn put_rows(room: &mut [u8], weights: &[u64], depths: &[u64], edges: &[u64]) -> 
 }
 
 // The lines of all parts under the line of names.
-fn put_list(room: &mut [u8], weights: &[u64], depths: &[u64], edges: &[u64]) -> usize
-    requires { ⌜ length (list (answers (now weights) (now depths) (now edges)) (length (now depths))) ≤ length (now room) ⌝ }
+fn put_list(
+    room: &mut [u8],
+    weights: &[u64],
+    depths: &[u64],
+    edges: &[u64],
+    pieces: &[u64],
+) -> usize
+    requires { ⌜ length (list (entries (now weights) (now depths) (now edges) (now pieces)) (length (now depths))) ≤ length (now room) ⌝ }
     ensures { λ r.
-        let a = answers (now (weights .entry)) (now (depths .entry)) (now (edges .entry)) in
+        let a = entries (now (weights .entry)) (now (depths .entry)) (now (edges .entry)) (now (pieces .entry)) in
         ⌜ Written (list a (length (now (depths .entry)))) (now (room .entry)) r (now (room .exit)) ⌝ }
 {
-    let at = put_bytes(room, b"part state figure depth line\n");
-    let width = put_rows(&mut room[at..], weights, depths, edges);
+    let at = put_bytes(room, b"part state figure depth line pieces\n");
+    let width = put_rows(&mut room[at..], weights, depths, edges, pieces);
     at + width
 }
 
@@ -137,13 +148,14 @@ fn put_priced(
     weights: &mut [u64],
     depths: &mut [u64],
     edges: &mut [u64],
+    pieces: &mut [u64],
 ) -> usize
     requires { let c = columns n (now heads) (now own) (now strikes) (now spans) (now tails) in
-        let a = answers (now weights) (now depths) (now edges) in
+        let a = entries (now weights) (now depths) (now edges) (now pieces) in
         ⌜ length (priced n (settled measure c a)) ≤ length (now room) ⌝ }
     ensures { λ r.
         let c = columns n (now (heads .entry)) (now (own .entry)) (now (strikes .entry)) (now (spans .entry)) (now (tails .entry)) in
-        let a = answers (now (weights .entry)) (now (depths .entry)) (now (edges .entry)) in
+        let a = entries (now (weights .entry)) (now (depths .entry)) (now (edges .entry)) (now (pieces .entry)) in
         ⌜ Written (priced n (settled measure c a)) (now (room .entry)) r (now (room .exit)) ⌝ }
 {
     let answer = settle::settle(
@@ -157,12 +169,13 @@ fn put_priced(
         weights,
         depths,
         edges,
+        pieces,
     );
     match answer {
         Acceptance::Refused(r) => return put_refused(room, r),
         Acceptance::Accepted => {}
     }
-    put_list(room, weights, depths, edges)
+    put_list(room, weights, depths, edges, pieces)
 }
 
 // The table that was read is priced from answer columns of zeros.
@@ -178,7 +191,7 @@ fn put_read(
     requires { ⌜ Lent header (now heads) (now own) (now strikes) (now spans) (now tails) (length (now room)) ⌝ }
     ensures { λ r.
         let c = lentColumns header (now (heads .entry)) (now (own .entry)) (now (strikes .entry)) (now (spans .entry)) (now (tails .entry)) in
-        ⌜ Written (priced (header .vertices) (settled (header .measure) c (blank (header .vertices)))) (now (room .entry)) r (now (room .exit)) ⌝ }
+        ⌜ Written (priced (header .vertices) (settled (header .measure) c (blankEntries (header .vertices)))) (now (room .entry)) r (now (room .exit)) ⌝ }
 {
     let measure = header.measure;
     let n = header.vertices;
@@ -189,6 +202,7 @@ fn put_read(
     let mut weights = [0u64; 1024];
     let mut depths = [0u64; 1024];
     let mut edges = [0u64; 1024];
+    let mut pieces = [0u64; 1024];
     put_priced(
         room,
         measure,
@@ -201,6 +215,7 @@ fn put_read(
         &mut weights[..parts],
         &mut depths[..parts],
         &mut edges[..parts],
+        &mut pieces[..parts],
     )
 }
 

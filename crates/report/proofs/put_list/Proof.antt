@@ -4,7 +4,7 @@ use Prim.Native.Nat.{ℕ, _≤_}
 use native.Mathlib.Omega.{arith}
 use borrow.Author.Needs.{needs}
 use lib.ListN.{length}
-use Rattle.columns.specs.Columns.{answers}
+use Rattle.columns.specs.Columns.{entries}
 use Rattle.writing.proofs.Written.{lent-room, within, written-part, first-fits}
 use Rattle.report.specs.Report.{names, rows, list}
 use Rattle.report.proofs.put_list.Statement.{statement}
@@ -12,7 +12,7 @@ use Rattle.report.proofs.put_list.Tie as tie
 
 -- the piece behind the names
 abbrev back : tie.Start → List ℕ
-back s = rows (answers (s .args .weights .now) (s .args .depths .now) (s .args .edges .now)) (length (s .args .depths .now))
+back s = rows (entries (s .args .weights .now) (s .args .depths .now) (s .args .edges .now) (s .args .pieces .now)) (length (s .args .depths .now))
 
 -- both have room
 whole : (c : tie.Start) → length (names ++ back c) ≤ length (c .args .room .now)
@@ -21,11 +21,11 @@ whole c = c .pre
 
 put-bytes-requires : tie.Need-put-bytes-requires
 unfolding list names
-put-bytes-requires c κs = let s = c .before .before .before .before .before .before in first-fits names (back s) (s .args .room .now) (whole s)
+put-bytes-requires c κs = let s = c .before .before .before .before .before .before .before in first-fits names (back s) (s .args .room .now) (whole s)
 
 sub-put-rows : tie.Need-sub-put-rows
 unfolding list names
-sub-put-rows c = let s = c .before .before .before .before .before .before .before .before .before in within names _ _ _ (c .before .before .put-bytes .ensures) (back s) (whole s)
+sub-put-rows c = let s = c .before .before .before .before .before .before .before .before .before .before in within names _ _ _ (c .before .before .put-bytes .ensures) (back s) (whole s)
 
 part-put-rows-start : tie.Need-part-put-rows-start
 part-put-rows-start c = let r = sub-put-rows c in search (needs, r)
@@ -33,7 +33,7 @@ part-put-rows-start c = let r = sub-put-rows c in search (needs, r)
 put-rows-requires : tie.Need-put-rows-requires
 unfolding list names
 put-rows-requires c κs = let k = c .before in
-    let s = k .before .before .before .before .before .before .before .before .before in
+    let s = k .before .before .before .before .before .before .before .before .before .before in
     lent-room names _ _ _ (k .before .before .put-bytes .ensures) (back s) (whole s)
 
 returns : tie.Need-returns
@@ -41,12 +41,12 @@ unfolding list names
 returns c =
     let p = c .before .before in
     let k = p .before .before in
-    let s = k .before .before .before .before .before .before .before .before .before in
+    let s = k .before .before .before .before .before .before .before .before .before .before in
     written-part names _ _ _ (k .before .before .put-bytes .ensures) (back s) _ _ (whole s) (p .put-rows .ensures)
 
 add-result : tie.Need-add-result
 add-result c =
-    let s = c .before .before .before .before .before .before .before .before .before .before .before .before .before in
+    let s = c .before .before .before .before .before .before .before .before .before .before .before .before .before .before in
     let n = returns c .count in
     let w = s .pre in
     omega (arith, s .good)

@@ -41,8 +41,12 @@ slice-aggregate-put-priced-8 : tie.Need-slice-aggregate-put-priced-8
 slice-aggregate-put-priced-8 c = let s = c .before .before .before .before .before .before .before .before .before .before .before .before .before .before .before in
     zeros-long (s .args .header .vertices) (s .pre .few)
 
+slice-aggregate-put-priced-9 : tie.Need-slice-aggregate-put-priced-9
+slice-aggregate-put-priced-9 c = let s = c .before .before .before .before .before .before .before .before .before .before .before .before .before .before .before .before in
+    zeros-long (s .args .header .vertices) (s .pre .few)
+
 put-priced-requires : tie.Need-put-priced-requires
-put-priced-requires c κs = let s = c .before .before .before .before .before .before .before .before .before .before .before .before .before .before .before in
+put-priced-requires c κs = let s = c .before .before .before .before .before .before .before .before .before .before .before .before .before .before .before .before in
     subst (λ (z : List ℕ). length z ≤ length (s .args .room .now))
     (sym
     (priced-blank (s .args .header .measure)
@@ -51,8 +55,8 @@ put-priced-requires c κs = let s = c .before .before .before .before .before .b
     (s .pre .fits)
 
 returns : tie.Need-returns
-returns c = let p = c .before .before .before .before .before in
-    let s = p .before .before .before .before .before .before .before .before .before .before .before .before .before .before .before .before in
+returns c = let p = c .before .before .before .before .before .before in
+    let s = p .before .before .before .before .before .before .before .before .before .before .before .before .before .before .before .before .before in
     written-as _ _ _
     (priced-blank (s .args .header .measure)
     (lentColumns (s .args .header) (s .args .heads .now) (s .args .own .now) (s .args .strikes .now) (s .args .spans .now) (s .args .tails .now))
@@ -75,6 +79,8 @@ put-read-spec =
     slice-aggregate-put-priced-7
     (λ c. search needs)
     slice-aggregate-put-priced-8
+    (λ c. search needs)
+    slice-aggregate-put-priced-9
     put-priced-requires
     (λ c. search needs)
     returns)

@@ -17,7 +17,7 @@ abbrev front : tie.Start → List ℕ
 front s = digits (s .args .v .0) ++ (32 ∷ stateWord (s .args .entry .state))
 
 abbrev back : tie.Start → List ℕ
-back s = tailText (s .args .entry .weight .0 ∷ s .args .entry .depth ∷ s .args .entry .edge .0 ∷ []) ++ 10 ∷ []
+back s = tailText (s .args .entry .weight .0 ∷ s .args .entry .depth ∷ s .args .entry .edge .0 ∷ s .args .entry .pieces ∷ []) ++ 10 ∷ []
 
 -- both have room
 whole : (c : tie.Start) → length (front c ++ back c) ≤ length (c .args .room .now)

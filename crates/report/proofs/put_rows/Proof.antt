@@ -3,7 +3,7 @@ use Prim.Native.Nat.{_+_, _-_, _≤_}
 use native.Mathlib.Omega.{arith}
 use borrow.Author.Needs.{needs}
 use lib.ListN.{length}
-use Rattle.columns.specs.Columns.{answers}
+use Rattle.columns.specs.Columns.{entries}
 use Rattle.writing.specs.Written.{Written}
 use Rattle.writing.proofs.Written.{written-none}
 use Rattle.report.specs.Report.{rows}
@@ -12,10 +12,10 @@ use Rattle.report.proofs.put_rows.Statement.{statement}
 use Rattle.report.proofs.put_rows.Tie as tie
 
 abbrev Inv-loop : tie.InvT-loop
-Inv-loop room₀ weights depths edges at₀ i₀ room at i = (i ≤ length depths) × Written (rows (answers weights depths edges) i) room₀ at room
+Inv-loop room₀ weights depths edges pieces at₀ i₀ room at i = (i ≤ length depths) × Written (rows (entries weights depths edges pieces) i) room₀ at room
 
 abbrev μ-loop : tie.MeasureT-loop
-μ-loop room₀ weights depths edges at₀ i₀ room at i = length depths - i
+μ-loop room₀ weights depths edges pieces at₀ i₀ room at i = length depths - i
 
 loop-holds : tie.Need-loop-holds Inv-loop μ-loop
 unfolding rows
@@ -24,8 +24,8 @@ loop-holds c = (omega arith, written-none _)
 sub-put-row : tie.Need-sub-put-row Inv-loop μ-loop
 sub-put-row c = let e = c in
     let l = e .before in
-    let s = l .before .before .before .before .before .before in
-    row-starts (answers (s .args .weights .now) (s .args .depths .now) (s .args .edges .now)) _ _ (l .before .loop .i)
+    let s = l .before .before .before .before .before .before .before in
+    row-starts (entries (s .args .weights .now) (s .args .depths .now) (s .args .edges .now) (s .args .pieces .now)) _ _ (l .before .loop .i)
     (length (s .args .depths .now)) (l .before .loop .at) (l .loop-test .taken) (l .before .loop .inv .1) (s .pre) (e .entry .result)
     (e .entry .ensures)
 
@@ -35,8 +35,8 @@ part-put-row-start c = let r = sub-put-row c in search (needs, r)
 put-row-requires : tie.Need-put-row-requires Inv-loop μ-loop
 put-row-requires c κs = let e = c .before in
     let l = e .before in
-    let s = l .before .before .before .before .before .before in
-    row-room (answers (s .args .weights .now) (s .args .depths .now) (s .args .edges .now)) _ _ (l .before .loop .i) (length (s .args .depths .now))
+    let s = l .before .before .before .before .before .before .before in
+    row-room (entries (s .args .weights .now) (s .args .depths .now) (s .args .edges .now) (s .args .pieces .now)) _ _ (l .before .loop .i) (length (s .args .depths .now))
     (l .before .loop .at) (l .loop-test .taken) (l .before .loop .inv .1) (s .pre) (e .entry .result) (e .entry .ensures)
 
 loop-again : tie.Need-loop-again Inv-loop μ-loop
@@ -44,9 +44,9 @@ loop-again c =
     let p = c .before .before in
     let e = p .before .before in
     let l = e .before in
-    let s = l .before .before .before .before .before .before in (
+    let s = l .before .before .before .before .before .before .before in (
       omega arith,
-      row-next (answers (s .args .weights .now) (s .args .depths .now) (s .args .edges .now)) _ _ (l .before .loop .i)
+      row-next (entries (s .args .weights .now) (s .args .depths .now) (s .args .edges .now) (s .args .pieces .now)) _ _ (l .before .loop .i)
           (length (s .args .depths .now)) (l .before .loop .at) (l .loop-test .taken) (l .before .loop .inv .1) (s .pre) (e .entry .result)
           (e .entry .ensures) _ _ (p .put-row .ensures),
     )
@@ -54,10 +54,10 @@ loop-again c =
 add-at : tie.Need-add-at Inv-loop μ-loop
 add-at c =
     let l = c .before .before .before .before .before in
-    let s = l .before .before .before .before .before .before in
+    let s = l .before .before .before .before .before .before .before in
     let w = loop-again c .1 .count in
     let b =
-    rows-within (answers (s .args .weights .now) (s .args .depths .now) (s .args .edges .now)) (l .before .loop .i + 1)
+    rows-within (entries (s .args .weights .now) (s .args .depths .now) (s .args .edges .now) (s .args .pieces .now)) (l .before .loop .i + 1)
     (length (s .args .depths .now)) (let t = l .loop-test .taken in omega arith) in
     let p = s .pre in
     omega (arith, s .good)

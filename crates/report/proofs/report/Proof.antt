@@ -5,9 +5,8 @@ use native.Mathlib.Omega.{arith}
 use borrow.Author.Needs.{needs}
 use lib.ListN.{length}
 use Rattle.refusal.specs.declared.Refusal.the-variants.{InputLength}
-use Rattle.provenance.specs.BestFirst.{blank}
 use Rattle.settle.specs.Settling.{settled}
-use Rattle.report.specs.Report.{mostInput, refusedLine, priced, readInput, report}
+use Rattle.report.specs.Report.{mostInput, refusedLine, priced, readInput, report, blankEntries}
 use Rattle.report.specs.Pieces.{lentColumns}
 use Rattle.report.proofs.Reports.{report-long}
 use Rattle.report.proofs.Laws.{reported, report-refused, report-table, table-lent, report-within}
@@ -33,7 +32,7 @@ whole : (c : tie.After-reading2)
     → let g = c .reading2 .given .0 .0 in
     let l = c .before .before .before .before .before .before .before .read-table .last in
     report (c .before .before .before .before .before .before .before .before .before .before .before .before .before .before .before .args .input .now) ≡ priced
-    (g .vertices) (settled (g .measure) (lentColumns g (l .1 .0) (l .1 .1 .0) (l .1 .1 .1 .0) (l .1 .1 .1 .1 .0) (l .1 .1 .1 .1 .1 .0)) (blank (g .vertices)))
+    (g .vertices) (settled (g .measure) (lentColumns g (l .1 .0) (l .1 .1 .0) (l .1 .1 .1 .0) (l .1 .1 .1 .1 .0) (l .1 .1 .1 .1 .1 .0)) (blankEntries (g .vertices)))
 unfolding readInput
 whole c =
     report-table _ (short (c .before .before .before .before .before .before .before .before .before .before .before .before .before)) _ _ _ _ _ _
