@@ -25,7 +25,7 @@ use Rattle.refusal.specs.declared.Reading.the-variants as reading
 use Rattle.refusal.specs.declared.MeasureChoice.the-variants as choice
 use Rattle.refusal.specs.Refusals.{codeOf, columnOf, resultOf, acceptanceResult, extentResult, measureOf}
 use Rattle.refusal.proofs.Codes.{codes-differ}
-use Rattle.columns.specs.Columns.{Answers, Sized, Columns, withOwn, withStrike}
+use Rattle.columns.specs.Columns.{Entries, SizedEntries, Columns, withOwn, withStrike}
 use Rattle.columns.specs.Acceptance.{acceptance, lentAcceptance}
 use Rattle.columns.specs.Filled.{filled}
 use Rattle.columns.specs.Owed.{Owed}
@@ -33,7 +33,7 @@ use Rattle.columns.specs.Right.{RightTable, WrongTable, RightLent, WrongLent}
 use Rattle.columns.proofs.Exactly.{accepted-exactly, refused-exactly, lent-exactly, lent-refused-exactly}
 use Rattle.columns.proofs.Owed.{check-table-owes, check-lent-owes}
 use Rattle.provenance.specs.BestFirst.{labels}
-use Rattle.settle.specs.Settling.{answersOf, settled}
+use Rattle.settle.specs.Settling.{entriesOf, entryAt, settled}
 use Rattle.settle.specs.Checking.{checked}
 use Rattle.settle.specs.Defined.{AllMean}
 use Rattle.settle.proofs.Owed.{settle-owes, check-answers-owes, entry-owes, entry-beyond}
@@ -69,16 +69,16 @@ module _ (c : Columns) where
   check-table-fixed = fixed (acceptance c) (accepted-exactly c) (refused-exactly c)
 
 -- the same with the answer columns: 1 to 7
-module _ (c : Columns) (a : Answers) where
+module _ (c : Columns) (a : Entries) where
   pub check-lent : Owed Refused (tt {0}) (RightLent c a) (λ _. Accepted) (λ _. tt {0}) (WrongLent c a) (lentAcceptance c a) (tt {0})
   check-lent = check-lent-owes c a
 
   pub check-lent-fixed : Fixed (RightLent c a) (WrongLent c a)
   check-lent-fixed = fixed (lentAcceptance c a) (lent-exactly c a) (lent-refused-exactly c a)
 
-module _ (m : Measure) (c : Columns) (a : Answers) where
-  -- "Settle a table into the answer columns." 1 to 7. What `answersOf` is, demand 2 says
-  pub settle : Owed Refused a (RightLent c a) (λ _. Accepted) (λ _. answersOf m c) (WrongLent c a) (settled m c a .result) (settled m c a .left)
+module _ (m : Measure) (c : Columns) (a : Entries) where
+  -- "Settle a table into the answer columns." 1 to 7. What `entriesOf` is, demand 2 says
+  pub settle : Owed Refused a (RightLent c a) (λ _. Accepted) (λ _. entriesOf m c) (WrongLent c a) (settled m c a .result) (settled m c a .left)
   settle = settle-owes m c a
 
   -- "Check answers: yes exactly if they are the ones defined above, whoever wrote them." 1 to 7; "no, and not 8, for wrong ones"
@@ -87,16 +87,16 @@ module _ (m : Measure) (c : Columns) (a : Answers) where
   check-answers = check-answers-owes m c a
 
 -- an entry is refused for no columns and no part; beyond the columns it is that of an unmade part
-module _ (a : Answers) (v : ℕ) where
-  pub entry : Owed (λ _. entryOf unmade) (tt {0}) (Unit {0}) (λ _. entryOf (labels a v)) (λ _. tt {0}) (λ _. ⊥) (entryOf (labels a v)) (tt {0})
+module _ (a : Entries) (v : ℕ) where
+  pub entry : Owed (λ _. entryOf unmade 0) (tt {0}) (Unit {0}) (λ _. entryAt a v) (λ _. tt {0}) (λ _. ⊥) (entryAt a v) (tt {0})
   entry = entry-owes a v
 
-  pub entry-behind : (n : ℕ) → Sized n a → n ≤ v → entryOf (labels a v) ≡ entryOf unmade
+  pub entry-behind : (n : ℕ) → SizedEntries n a → n ≤ v → entryAt a v ≡ entryOf unmade 0
   entry-behind n = entry-beyond a n v
 
 -- "Reprice an unstruck line to 0 to 1,000,000,000." 1 to 7, 9, 10, 8
-module _ (m : Measure) (c : Columns) (a : Answers) (e w : ℕ) where
-  pub reprice : Owed Refused (lentTo (c .own) a) (RightReprice m c a e w) (λ _. Accepted) (λ _. lentTo (set (c .own) e w) (answersOf m (withOwn c e w)))
+module _ (m : Measure) (c : Columns) (a : Entries) (e w : ℕ) where
+  pub reprice : Owed Refused (lentTo (c .own) a) (RightReprice m c a e w) (λ _. Accepted) (λ _. lentTo (set (c .own) e w) (entriesOf m (withOwn c e w)))
       (WrongReprice m c a e w) (repriced m c a e w .result) (lentTo (repriced m c a e w .own) (repriced m c a e w .left))
   reprice = reprice-owes m c a e w
 
@@ -104,9 +104,9 @@ module _ (m : Measure) (c : Columns) (a : Answers) (e w : ℕ) where
   reprice-fixed = fixed (repriceAcceptance m c a e w) (reprice-exactly m c a e w) (reprice-refused-exactly m c a e w)
 
 -- "and strike an unstruck line." 1 to 7, 9, 8. By document 02, 2026-02, in "a column of its own": the own figures are lent to be read alone
-module _ (m : Measure) (c : Columns) (a : Answers) (e : ℕ) where
+module _ (m : Measure) (c : Columns) (a : Entries) (e : ℕ) where
   pub strike : Owed Refused (lentTo (c .strikes) a) (RightStrike m c a e) (λ _. Accepted)
-      (λ _. lentTo (set (c .strikes) e struckMark) (answersOf m (withStrike c e struckMark))) (WrongStrike m c a e) (stricken m c a e .result)
+      (λ _. lentTo (set (c .strikes) e struckMark) (entriesOf m (withStrike c e struckMark))) (WrongStrike m c a e) (stricken m c a e .result)
       (lentTo (stricken m c a e .strikes) (stricken m c a e .left))
   strike = strike-owes m c a e
 
@@ -114,8 +114,8 @@ module _ (m : Measure) (c : Columns) (a : Answers) (e : ℕ) where
   strike-fixed = fixed (strikeAcceptance m c a e) (strike-exactly m c a e) (strike-refused-exactly m c a e)
 
 -- "Print a bill." 1 to 7, 11, 8, 12, 13. "A bill returns its length; the room behind it keeps its bytes." What `billOf` is, the bill's rule says
-module _ (m : Measure) (c : Columns) (a : Answers) (v : ℕ) (room : List ℕ) where
-  pub bill : Owed extent.Refused room (RightBill m c a v (length room)) (λ _. extent.Length (length (billOf c a v))) (λ _. billOf c a v ++ drop (length (billOf c a v)) room)
+module _ (m : Measure) (c : Columns) (a : Entries) (v : ℕ) (room : List ℕ) where
+  pub bill : Owed extent.Refused room (RightBill m c a v (length room)) (λ _. extent.Length (length (billOf c (a .labels) v))) (λ _. billOf c (a .labels) v ++ drop (length (billOf c (a .labels) v)) room)
       (WrongBill m c a v (length room)) (billed m c a v room .result) (billed m c a v room .left)
   bill = bill-owes m c a v room
 
@@ -165,7 +165,7 @@ pub measure-numbers : (measureOf 0 ≡ choice.Measure Cost) × (measureOf 1 ≡ 
 measure-numbers = (refl, refl, λ k h. rw (ne-eqb k 0 (λ q. absurd (omega arith)), ne-eqb k 1 (λ q. absurd (omega arith))) refl)
 
 -- "It gets one unsigned 64-bit number: on acceptance 0, for a bill its length; on a refusal the refusal's number times 4,294,967,296, plus the place"
-module _ (m : Measure) (c : Columns) (a : Answers) where
+module _ (m : Measure) (c : Columns) (a : Entries) where
   pub c-settle : settledResult (choice.Measure m) c a ≡ record { result = acceptanceResult (settled m c a .result); left = settled m c a .left }
   c-settle = refl
 
@@ -178,7 +178,7 @@ module _ (m : Measure) (c : Columns) (a : Answers) where
   c-bill v room = refl
 
 -- a measure that is refused leaves everything as lent
-module _ (r : Refusal) (c : Columns) (a : Answers) where
+module _ (r : Refusal) (c : Columns) (a : Entries) where
   pub c-settle-refused : settledResult (choice.Refused r) c a ≡ record { result = resultOf (codeOf r); left = a }
   c-settle-refused = refl
 
@@ -189,7 +189,7 @@ module _ (r : Refusal) (c : Columns) (a : Answers) where
   c-bill-refused v room = refl
 
 -- the number tells the answer: below 4,294,967,296 it is an acceptance and the bill's length, else quotient and remainder are the refusal's number and its place
-module _ (k : ℕ) (c : Columns) (a : Answers) where
+module _ (k : ℕ) (c : Columns) (a : Entries) where
   pub c-settle-tells : Decoded (settledExtent (measureOf k) c a) (settledResult (measureOf k) c a .result)
   c-settle-tells = settled-decoded k c a
 

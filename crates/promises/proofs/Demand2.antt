@@ -13,7 +13,7 @@ use Rattle.weights.specs.Labels.{unmade}
 use Rattle.weights.proofs.Laws.{lawful}
 use Rattle.refusal.specs.declared.Acceptance.the-variants.{Accepted}
 use Rattle.refusal.specs.declared.Verdict.the-variants.{Yes, No}
-use Rattle.columns.specs.Columns.{Answers, Sized, Columns, ownAt}
+use Rattle.columns.specs.Columns.{Entries, SizedEntries, Columns, ownAt}
 use Rattle.columns.specs.Acceptance.{acceptance}
 use Rattle.columns.specs.Right.{RightTable, RightLent}
 use Rattle.columns.specs.Gaps.{Gapped, withTails}
@@ -25,14 +25,14 @@ use Rattle.provenance.specs.BestFirst.{labels}
 use Rattle.provenance.specs.Support.{ChosenDerivation, Supports}
 use Rattle.provenance.proofs.Meaning.{means-unique}
 use Rattle.tables.specs.Table.{hypergraph}
-use Rattle.settle.specs.Settling.{answersOf, settled}
+use Rattle.settle.specs.Settling.{entriesOf, settled}
 use Rattle.settle.specs.Checking.{checked}
 use Rattle.settle.specs.Demands.{Worth}
 use Rattle.settle.specs.Defined.{AllMean}
 use Rattle.settle.specs.States.{StateMeans}
 use Rattle.settle.specs.Worth.{CostMeans, DaysMeans}
-use Rattle.settle.proofs.Demands.{answers-mean, answers-sized, settled-left, settled-result, demand-2, yes-only}
-use Rattle.settle.proofs.Exactly.{yes-exactly, no-exactly}
+use Rattle.settle.proofs.Demands.{entries-mean, entries-sized, settled-left, settled-result, demand-2, yes-only}
+use Rattle.settle.proofs.Exactly.{demand-entry, yes-exactly, no-exactly}
 use Rattle.settle.proofs.States.{made-deep, settled-state}
 use Rattle.settle.proofs.Worth.{cost-provenance, days-best-weight}
 use Rattle.settle.proofs.Gaps.{gaps-settled, gaps-checked}
@@ -40,71 +40,71 @@ use Rattle.settle.proofs.Gaps.{gaps-settled, gaps-checked}
 -- What settling leaves -----------------------------------------------------------------------------------------------------------------------------------------------
 
 -- settling is accepted exactly where none of 1 to 7 applies: it turns no right table away
-pub settles-exactly : (m : Measure) (c : Columns) (a : Answers) → (settled m c a .result ≡ Accepted) ↔ RightLent c a
+pub settles-exactly : (m : Measure) (c : Columns) (a : Entries) → (settled m c a .result ≡ Accepted) ↔ RightLent c a
 settles-exactly m c a = (λ h. lent-exactly c a .0 (sym (settled-result m c a) ∙ h), λ h. settled-result m c a ∙ lent-exactly c a .1 h)
 
 -- the answers of a right table are those that the paper defines, and no other columns of n places are
-pub answers-exactly : (m : Measure) (c : Columns) → RightTable c → (a : Answers) → (a ≡ answersOf m c) ↔ (Sized (c .vertices) a × AllMean m c a)
+pub answers-exactly : (m : Measure) (c : Columns) → RightTable c → (a : Entries) → (a ≡ entriesOf m c) ↔ (SizedEntries (c .vertices) a × AllMean m c a)
 answers-exactly m c t a = (mean, same)
   where
     p : acceptance c ≡ Accepted
     p = accepted-exactly c .1 t
 
-    mean : a ≡ answersOf m c → Sized (c .vertices) a × AllMean m c a
-    mean q = subst (λ (x : Answers). Sized (c .vertices) x × AllMean m c x) (sym q) (answers-sized m c p, λ v h. answers-mean m c p v .means)
+    mean : a ≡ entriesOf m c → SizedEntries (c .vertices) a × AllMean m c a
+    mean q = subst (λ (x : Entries). SizedEntries (c .vertices) x × AllMean m c x) (sym q) (entries-sized m c p, λ v h. demand-entry (entries-mean m c p v))
 
-    same : Sized (c .vertices) a × AllMean m c a → a ≡ answersOf m c
+    same : SizedEntries (c .vertices) a × AllMean m c a → a ≡ entriesOf m c
     same (s, all) = yes-only m c a (yes-exactly m c a .1 (record { accepted = columns-accept c a p s; means = all }))
 
-module _ (m : Measure) (c : Columns) (a : Answers) (h : settled m c a .result ≡ Accepted) where
-  pub settled-answers : settled m c a .left ≡ answersOf m c
+module _ (m : Measure) (c : Columns) (a : Entries) (h : settled m c a .result ≡ Accepted) where
+  pub settled-answers : settled m c a .left ≡ entriesOf m c
   settled-answers = settled-left m c a (sym (settled-result m c a) ∙ h)
 
   -- "Make-ups, figures, depth": an entry is unmade where there is no make-up; else a thrifty make-up has its figure, depth and line, none weighs less, no thrifty one is
   -- less deep, and no thrifty one of that depth has a lower line at its root
-  pub entry-means : (v : ℕ) → Means (algebra m) (hypergraph c) (ownAt c) (labels (settled m c a .left) v) v
+  pub entry-means : (v : ℕ) → Means (algebra m) (hypergraph c) (ownAt c) (labels (settled m c a .left .labels) v) v
   entry-means v = demand-2 m c a h v .means
 
   -- and this fixes it
-  pub entry-fixed : (v : ℕ) (l : Label) → Means (algebra m) (hypergraph c) (ownAt c) l v → l ≡ labels (settled m c a .left) v
+  pub entry-fixed : (v : ℕ) (l : Label) → Means (algebra m) (hypergraph c) (ownAt c) l v → l ≡ labels (settled m c a .left .labels) v
   entry-fixed v l p = means-unique (lawful m) l _ p (entry-means v)
 
   -- "Its chosen make-up uses the chosen line of every part in it": every part that is not unmade has one; it is thrifty, and has the part's figure and depth
-  pub entry-chosen : (v : ℕ) → Made (labels (settled m c a .left) v)
-      → (x : ChosenDerivation (hypergraph c) (labels (settled m c a .left)) v) × Supports (algebra m) (ownAt c) (labels (settled m c a .left)) (x .tree)
+  pub entry-chosen : (v : ℕ) → Made (labels (settled m c a .left .labels) v)
+      → (x : ChosenDerivation (hypergraph c) (labels (settled m c a .left .labels)) v) × Supports (algebra m) (ownAt c) (labels (settled m c a .left .labels)) (x .tree)
   entry-chosen v k = let g = demand-2 m c a h v in (g .chosen k, g .supports k)
 
   -- a depth is at most n
-  pub entry-shallow : (v : ℕ) → labels (settled m c a .left) v .depth ≤ c .vertices
+  pub entry-shallow : (v : ℕ) → labels (settled m c a .left .labels) v .depth ≤ c .vertices
   entry-shallow v = demand-2 m c a h v .shallow
 
   -- "Each part's entry holds its state (made, over or unmade)": over if the plain sum of every make-up is above the ceiling, unmade if there is none
-  pub entry-state : (v : ℕ) → StateMeans m c (labels (settled m c a .left) v) v
+  pub entry-state : (v : ℕ) → StateMeans m c (labels (settled m c a .left .labels) v) v
   entry-state = settled-state m c a h
 
   -- "depth 0 occurs only for unmade", which "is figure 0, depth 0, line 0"
-  pub entry-unmade : (v : ℕ) → labels (settled m c a .left) v .depth ≡ 0 → labels (settled m c a .left) v ≡ unmade
+  pub entry-unmade : (v : ℕ) → labels (settled m c a .left .labels) v .depth ≡ 0 → labels (settled m c a .left .labels) v ≡ unmade
   entry-unmade v z = go (entry-means v)
     where
-      go : Means (algebra m) (hypergraph c) (ownAt c) (labels (settled m c a .left) v) v → labels (settled m c a .left) v ≡ unmade
+      go : Means (algebra m) (hypergraph c) (ownAt c) (labels (settled m c a .left .labels) v) v → labels (settled m c a .left .labels) v ≡ unmade
       go (underivable e n) = e
       go (derivable x) = absurd (omega (arith, made-deep (entry-means v) (x .shown)))
 
   -- The source: in cost the figure is Definition 5's provenance, the sum over all derivations of the product over leaves; in days it is Definition 10's best weight, the
   -- sum over all derivations of their weights; both up to the ceiling, and unmade is the empty sum
-  pub entry-worth : (v : ℕ) → Worth m c (labels (settled m c a .left) v) v
+  pub entry-worth : (v : ℕ) → Worth m c (labels (settled m c a .left .labels) v) v
   entry-worth v = demand-2 m c a h v .worth
 
 -- of cost in the tropical semiring, of days in the bottleneck semiring (document 003, Semiring 5)
-pub cost-worth : (c : Columns) (a : Answers) → settled Cost c a .result ≡ Accepted → (v : ℕ) → CostMeans c (labels (settled Cost c a .left) v) v
+pub cost-worth : (c : Columns) (a : Entries) → settled Cost c a .result ≡ Accepted → (v : ℕ) → CostMeans c (labels (settled Cost c a .left .labels) v) v
 cost-worth = cost-provenance
 
-pub days-worth : (c : Columns) (a : Answers) → settled Days c a .result ≡ Accepted → (v : ℕ) → DaysMeans c (labels (settled Days c a .left) v) v
+pub days-worth : (c : Columns) (a : Entries) → settled Days c a .result ≡ Accepted → (v : ℕ) → DaysMeans c (labels (settled Days c a .left .labels) v) v
 days-worth = days-best-weight
 
 -- The answer check ---------------------------------------------------------------------------------------------------------------------------------------------------
 
-module _ (m : Measure) (c : Columns) (a : Answers) where
+module _ (m : Measure) (c : Columns) (a : Entries) where
   -- "yes exactly if they are the ones defined above, whoever wrote them"
   pub says-yes : (checked m c a ≡ Yes) ↔ (RightLent c a × AllMean m c a)
   says-yes = (
@@ -120,7 +120,7 @@ module _ (m : Measure) (c : Columns) (a : Answers) where
 
 -- "Gaps may stand between spans and their contents are never looked at": with other contents in the gaps settling and the answer check have the same outcome, accepted or
 -- refused
-module _ (m : Measure) (c : Columns) (tails : List ℕ) (g : Gapped c tails) (a : Answers) where
+module _ (m : Measure) (c : Columns) (tails : List ℕ) (g : Gapped c tails) (a : Entries) where
   pub settles-over-gaps : settled m c a ≡ settled m (withTails c tails) a
   settles-over-gaps = gaps-settled m c tails g a
 

@@ -7,7 +7,7 @@ use Rattle.weights.specs.declared.Measure.{Measure}
 use Rattle.weights.specs.declared.Measure.the-variants.{Cost, Days}
 use Rattle.weights.specs.declared.State.the-variants.{Made, Unmade}
 use Rattle.refusal.specs.declared.Acceptance.the-variants.{Accepted}
-use Rattle.columns.specs.Columns.{Answers, Columns, ownAt, withOwn}
+use Rattle.columns.specs.Columns.{Entries, Columns, ownAt, withOwn}
 use Rattle.columns.specs.Worked.{worked}
 use Rattle.settle.specs.Settling.{settled}
 use Rattle.reprice.specs.Repricing.{repriced}
@@ -28,7 +28,7 @@ of-bills = demand-3-billed
 
 module _ (c c′ : Columns) (e d : ℕ) (p : Pair c c′ e d) where
   -- repricing the line carries the answers of either table to the other's
-  module _ (m : Measure) (a a′ : Answers) (h : settled m c a .result ≡ Accepted) (h′ : settled m c′ a′ .result ≡ Accepted) where
+  module _ (m : Measure) (a a′ : Entries) (h : settled m c a .result ≡ Accepted) (h′ : settled m c′ a′ .result ≡ Accepted) where
     pub up : repriced m c (settled m c a .left) e (ownAt c′ e) ≡ record { result = Accepted; own = c′ .own; left = settled m c′ a′ .left }
     up = demand-3 m c c′ e d p .carries .up a a′ h h′
 

@@ -12,3 +12,4 @@ pub mod Request05
 pub mod Request06
 pub mod Request07
 pub mod Request08
+pub mod Request09

@@ -11,7 +11,7 @@ use Rattle.weights.specs.declared.Measure.{Measure}
 use Rattle.weights.specs.declared.State.the-variants.{Made, Over, Unmade}
 use Rattle.weights.specs.Figures.{struckMark, ceiling, over, capped}
 use Rattle.weights.specs.Measures.{cost, algebra}
-use Rattle.weights.specs.Labels.{stateOf, entryOf}
+use Rattle.weights.specs.Labels.{stateOf, labelState}
 use Rattle.weights.specs.Laws.{Lawful}
 use Rattle.weights.proofs.Laws.{lawful}
 use Rattle.weights.proofs.States.{unmade-state, over-state, made-state}
@@ -22,7 +22,7 @@ use Rattle.refusal.specs.declared.Acceptance.the-variants.{Accepted, Refused}
 use Rattle.refusal.specs.declared.Verdict.the-variants.{Yes}
 use Rattle.refusal.specs.declared.Extent.the-variants as extent
 use Rattle.refusal.specs.declared.Reading.the-variants as reading
-use Rattle.columns.specs.Columns.{Answers, Columns, strikeAt, withOwn, withStrike}
+use Rattle.columns.specs.Columns.{Entries, Columns, strikeAt, withOwn, withStrike}
 use Rattle.columns.specs.Acceptance.{acceptance}
 use Rattle.columns.specs.Filled.{filled}
 use Rattle.columns.specs.Gaps.{Gapped, withTails}
@@ -38,7 +38,7 @@ use Rattle.provenance.specs.Counting.{total}
 use Rattle.provenance.specs.BestFirst.{labels}
 use Rattle.provenance.proofs.Sensitivity.{cost-total}
 use Rattle.tables.specs.Table.{hypergraph}
-use Rattle.settle.specs.Settling.{answersOf}
+use Rattle.settle.specs.Settling.{entriesOf}
 use Rattle.settle.specs.Checking.{checked}
 use Rattle.settle.specs.Demands.{Demand2}
 use Rattle.settle.specs.Defined.{AllMean}
@@ -63,7 +63,7 @@ use Rattle.reader.proofs.Walking.{walk-permitted, permitted-walk}
 use Rattle.report.specs.Report.{refusedLine, report}
 use Rattle.report.specs.Prints.{Prints, ReadsBack}
 use Rattle.report.specs.Examples.{costList, daysList}
-use Rattle.report.proofs.Closed.{answers-closed}
+use Rattle.report.proofs.Closed.{entries-closed}
 use Rattle.report.proofs.Prints.{prints, reads-back}
 use Rattle.report.proofs.Examples.{worked-cost, worked-days}
 use Rattle.input.specs.Input.{Ended}
@@ -100,8 +100,8 @@ module _ (c : Columns) where
   gaps-unseen = gaps-accepted c
 
   -- nor does closing them change an answer
-  pub gaps-closed : (m : Measure) → acceptance c ≡ Accepted → answersOf m (closed c) ≡ answersOf m c
-  gaps-closed m = answers-closed m c
+  pub gaps-closed : (m : Measure) → acceptance c ≡ Accepted → entriesOf m (closed c) ≡ entriesOf m c
+  gaps-closed m = entries-closed m c
 
 -- Make-ups, figures, depth -------------------------------------------------------------------------------------------------------------------------------------------
 
@@ -147,38 +147,38 @@ laws = lawful
 
 -- "both … leave in the answer columns the answers of the table as it then is": those of demand 2, so the next call's check says yes. Repricing changes the own figure, and
 -- striking, by document 02, 2026-02, the strike mark alone
-module _ (m : Measure) (c : Columns) (a : Answers) (e w : ℕ) (h : repriced m c a e w .result ≡ Accepted) where
+module _ (m : Measure) (c : Columns) (a : Entries) (e w : ℕ) (h : repriced m c a e w .result ≡ Accepted) where
   pub reprice-stores : repriced m c a e w .own ≡ set (c .own) e w
   reprice-stores = reprice-leaves m c a e w h .stored
 
-  pub reprice-means : (v : ℕ) → Demand2 m (withOwn c e w) (labels (repriced m c a e w .left)) v
+  pub reprice-means : (v : ℕ) → Demand2 m (withOwn c e w) (repriced m c a e w .left) v
   reprice-means = reprice-leaves m c a e w h .means
 
-  pub reprice-states : (v : ℕ) → StateMeans m (withOwn c e w) (labels (repriced m c a e w .left) v) v
+  pub reprice-states : (v : ℕ) → StateMeans m (withOwn c e w) (labels (repriced m c a e w .left .labels) v) v
   reprice-states = reprice-leaves m c a e w h .states
 
   pub reprice-checks : checked m (withOwn c e w) (repriced m c a e w .left) ≡ Yes
   reprice-checks = reprice-leaves m c a e w h .checks
 
-module _ (m : Measure) (c : Columns) (a : Answers) (e : ℕ) (h : stricken m c a e .result ≡ Accepted) where
+module _ (m : Measure) (c : Columns) (a : Entries) (e : ℕ) (h : stricken m c a e .result ≡ Accepted) where
   pub strike-stores : stricken m c a e .strikes ≡ set (c .strikes) e struckMark
   strike-stores = strike-leaves m c a e h .stored
 
-  pub strike-means : (v : ℕ) → Demand2 m (withStrike c e struckMark) (labels (stricken m c a e .left)) v
+  pub strike-means : (v : ℕ) → Demand2 m (withStrike c e struckMark) (stricken m c a e .left) v
   strike-means = strike-leaves m c a e h .means
 
-  pub strike-states : (v : ℕ) → StateMeans m (withStrike c e struckMark) (labels (stricken m c a e .left) v) v
+  pub strike-states : (v : ℕ) → StateMeans m (withStrike c e struckMark) (labels (stricken m c a e .left .labels) v) v
   strike-states = strike-leaves m c a e h .states
 
   pub strike-checks : checked m (withStrike c e struckMark) (stricken m c a e .left) ≡ Yes
   strike-checks = strike-leaves m c a e h .checks
 
-module _ (m : Measure) (c : Columns) (a : Answers) (v : ℕ) where
+module _ (m : Measure) (c : Columns) (a : Entries) (v : ℕ) where
   -- "Print a bill: the line numbers of the chosen make-up, root first, then the bill of each listed part, in the order listed", of every part that has a make-up
-  pub bill-is : RightLent c a → v < c .vertices → AllMean m c a → Derivation (hypergraph c) v → IsBill m c (labels a) v (billOf c a v)
+  pub bill-is : RightLent c a → v < c .vertices → AllMean m c a → Derivation (hypergraph c) v → IsBill m c (labels (a .labels)) v (billOf c (a .labels) v)
   unfolding billAcceptance
   bill-is l h all d =
-      let n = length (billOf c a v) in
+      let n = length (billOf c (a .labels) v) in
       let p = bill-exactly m c a v n .1 (record { lent = l; part = h; answers = all; made = d; room = omega arith }) in
       is-bill (part-accepted m c a v (both-accepted (partAcceptance m c a v) _ p .0))
 
@@ -187,9 +187,9 @@ module _ (m : Measure) (c : Columns) (a : Answers) (v : ℕ) where
   bill-returns = bill-printed m c a v
 
 -- "Parts that are over have a bill too"
-pub over-has-a-bill : (m : Measure) (c : Columns) (a : Answers) (v : ℕ) → RightLent c a → v < c .vertices → AllMean m c a → entryOf (labels a v) .state ≡ Over
-    → IsBill m c (labels a) v (billOf c a v)
-over-has-a-bill m c a v l h all s = bill-is m c a v l h all (means-state m c (labels a v) v (all v h) .over .0 s .shown)
+pub over-has-a-bill : (m : Measure) (c : Columns) (a : Entries) (v : ℕ) → RightLent c a → v < c .vertices → AllMean m c a → labelState (labels (a .labels) v) ≡ Over
+    → IsBill m c (labels (a .labels)) v (billOf c (a .labels) v)
+over-has-a-bill m c a v l h all s = bill-is m c a v l h all (means-state m c (labels (a .labels) v) v (all v h .means) .over .0 s .shown)
 
 -- The text -------------------------------------------------------------------------------------------------------------------------------------------------------------
 

@@ -12,7 +12,7 @@ use Rattle.refusal.specs.declared.Acceptance.the-variants as answer
 use Rattle.refusal.specs.declared.Extent.the-variants.{Length, Refused}
 use Rattle.refusal.specs.declared.Counts.{Counts}
 use Rattle.refusal.specs.declared.Appending.the-variants as appending
-use Rattle.columns.specs.Columns.{Answers, Columns, withOwn}
+use Rattle.columns.specs.Columns.{Entries, Columns, withOwn}
 use Rattle.columns.specs.Filled.{filled}
 use Rattle.columns.specs.Right.{RightTable}
 use Rattle.columns.specs.Longer.{NewLine, inUse, longer}
@@ -56,7 +56,7 @@ module _ (c : Columns) (index list : List ℕ) where
   unfolding tableIndexed
   index-refused r p = rw p
 
-module _ (m : Measure) (c : Columns) (k : Counts) (a : Answers) (index list : List ℕ) (l : NewLine) where
+module _ (m : Measure) (c : Columns) (k : Counts) (a : Entries) (index list : List ℕ) (l : NewLine) where
   -- "It returns the new counts … Table, index and answers must then be those of the longer table": what it means to be its index and its answers, and that the next call's
   -- checks pass
   pub append-extends : (k′ : Counts) → appended m c k a index list l .result ≡ appending.Counts k′ → Extended m c k l k′ (appended m c k a index list l) (longer (inUse c k) l)

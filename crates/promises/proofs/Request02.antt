@@ -6,13 +6,13 @@ use Rattle.weights.specs.declared.Measure.{Measure}
 use Rattle.weights.specs.Figures.{standing, struckMark, isStruckMark}
 use Rattle.refusal.specs.declared.Acceptance.the-variants.{Accepted}
 use Rattle.refusal.specs.declared.Acceptance.the-variants as answer
-use Rattle.columns.specs.Columns.{Answers, Columns, strikeAt, withOwn, withStrike}
+use Rattle.columns.specs.Columns.{Entries, Columns, strikeAt, withOwn, withStrike}
 use Rattle.columns.specs.Owed.{Owed}
 use Rattle.indextable.specs.Index.{indexOf}
 use Rattle.indextable.proofs.Told.{index-kept-marked}
-use Rattle.settle.specs.Settling.{answersOf}
+use Rattle.settle.specs.Settling.{entriesOf}
 use Rattle.settle.specs.Defined.{Defined}
-use Rattle.settle.proofs.Idle.{struck-idle}
+use Rattle.settle.proofs.Idle.{struck-idle-entries}
 use Rattle.reprice.specs.Repricing.{restoreAcceptance, restored}
 use Rattle.reprice.specs.Changes.{Named, Struck, RightRestore, WrongRestore, lentTo, Leaves}
 use Rattle.reprice.specs.Restoring.{StrikeRestore, RestoreStrike, RestoredThen}
@@ -27,9 +27,9 @@ use Rattle.promises.proofs.Fixed.{fixed}
 
 -- "Turned away: 20 for restoring a line that isn't struck, tried directly after 9 (for this call 9 means only that the line does not exist)": 1 to 7 with 21, 9, 20, 8.
 -- On acceptance the strike mark is taken away and the answers are those of the table as it then is; every own figure keeps its bytes, since it is lent to be read alone
-module _ (m : Measure) (c : Columns) (a : Answers) (e : ℕ) where
+module _ (m : Measure) (c : Columns) (a : Entries) (e : ℕ) where
   pub restore : Owed answer.Refused (lentTo (c .strikes) a) (RightRestore m c a e) (λ _. Accepted)
-      (λ _. lentTo (set (c .strikes) e standing) (answersOf m (withStrike c e standing))) (WrongRestore m c a e) (restored m c a e .result)
+      (λ _. lentTo (set (c .strikes) e standing) (entriesOf m (withStrike c e standing))) (WrongRestore m c a e) (restored m c a e .result)
       (lentTo (restored m c a e .strikes) (restored m c a e .left))
   restore = restore-owes m c a e
 
@@ -42,7 +42,7 @@ module _ (m : Measure) (c : Columns) (a : Answers) (e : ℕ) where
   restore-answers = restore-leaves m c a e
 
 -- "Restoring a line directly after striking it gives back the table and answers of before", and the other way round
-module _ (m : Measure) (c : Columns) (a : Answers) (e : ℕ) (d : Defined m c a) where
+module _ (m : Measure) (c : Columns) (a : Entries) (e : ℕ) (d : Defined m c a) where
   pub restored-after-striking : Named c e → StrikeRestore m c a e
   restored-after-striking = strike-restore m c a e d
 
@@ -62,8 +62,8 @@ module _ (m : Measure) (e : ℕ) (s s′ : Priced) (h : Holds m e s) (x : Change
   struck-figure-kept q = kept-struck m e s h q x
 
 -- a struck line's figure has no part in any answer
-pub struck-figure-idle : (m : Measure) (c : Columns) (e : ℕ) → strikeAt c e ≡ struckMark → (w : ℕ) → answersOf m (withOwn c e w) ≡ answersOf m c
-struck-figure-idle m c e q = struck-idle m c e (ap (λ (x : ℕ). isStruckMark x) q)
+pub struck-figure-idle : (m : Measure) (c : Columns) (e : ℕ) → strikeAt c e ≡ struckMark → (w : ℕ) → entriesOf m (withOwn c e w) ≡ entriesOf m c
+struck-figure-idle m c e q = struck-idle-entries m c e (ap (λ (x : ℕ). isStruckMark x) q)
 
 -- the index of 2026-01 stays true when a line is struck or restored
 pub index-stays-marked : (c : Columns) (e s : ℕ) → indexOf (withStrike c e s) ≡ indexOf c

@@ -10,7 +10,7 @@ use Rattle.weights.specs.Figures.{capped}
 use Rattle.weights.specs.Measures.{days, weigh}
 use Rattle.weights.proofs.Laws.{lawful}
 use Rattle.refusal.specs.declared.Acceptance.the-variants.{Accepted}
-use Rattle.columns.specs.Columns.{Answers, Columns, answers, ownAt}
+use Rattle.columns.specs.Columns.{Entries, Columns, entries, ownAt}
 use Rattle.columns.specs.Worked.{worked}
 use Rattle.columns.specs.Right.{RightTable}
 use Rattle.columns.proofs.Exactly.{accepted-exactly}
@@ -57,12 +57,12 @@ days-weight-function own xs = refl
 pub figures-mean : (m : Measure) (c : Columns) → RightTable c → (v : ℕ) → HasBestWeight (weighs m) (hypergraph c) (ownAt c) (labels (answersOf m c) v) v
 figures-mean m c r = let p = accepted-exactly c .1 r in best-weight (weighs m) (hypergraph c) (ownAt c) (lawful m) (well-formed c p) (answers-fixpoint m c p)
 
-pub days-mean : (c : Columns) (a : Answers) → settled Days c a .result ≡ Accepted → (v : ℕ)
-    → HasBestWeight days-weighs (hypergraph c) (ownAt c) (labels (settled Days c a .left) v) v
+pub days-mean : (c : Columns) (a : Entries) → settled Days c a .result ≡ Accepted → (v : ℕ)
+    → HasBestWeight days-weighs (hypergraph c) (ownAt c) (labels (settled Days c a .left .labels) v) v
 days-mean c a h v = demand-2 Days c a h v .worth
 
 -- "Example P4 becomes 1700 for parts 2 and 3"
-pub days-p4 : Settles Days worked five (answers (1200 ∷ 300 ∷ 1700 ∷ 1700 ∷ 0 ∷ []) (1 ∷ 1 ∷ 2 ∷ 3 ∷ 0 ∷ []) (0 ∷ 1 ∷ 2 ∷ 4 ∷ 0 ∷ [])) (Made ∷ Made ∷ Made ∷ Made ∷ Unmade ∷ [])
+pub days-p4 : Settles Days worked five (entries (1200 ∷ 300 ∷ 1700 ∷ 1700 ∷ 0 ∷ []) (1 ∷ 1 ∷ 2 ∷ 3 ∷ 0 ∷ []) (0 ∷ 1 ∷ 2 ∷ 4 ∷ 0 ∷ []) (1 ∷ 1 ∷ 2 ∷ 4 ∷ 0 ∷ [])) (Made ∷ Made ∷ Made ∷ Made ∷ Unmade ∷ [])
 unfolding cases AllHold
 days-p4 = every-case-holds .1 .1 .1 .1 .0
 

@@ -15,14 +15,16 @@ use Rattle.refusal.specs.declared.Extent.the-variants as extent
 use Rattle.refusal.specs.declared.Reading.the-variants as reading
 use Rattle.refusal.specs.declared.MeasureChoice.the-variants as choice
 use Rattle.refusal.specs.Refusals.{measureOf}
-use Rattle.columns.specs.Columns.{Answers, columns, answers}
+use Rattle.columns.specs.Columns.{Entries, columns, entries}
 use Rattle.columns.specs.Acceptance.{allBelow, edgeAcceptance, edgesAcceptance, acceptance, lentAcceptance}
 use Rattle.columns.specs.Worked.{worked}
-use Rattle.columns.specs.Same.{equal, sameAnswers}
+use Rattle.columns.specs.Same.{equal, sameAnswers, sameEntries}
 use Rattle.provenance.specs.Labelling.{each, greatestDepth, noneZero, offerOf}
 use Rattle.provenance.specs.BestFirst.{opening, next, turn, turns, best-first}
 use Rattle.provenance.specs.Support.{bills, bill}
-use Rattle.settle.specs.Settling.{answersOf}
+use Rattle.provenance.specs.Counting.{total}
+use Rattle.provenance.specs.Pieces.{piece, piecesAt, below}
+use Rattle.settle.specs.Settling.{answersOf, entriesOf}
 use Rattle.reprice.specs.Repricing.{lineAcceptance, repriceAcceptance, repriced, numberedAcceptance, struckAcceptance, restoreAcceptance, restored}
 use Rattle.bill.specs.Billing.{billOf, partAcceptance, billAcceptance, billed}
 use Rattle.text.specs.Tables.{listedInAll}
@@ -66,21 +68,21 @@ unfolding acceptance edgesAcceptance edgeAcceptance allBelow
 refusal-6 = refl
 
 -- "n = 5, 4 places"
-pub refusal-7 : lentAcceptance worked (answers (0 ∷ 0 ∷ 0 ∷ 0 ∷ []) (0 ∷ 0 ∷ 0 ∷ 0 ∷ []) (0 ∷ 0 ∷ 0 ∷ 0 ∷ [])) ≡ Refused AnswerLength
+pub refusal-7 : lentAcceptance worked (entries (0 ∷ 0 ∷ 0 ∷ 0 ∷ []) (0 ∷ 0 ∷ 0 ∷ 0 ∷ []) (0 ∷ 0 ∷ 0 ∷ 0 ∷ []) (0 ∷ 0 ∷ 0 ∷ 0 ∷ [])) ≡ Refused AnswerLength
 unfolding lentAcceptance acceptance edgesAcceptance edgeAcceptance allBelow
 refusal-7 = refl
 
 -- the answers of the table priced whole, with this figure of part 3
-abbrev pub with-figure : ℕ → Answers
-with-figure w = answers (1200 ∷ 300 ∷ 2000 ∷ w ∷ 0 ∷ []) (1 ∷ 1 ∷ 2 ∷ 3 ∷ 0 ∷ []) (0 ∷ 1 ∷ 2 ∷ 4 ∷ 0 ∷ [])
+abbrev pub with-figure : ℕ → Entries
+with-figure w = entries (1200 ∷ 300 ∷ 2000 ∷ w ∷ 0 ∷ []) (1 ∷ 1 ∷ 2 ∷ 3 ∷ 0 ∷ []) (0 ∷ 1 ∷ 2 ∷ 4 ∷ 0 ∷ []) (1 ∷ 1 ∷ 2 ∷ 4 ∷ 0 ∷ [])
 
-priced : answersOf Cost worked ≡ with-figure 2600
-unfolding answersOf best-first turns turn next opening offerOf noneZero aheadOf weigh fold each greatestDepth
+priced : entriesOf Cost worked ≡ with-figure 2600
+unfolding answersOf entriesOf below piecesAt piece total bill bills best-first turns turn next opening offerOf noneZero aheadOf weigh fold each greatestDepth
 priced = refl
 
 -- "a figure off by 1"
 pub refusal-8 : repriced Cost worked (with-figure 2601) 1 500 .result ≡ Refused WrongAnswers
-unfolding repriced repriceAcceptance lineAcceptance sameAnswers equal lentAcceptance acceptance edgesAcceptance edgeAcceptance allBelow
+unfolding repriced repriceAcceptance lineAcceptance sameAnswers sameEntries equal lentAcceptance acceptance edgesAcceptance edgeAcceptance allBelow
 refusal-8 = rw priced refl
 
 -- "line 6 of 6"
@@ -100,12 +102,12 @@ refusal-11 = refl
 
 -- "part 4 below"
 pub refusal-12 : billed Cost worked (with-figure 2600) 4 [] .result ≡ extent.Refused Underivable
-unfolding billed billAcceptance partAcceptance sameAnswers equal lentAcceptance acceptance edgesAcceptance edgeAcceptance allBelow
+unfolding billed billAcceptance partAcceptance sameAnswers sameEntries equal lentAcceptance acceptance edgesAcceptance edgeAcceptance allBelow
 refusal-12 = rw priced refl
 
 -- "6 lines, room 5"
 pub refusal-13 : billed Cost worked (with-figure 2600) 3 (0 ∷ 0 ∷ 0 ∷ 0 ∷ 0 ∷ []) .result ≡ extent.Refused BillRoom
-unfolding billed billAcceptance partAcceptance billOf bill bills sameAnswers equal lentAcceptance acceptance edgesAcceptance edgeAcceptance allBelow
+unfolding billed billAcceptance partAcceptance billOf bill bills sameAnswers sameEntries equal lentAcceptance acceptance edgesAcceptance edgeAcceptance allBelow
 refusal-13 = rw priced refl
 
 -- "empty text, place 1"; "For the empty text it is line 1, column 1" (document 02, 2026-06)
