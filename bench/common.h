@@ -84,6 +84,33 @@ static inline uint64_t capped(uint64_t figure)
     return lesser(figure, TOZBIERDU_OVER);
 }
 
+/*
+ * How many bought pieces a line's make-up holds, from the counts of the parts that it needs. A lent count
+ * may be too great for a sum; it is then found to be wrong itself.
+ */
+static inline uint64_t pieces_by(const struct view *t, uint64_t line, const uint64_t *pieces)
+{
+    uint64_t at = t->spans[2 * line], end = at + t->spans[2 * line + 1], sum = 0;
+
+    if (at == end)
+        return 1;
+    for (; at < end; at++)
+        sum += pieces[t->tails[at]];
+    return lesser(sum, TOZBIERDU_MOST_PIECES);
+}
+
+/* Whether every part has the count of its line, and an unmade one 0. */
+static inline int pieces_right(const struct view *t, const uint64_t *depths, const uint64_t *lines,
+                               const uint64_t *pieces)
+{
+    uint64_t part;
+
+    for (part = 0; part < t->n; part++)
+        if (pieces[part] != (depths[part] == 0 ? 0 : pieces_by(t, lines[part], pieces)))
+            return 0;
+    return 1;
+}
+
 /* Ends the list of the lines that wait for a part. */
 #define NO_LINE UINT16_MAX
 

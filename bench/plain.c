@@ -130,7 +130,8 @@ static void wake_all(struct search *s, const struct view *t, uint64_t measure, u
 }
 
 /* A table without parts has no answers, and its columns may be null. */
-static void fill(struct view t, uint64_t measure, uint64_t *figures, uint64_t *depths, uint64_t *lines)
+static void fill(struct view t, uint64_t measure, uint64_t *figures, uint64_t *depths, uint64_t *lines,
+                 uint64_t *pieces)
 {
     struct search s;
     uint64_t best;
@@ -140,12 +141,14 @@ static void fill(struct view t, uint64_t measure, uint64_t *figures, uint64_t *d
     memset(figures, 0, t.n * sizeof *figures);
     memset(depths, 0, t.n * sizeof *depths);
     memset(lines, 0, t.n * sizeof *lines);
+    memset(pieces, 0, t.n * sizeof *pieces);
     start(&s, &t);
     while ((best = least_of(s.queue.blocks, BLOCKS)) != NO_KEY) {
         uint64_t part = t.heads[line_of(best)];
         figures[part] = figure_of(best);
         depths[part] = depth_of(best);
         lines[part] = line_of(best);
+        pieces[part] = pieces_by(&t, line_of(best), pieces);
         take_out(&s.queue, part);
         wake_all(&s, &t, measure, part, figures, depths);
     }
@@ -197,7 +200,7 @@ static int line_right(const struct view *t, uint64_t measure, uint64_t line, con
 }
 
 static int right(struct view t, uint64_t measure, const uint64_t *figures, const uint64_t *depths,
-                 const uint64_t *lines)
+                 const uint64_t *lines, const uint64_t *pieces)
 {
     uint64_t part, line;
 
@@ -207,7 +210,7 @@ static int right(struct view t, uint64_t measure, const uint64_t *figures, const
     for (line = 0; line < t.lines; line++)
         if (!line_right(&t, measure, line, figures, depths, lines))
             return 0;
-    return 1;
+    return pieces_right(&t, depths, lines, pieces);
 }
 
 /* Pays for each line of a part's bill, and looks at no more than it pays for; whether that is all. */

@@ -170,7 +170,8 @@ FOR_MEASURE void go_on(struct search *s, struct view t, uint64_t measure, const 
 }
 
 FOR_MEASURE void best_first(struct view t, uint64_t measure, uint64_t *restrict figures,
-                            uint64_t *restrict depths, uint64_t *restrict lines)
+                            uint64_t *restrict depths, uint64_t *restrict lines,
+                            uint64_t *restrict pieces)
 {
     struct search s;
     uint64_t best, line, next, part;
@@ -184,6 +185,7 @@ FOR_MEASURE void best_first(struct view t, uint64_t measure, uint64_t *restrict 
         figures[part] = figure;
         depths[part] = depth;
         lines[part] = line;
+        pieces[part] = pieces_by(&t, line, pieces);
         take_out(&s.queue, part);
         for (line = s.first[part]; line != NO_LINE; line = next) {
             next = s.waiters[line].next;
@@ -193,18 +195,19 @@ FOR_MEASURE void best_first(struct view t, uint64_t measure, uint64_t *restrict 
     }
     for (part = 0; part < t.n; part++)
         if (depths[part] == 0)
-            figures[part] = lines[part] = 0;
+            figures[part] = lines[part] = pieces[part] = 0;
 }
 
 /* A table without parts has no place for a key. */
-static void fill(struct view t, uint64_t measure, uint64_t *figures, uint64_t *depths, uint64_t *lines)
+static void fill(struct view t, uint64_t measure, uint64_t *figures, uint64_t *depths, uint64_t *lines,
+                 uint64_t *pieces)
 {
     if (t.n == 0)
         return;
     if (measure == TOZBIERDU_DAYS)
-        best_first(t, TOZBIERDU_DAYS, figures, depths, lines);
+        best_first(t, TOZBIERDU_DAYS, figures, depths, lines, pieces);
     else
-        best_first(t, TOZBIERDU_COST, figures, depths, lines);
+        best_first(t, TOZBIERDU_COST, figures, depths, lines, pieces);
 }
 
 /* Whether a line gives its head a label, and its key: not if it is struck or needs an unmade part. */
@@ -269,11 +272,11 @@ FOR_MEASURE int all_right(struct view t, uint64_t measure, const uint64_t *figur
 }
 
 static int right(struct view t, uint64_t measure, const uint64_t *figures, const uint64_t *depths,
-                 const uint64_t *lines)
+                 const uint64_t *lines, const uint64_t *pieces)
 {
     if (measure == TOZBIERDU_DAYS)
-        return all_right(t, TOZBIERDU_DAYS, figures, depths, lines);
-    return all_right(t, TOZBIERDU_COST, figures, depths, lines);
+        return all_right(t, TOZBIERDU_DAYS, figures, depths, lines) && pieces_right(&t, depths, lines, pieces);
+    return all_right(t, TOZBIERDU_COST, figures, depths, lines) && pieces_right(&t, depths, lines, pieces);
 }
 
 /* Of the parts of a bill: how long each one's bill is, 0 if unknown, and where one has been printed. */

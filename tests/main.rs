@@ -25,6 +25,7 @@ const TESTS: &[&[Test]] = &[
     settle::TESTS,
     model::trees::TESTS,
     answers::TESTS,
+    answers::counts::TESTS,
     answers::near::TESTS,
     settle::entries::TESTS,
     bill::TESTS,

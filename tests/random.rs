@@ -89,8 +89,8 @@ impl Rng {
     }
 
     /// Answer columns that hold anything.
-    pub fn labelling(&mut self, lengths: [usize; 3]) -> Labelling {
-        let [weights, depths, edges] = lengths.map(|length| self.noise(length));
-        Labelling { weights, depths, edges }
+    pub fn labelling(&mut self, lengths: [usize; 4]) -> Labelling {
+        let [weights, depths, edges, pieces] = lengths.map(|length| self.noise(length));
+        Labelling { weights, depths, edges, pieces }
     }
 }

@@ -24,14 +24,15 @@ static const struct maker *const makers[MAKERS] = { &library, &plain };
 struct job {
     uint64_t measure, part, line, figure;
     struct table t;
-    uint64_t figures[TOZBIERDU_MOST_PARTS], depths[TOZBIERDU_MOST_PARTS], lines[TOZBIERDU_MOST_PARTS];
+    uint64_t figures[TOZBIERDU_MOST_PARTS], depths[TOZBIERDU_MOST_PARTS], lines[TOZBIERDU_MOST_PARTS],
+        pieces[TOZBIERDU_MOST_PARTS];
     uint64_t room[1];
 };
 
 #define TABLE(j) \
     (j)->t.heads, (j)->t.lines, (j)->t.own, (j)->t.lines, (j)->t.strikes, (j)->t.lines, (j)->t.spans, \
         2 * (j)->t.lines, (j)->t.tails, (j)->t.listed
-#define ANSWERS(j) (j)->figures, (j)->t.n, (j)->depths, (j)->t.n, (j)->lines, (j)->t.n
+#define ANSWERS(j) (j)->figures, (j)->t.n, (j)->depths, (j)->t.n, (j)->lines, (j)->t.n, (j)->pieces, (j)->t.n
 
 /* Each call has a function of its own, by whose name its instructions are told from the others'. */
 #define APART __attribute__((noinline))

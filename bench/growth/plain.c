@@ -119,7 +119,7 @@ uint64_t plain_append(struct growth *g)
 
     if ((result = check_growth(g, end)) != 0)
         return result;
-    if (!right(t, g->measure, g->figures, g->depths, g->chosen))
+    if (!right(t, g->measure, g->figures, g->depths, g->chosen, g->pieces))
         return REFUSED(TOZBIERDU_REFUSED_ANSWERS, 0);
     g->heads[g->lines] = g->head;
     g->own[g->lines] = g->figure;
@@ -132,6 +132,6 @@ uint64_t plain_append(struct growth *g)
     t.lines = g->lines;
     t.listed = g->listed;
     build(&t, g->index, g->list);
-    fill(t, g->measure, g->figures, g->depths, g->chosen);
+    fill(t, g->measure, g->figures, g->depths, g->chosen, g->pieces);
     return 0;
 }

@@ -1,5 +1,6 @@
 //! Checking answers: yes for the ones that are defined, no for all others, whatever they hold.
 
+pub mod counts;
 pub mod near;
 pub mod stale;
 pub mod values;
@@ -84,7 +85,7 @@ fn change_place(
 fn change_each_place(measure: u64, table: &Table) -> Outcome {
     let right = solve(measure, table);
     let mut tried = 0;
-    for column in 0..3 {
+    for column in 0..4 {
         for vertex in 0..table.n as usize {
             tried += change_place(measure, table, &right, column, vertex)?;
         }
@@ -115,7 +116,7 @@ fn one_place_limits(trial: &Trial) -> Outcome {
         let measure = rng.pick(&MEASURES);
         let right = solve(measure, &table);
         for _ in 0..2 {
-            let (column, vertex) = (rng.index(3), rng.index(table.n as usize));
+            let (column, vertex) = (rng.index(4), rng.index(table.n as usize));
             tried += change_place(measure, &table, &right, column, vertex)
                 .map_err(|wrong| format!("{name}: {wrong}"))?;
         }
@@ -132,7 +133,7 @@ fn exchanged(trial: &Trial) -> Outcome {
         for first in 0..table.n as usize {
             let second = rng.index(table.n as usize);
             let mut all = right.clone();
-            for column in 0..3 {
+            for column in 0..4 {
                 let mut one = right.clone();
                 one.columns_mut()[column].swap(first, second);
                 judged(measure, &table, &right, &one)?;
@@ -140,8 +141,8 @@ fn exchanged(trial: &Trial) -> Outcome {
             }
             judged(measure, &table, &right, &all)?;
         }
-        let Labelling { weights, depths, edges } = right.clone();
-        let turned = Labelling { weights: depths, depths: edges, edges: weights };
+        let Labelling { weights, depths, edges, pieces } = right.clone();
+        let turned = Labelling { weights: depths, depths: edges, edges: pieces, pieces: weights };
         judged(measure, &table, &right, &turned)
     })
 }
@@ -175,7 +176,8 @@ fn all_small(_: &Trial) -> Outcome {
             for digits in 0..3u64.pow(6) {
                 let digit = |place: u32| digits / 3u64.pow(place) % 3;
                 let [weights, depths, edges] = [0, 2, 4].map(|at| vec![digit(at), digit(at + 1)]);
-                judged(measure, &table, &right, &Labelling { weights, depths, edges })?;
+                let pieces = right.pieces.clone();
+                judged(measure, &table, &right, &Labelling { weights, depths, edges, pieces })?;
                 tried += 1;
             }
         }

@@ -66,8 +66,8 @@ fn zero_circle(_: &Trial) -> Outcome {
         let right = Labelling::unmade(2);
         for weight in [0, 1, CEILING, OVER, u64::MAX] {
             for depth in [(1, 1), (1, 2), (2, 1), (2, 3), (0, 1), (u64::MAX, 0), (u64::MAX, 1)] {
-                let first = Label { weight, depth: depth.0, edge: 0 };
-                let second = Label { weight, depth: depth.1, edge: 1 };
+                let first = Label { weight, depth: depth.0, edge: 0, pieces: 1 };
+                let second = Label { weight, depth: depth.1, edge: 1, pieces: 1 };
                 judged(measure, &circle(), &right, &Labelling::of(&[first, second]))?;
                 tried += 1;
             }
@@ -94,7 +94,7 @@ fn circles(trial: &Trial) -> Outcome {
         for deepest in [n, n + 1, u64::MAX] {
             // Falls along the circle as in a chain, and jumps up once.
             let depth = |vertex| deepest.wrapping_sub((vertex + n - start) % n);
-            let label = |vertex| Label { weight, depth: depth(vertex), edge: vertex };
+            let label = |vertex| Label { weight, depth: depth(vertex), edge: vertex, pieces: 1 };
             let labels: Vec<Label> = (0..n).map(label).collect();
             judged(measure, &table, &right, &Labelling::of(&labels))?;
         }
@@ -121,7 +121,7 @@ fn unfounded(trial: &Trial) -> Outcome {
             let head = table.heads[edge] as usize;
             let depth = [right.depths[head], 1 + rng.below(table.n)][rng.index(2)].max(1);
             let weight = weights[head].unwrap_or(0);
-            lent.set(head, Label { weight, depth, edge: edge as u64 });
+            lent.set(head, Label { weight, depth, edge: edge as u64, pieces: right.pieces[head] });
         }
         lent
     })
@@ -141,7 +141,7 @@ fn edge_before_depth(trial: &Trial) -> Outcome {
             let deepest = tail.map(|&vertex| right.depths[vertex as usize]).max().unwrap_or(0);
             let head = table.heads[edge] as usize;
             let weight = right.weights[head];
-            lent.set(head, Label { weight, depth: deepest + 1, edge: edge as u64 });
+            lent.set(head, Label { weight, depth: deepest + 1, edge: edge as u64, pieces: right.pieces[head] });
         }
         lent
     })

@@ -94,7 +94,7 @@ fn zero_circle(_: &Trial) -> Outcome {
         let right = Call::solved(measure, circle());
         for depths in [(1, 1), (1, 2), (2, 1), (0, 1), (u64::MAX, 0), (u64::MAX, 1)] {
             for weight in [0, 1, OVER] {
-                let first = Label { weight, depth: depths.0, edge: 0 };
+                let first = Label { weight, depth: depths.0, edge: 0, pieces: 1 };
                 let answers = Labelling::of(&[first, Label { depth: depths.1, edge: 1, ..first }]);
                 let lent = Call { answers, ..right.clone() };
                 for change in [Change::Reprice(0, 0), Change::Reprice(1, 5), Change::Strike(0)] {

@@ -26,7 +26,8 @@ fn none_as_figure(_: &Trial) -> Outcome {
             for depth in [0, 1, 2, 3, 4, 1 << 16, u64::MAX] {
                 for edge in [vertex, 1 - vertex, 2, u64::MAX] {
                     let mut lent = right.clone();
-                    lent.set(vertex as usize, Label { weight: u64::MAX, depth, edge });
+                    let pieces = right.pieces[vertex as usize];
+                    lent.set(vertex as usize, Label { weight: u64::MAX, depth, edge, pieces });
                     judged(measure, &table, &right, &lent)?;
                     tried += 1;
                 }
@@ -70,7 +71,7 @@ fn largest_wide(_: &Trial) -> Outcome {
     for measure in MEASURES {
         let right = solve(measure, &table);
         judged(measure, &table, &right, &right)?;
-        for column in 0..3 {
+        for column in 0..4 {
             for vertex in [0, MOST_VERTICES as usize - 1] {
                 let mut lent = right.clone();
                 lent.columns_mut()[column][vertex] += 1;

@@ -38,7 +38,7 @@ fn stated(_: &Trial) -> Outcome {
     if left.index.list[..6] != [2, 2, 4, 6, 4, 5] {
         return Err(format!("list {:?}", left.index.list));
     }
-    if left.answers.label(4) != (Label { weight: 607, depth: 2, edge: 6 }) {
+    if left.answers.label(4) != (Label { weight: 607, depth: 2, edge: 6, pieces: 2 }) {
         return Err(format!("part 4 is {:?}", left.answers.label(4)));
     }
     same_growth(&left, &growth.after())?;

@@ -167,7 +167,7 @@ fn order(trial: &Trial) -> Outcome {
         }
         let Call { measure, table, mut answers } = call;
         if rng.chance(40) {
-            let column = rng.index(3);
+            let column = rng.index(4);
             if let Some(word) = answers.columns_mut()[column].last_mut() {
                 *word = rng.any();
             }
@@ -185,7 +185,7 @@ fn one_word(trial: &Trial) -> Outcome {
         let table = tables::any(rng);
         let measure = rng.pick(&MEASURES);
         let mut answers = solve(measure, &table);
-        let (column, vertex) = (rng.index(3), rng.index(table.n as usize));
+        let (column, vertex) = (rng.index(4), rng.index(table.n as usize));
         answers.columns_mut()[column][vertex] = rng.any();
         let part = rng.below(table.n + 1);
         let places = rng.index(40);

@@ -140,6 +140,7 @@ pub struct LentLabelling<'a> {
     pub weights: Column<'a>,
     pub depths: Column<'a>,
     pub edges: Column<'a>,
+    pub pieces: Column<'a>,
 }
 
 impl<'a> LentLabelling<'a> {
@@ -148,19 +149,22 @@ impl<'a> LentLabelling<'a> {
             weights: Column::lend("weights", &labelling.weights),
             depths: Column::lend("depths", &labelling.depths),
             edges: Column::lend("edges", &labelling.edges),
+            pieces: Column::lend("pieces", &labelling.pieces),
         }
     }
 
     pub fn guarded(&self) -> Verdict {
         self.weights.guarded()?;
         self.depths.guarded()?;
-        self.edges.guarded()
+        self.edges.guarded()?;
+        self.pieces.guarded()
     }
 
     pub fn kept(&self) -> Verdict {
         self.weights.kept()?;
         self.depths.kept()?;
-        self.edges.kept()
+        self.edges.kept()?;
+        self.pieces.kept()
     }
 
     pub fn labelling(&self) -> Labelling {
@@ -168,6 +172,7 @@ impl<'a> LentLabelling<'a> {
             weights: self.weights.values().to_vec(),
             depths: self.depths.values().to_vec(),
             edges: self.edges.values().to_vec(),
+            pieces: self.pieces.values().to_vec(),
         }
     }
 }

@@ -32,6 +32,8 @@ mod counter {
             depths_len: usize,
             edges: *mut u64,
             edges_len: usize,
+            pieces: *mut u64,
+            pieces_len: usize,
         ) -> u64;
 
         pub fn reprice(
@@ -53,6 +55,8 @@ mod counter {
             depths_len: usize,
             edges: *mut u64,
             edges_len: usize,
+            pieces: *mut u64,
+            pieces_len: usize,
             line: u64,
             figure: u64,
         ) -> u64;
@@ -76,6 +80,8 @@ mod counter {
             depths_len: usize,
             edges: *const u64,
             edges_len: usize,
+            pieces: *const u64,
+            pieces_len: usize,
             part: u64,
             room: *mut u64,
             room_len: usize,
@@ -117,6 +123,8 @@ extern "C" {
         depths_len: usize,
         edges: *const u64,
         edges_len: usize,
+        pieces: *const u64,
+        pieces_len: usize,
     ) -> u64;
 
     fn harness_entry(
@@ -126,6 +134,8 @@ extern "C" {
         depths_len: usize,
         edges: *const u64,
         edges_len: usize,
+        pieces: *const u64,
+        pieces_len: usize,
         vertex: u64,
         entry: *mut u64,
         entry_len: usize,
@@ -150,6 +160,8 @@ extern "C" {
         depths_len: usize,
         edges: *mut u64,
         edges_len: usize,
+        pieces: *mut u64,
+        pieces_len: usize,
         line: u64,
     ) -> u64;
 
@@ -172,6 +184,8 @@ extern "C" {
         depths_len: usize,
         edges: *mut u64,
         edges_len: usize,
+        pieces: *mut u64,
+        pieces_len: usize,
         line: u64,
     ) -> u64;
 }
@@ -225,6 +239,8 @@ pub fn settle(
             room.depths.len(),
             room.edges.pointer(),
             room.edges.len(),
+            room.pieces.pointer(),
+            room.pieces.len(),
         )
     };
     let columns = if result == 0 { room.guarded() } else { room.kept() };
@@ -255,6 +271,8 @@ pub fn check_answers(measure: u64, table: &Table, answers: &Labelling) -> Result
             labels.depths.len(),
             labels.edges.pointer(),
             labels.edges.len(),
+            labels.pieces.pointer(),
+            labels.pieces.len(),
         )
     };
     lent.kept().and(labels.kept()).map_err(|wrong| format!("check_answers, {wrong}"))?;
@@ -292,6 +310,8 @@ pub fn bill(
             labels.depths.len(),
             labels.edges.pointer(),
             labels.edges.len(),
+            labels.pieces.pointer(),
+            labels.pieces.len(),
             part,
             places.pointer(),
             places.len(),
@@ -314,12 +334,14 @@ pub fn entry(answers: &Labelling, vertex: u64, room: &[u64]) -> Result<(u64, Vec
             labels.depths.len(),
             labels.edges.pointer(),
             labels.edges.len(),
+            labels.pieces.pointer(),
+            labels.pieces.len(),
             vertex,
             entry.pointer(),
             entry.len(),
         )
     };
-    let written = if room.len() == 3 { entry.guarded() } else { entry.kept() };
+    let written = if room.len() == 4 { entry.guarded() } else { entry.kept() };
     labels.kept().and(written).map_err(|wrong| format!("entry, {wrong}"))?;
     Ok((state, entry.values().to_vec()))
 }
@@ -361,6 +383,8 @@ pub fn reprice(
             room.depths.len(),
             room.edges.pointer(),
             room.edges.len(),
+            room.pieces.pointer(),
+            room.pieces.len(),
             edge,
             own,
         )
@@ -417,6 +441,8 @@ fn marked(
             room.depths.len(),
             room.edges.pointer(),
             room.edges.len(),
+            room.pieces.pointer(),
+            room.pieces.len(),
             edge,
         )
     };

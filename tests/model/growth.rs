@@ -157,7 +157,7 @@ impl Growth {
                 return result;
             }
         }
-        if self.answers.lengths() != [held.n as usize; 3] {
+        if self.answers.lengths() != [held.n as usize; 4] {
             return refusal(7, 0);
         }
         if self.lacks_room() {

@@ -20,6 +20,7 @@ pub const MOST_TAILS: usize = 16_384;
 pub const GREATEST: u64 = 1_000_000_000;
 pub const CEILING: u64 = 1_000_000_000_000;
 pub const OVER: u64 = 1_000_000_000_001;
+pub const MOST_PIECES: u64 = 1_000_000_000;
 
 /// The strike marks.
 pub const STANDS: u64 = 0;
@@ -128,16 +129,18 @@ pub struct Label {
     pub weight: u64,
     pub depth: u64,
     pub edge: u64,
+    pub pieces: u64,
 }
 
-pub const UNMADE: Label = Label { weight: 0, depth: 0, edge: 0 };
+pub const UNMADE: Label = Label { weight: 0, depth: 0, edge: 0, pieces: 0 };
 
-/// The three answer columns; lent ones may hold anything and differ in length.
+/// The four answer columns; lent ones may hold anything and differ in length.
 #[derive(Clone, PartialEq, Debug)]
 pub struct Labelling {
     pub weights: Vec<u64>,
     pub depths: Vec<u64>,
     pub edges: Vec<u64>,
+    pub pieces: Vec<u64>,
 }
 
 impl Labelling {
@@ -146,6 +149,7 @@ impl Labelling {
             weights: labels.iter().map(|label| label.weight).collect(),
             depths: labels.iter().map(|label| label.depth).collect(),
             edges: labels.iter().map(|label| label.edge).collect(),
+            pieces: labels.iter().map(|label| label.pieces).collect(),
         }
     }
 
@@ -159,27 +163,36 @@ impl Labelling {
             let index = usize::try_from(vertex).ok();
             index.and_then(|index| column.get(index)).copied().unwrap_or(0)
         };
-        Label { weight: read(&self.weights), depth: read(&self.depths), edge: read(&self.edges) }
+        Label {
+            weight: read(&self.weights),
+            depth: read(&self.depths),
+            edge: read(&self.edges),
+            pieces: read(&self.pieces),
+        }
     }
 
     pub fn set(&mut self, vertex: usize, label: Label) {
         self.weights[vertex] = label.weight;
         self.depths[vertex] = label.depth;
         self.edges[vertex] = label.edge;
+        self.pieces[vertex] = label.pieces;
     }
 
-    pub fn columns_mut(&mut self) -> [&mut Vec<u64>; 3] {
-        [&mut self.weights, &mut self.depths, &mut self.edges]
+    pub fn columns_mut(&mut self) -> [&mut Vec<u64>; 4] {
+        [&mut self.weights, &mut self.depths, &mut self.edges, &mut self.pieces]
     }
 
-    pub fn lengths(&self) -> [usize; 3] {
-        [self.weights.len(), self.depths.len(), self.edges.len()]
+    pub fn lengths(&self) -> [usize; 4] {
+        [self.weights.len(), self.depths.len(), self.edges.len(), self.pieces.len()]
     }
 
     pub fn describe(&self) -> String {
         if self.lengths().iter().sum::<usize>() > 100 {
             return format!("answer columns of {:?} places", self.lengths());
         }
-        format!("weights={:?} depths={:?} edges={:?}", self.weights, self.depths, self.edges)
+        format!(
+            "weights={:?} depths={:?} edges={:?} pieces={:?}",
+            self.weights, self.depths, self.edges, self.pieces
+        )
     }
 }

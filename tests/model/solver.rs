@@ -1,6 +1,6 @@
 //! The answers worked out a second way, to compare with: weights by rounds over all hyperedges
 //! until nothing changes, then depths over the tight ones, then the lowest hyperedge. No queue, no
-//! order of settling. What a change leaves, how often a hyperedge stands in a derivation, and the
+//! order of settling. Piece counts by recursion over the chosen hyperedges. What a change leaves, how often a hyperedge stands in a derivation, and the
 //! bills, by recursion over the chosen hyperedges. And the refusals of the calls, in the order of the
 //! specification.
 
@@ -16,11 +16,38 @@ pub fn solve(measure: u64, table: &Table) -> Labelling {
         let head = table.heads[edge] as usize;
         if let (Some(weight), Some(depth)) = (weights[head], depths[head]) {
             if depth_by(table, edge, &depths) == Some(depth) {
-                labelling.set(head, Label { weight, depth, edge: edge as u64 });
+                labelling.set(head, Label { weight, depth, edge: edge as u64, pieces: 0 });
             }
         }
     }
+    labelling.pieces = piece_counts(table, &labelling);
     labelling
+}
+
+/// How many hyperedges without a tail each vertex's chosen derivation has, by recursion over the
+/// chosen hyperedges in 128 bits, and capped at the end; 0 where there is none.
+pub fn piece_counts(table: &Table, labels: &Labelling) -> Vec<u64> {
+    let mut known = vec![None; table.n as usize];
+    let cap = u128::from(MOST_PIECES);
+    (0..table.n).map(|v| pieces_of(table, labels, v, &mut known).min(cap) as u64).collect()
+}
+
+/// A count above the type's greatest number stays there; all others are exact, since a sum only grows.
+fn pieces_of(table: &Table, labels: &Labelling, vertex: u64, known: &mut [Option<u128>]) -> u128 {
+    let place = vertex as usize;
+    if labels.depths[place] == 0 {
+        return 0;
+    }
+    if let Some(count) = known[place] {
+        return count;
+    }
+    let tail = table.tail(labels.edges[place] as usize);
+    let mut count = u128::from(tail.is_empty());
+    for &part in tail {
+        count = count.saturating_add(pieces_of(table, labels, part, known));
+    }
+    known[place] = Some(count);
+    count
 }
 
 /// A hyperedge's weight from those of its tail; none while one of them has none.

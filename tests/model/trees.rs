@@ -106,11 +106,32 @@ fn labelling(measure: u64, table: &Table) -> Labelling {
         let thrifty = all.iter().filter(|one| is_thrifty(table, &best, one));
         let first = thrifty.map(|one| (one.depth, one.root)).min();
         labels.push(match (best[vertex], first) {
-            (Some(weight), Some((depth, root))) => Label { weight, depth, edge: root as u64 },
+            (Some(weight), Some((depth, root))) => {
+                Label { weight, depth, edge: root as u64, pieces: 0 }
+            }
             _ => UNMADE,
         });
     }
+    for (vertex, all) in known.iter().enumerate() {
+        let mut chosen = all.iter().filter(|one| follows(table, &labels, one));
+        let count = chosen.next().map_or(0, |one| leaves(one));
+        labels[vertex].pieces = count.min(MOST_PIECES);
+    }
     Labelling::of(&labels)
+}
+
+/// Each subtree has the chosen root of its own vertex.
+fn follows(table: &Table, labels: &[Label], derivation: &Derivation) -> bool {
+    let vertex = table.heads[derivation.root] as usize;
+    labels[vertex].edge == derivation.root as u64
+        && derivation.children.iter().all(|child| follows(table, labels, child))
+}
+
+fn leaves(derivation: &Derivation) -> u64 {
+    if derivation.children.is_empty() {
+        return 1;
+    }
+    derivation.children.iter().map(|child| leaves(child)).sum()
 }
 
 fn agree(measure: u64, table: &Table, rng: &mut Rng) -> Verdict {

@@ -113,7 +113,7 @@ fn rises(pair: &Pair, old: &Labelling, new: &Labelling) -> Result<Vec<Rise>, Str
 
 /// The table as the library settles it, which must be as the solver does.
 fn settled(measure: u64, table: &Table, rng: &mut Rng) -> Result<Call, String> {
-    let room = rng.labelling([table.n as usize; 3]);
+    let room = rng.labelling([table.n as usize; 4]);
     let (result, answers) = settle(measure, table, &room)?;
     expect("settle", result, 0)?;
     same("settle", &answers, &solve(measure, table))?;

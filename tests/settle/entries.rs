@@ -28,12 +28,12 @@ fn state(label: Label) -> u64 {
     }
 }
 
-/// The entry in a room of `places`: written if there are exactly 3.
+/// The entry in a room of `places`: written if there are exactly 4.
 fn reads(answers: &Labelling, vertex: u64, places: usize, rng: &mut Rng) -> Verdict {
     let label = answers.label(vertex);
     let room = rng.noise(places);
-    let numbers = vec![label.weight, label.depth, label.edge];
-    let wanted = if places == 3 { numbers } else { room.clone() };
+    let numbers = vec![label.weight, label.depth, label.edge, label.pieces];
+    let wanted = if places == 4 { numbers } else { room.clone() };
     let verdict = entry(answers, vertex, &room).and_then(|(found, written)| {
         expect("entry", found, state(label))?;
         let differing = format!("entry wrote {written:?}, wanted {wanted:?}");
@@ -59,7 +59,7 @@ fn stated(trial: &Trial) -> Outcome {
             };
             let verdict = expect("the state", state(*label), wanted);
             verdict
-                .and_then(|()| reads(&answers, vertex as u64, 3, &mut trial.rng()))
+                .and_then(|()| reads(&answers, vertex as u64, 4, &mut trial.rng()))
                 .map_err(|wrong| format!("{}: {wrong}", example.name))?;
             cases += 1;
         }
@@ -71,7 +71,7 @@ fn settled(trial: &Trial) -> Outcome {
     trial.cases(trial.count, |rng| {
         let table = tables::any(rng);
         let answers = solve(rng.pick(&MEASURES), &table);
-        (0..table.n).try_for_each(|vertex| reads(&answers, vertex, 3, rng))
+        (0..table.n).try_for_each(|vertex| reads(&answers, vertex, 4, rng))
     })
 }
 
@@ -79,31 +79,31 @@ fn settled(trial: &Trial) -> Outcome {
 fn lent(trial: &Trial) -> Outcome {
     trial.cases(trial.count, |rng| {
         let length = 1 + rng.index(5);
-        let mut answers = rng.labelling([length; 3]);
+        let mut answers = rng.labelling([length; 4]);
         let vertex = rng.index(length);
         answers.weights[vertex] = rng.pick(&[0, 1, CEILING, OVER, OVER + 1, u64::MAX, OVER << 8]);
         answers.depths[vertex] = rng.pick(&[0, 0, 1, 256, 1 << 32, 1 << 63, u64::MAX]);
-        reads(&answers, vertex as u64, 3, rng)
+        reads(&answers, vertex as u64, 4, rng)
     })
 }
 
 /// Columns of different lengths, and vertices beyond some or all of them.
 fn beyond(trial: &Trial) -> Outcome {
     trial.cases(trial.count, |rng| {
-        let lengths = [(); 3].map(|()| rng.index(6));
+        let lengths = [(); 4].map(|()| rng.index(6));
         let answers = rng.labelling(lengths);
         for vertex in 0..8 {
-            reads(&answers, vertex, 3, rng)?;
+            reads(&answers, vertex, 4, rng)?;
         }
         let far = rng.pick(&[1 << 32, 1 << 61, (1 << 61) + 1, 1 << 63, u64::MAX]);
-        reads(&answers, far, 3, rng)
+        reads(&answers, far, 4, rng)
     })
 }
 
 fn room(trial: &Trial) -> Outcome {
     trial.cases(trial.count, |rng| {
         let length = 1 + rng.index(5);
-        let answers = rng.labelling([length; 3]);
+        let answers = rng.labelling([length; 4]);
         (0..8).try_for_each(|places| reads(&answers, rng.below(7), places, rng))
     })
 }

@@ -38,7 +38,7 @@ pub const TESTS: &[Test] = &[
 pub fn settles_to(measure: u64, table: &Table, wanted: &Labelling, rng: &mut Rng) -> Verdict {
     let mut verdict = || {
         expect("check_table", check_table(table)?, 0)?;
-        let room = rng.labelling([table.n as usize; 3]);
+        let room = rng.labelling([table.n as usize; 4]);
         let (result, answers) = settle(measure, table, &room)?;
         expect("settle", result, 0)?;
         same("settle", &answers, wanted)?;
@@ -97,7 +97,7 @@ fn days_ceiling(trial: &Trial) -> Outcome {
         let edges: Vec<_> = (0..length).map(|vertex| (vertex, GREATEST, before(vertex))).collect();
         let label = |vertex: u64| {
             let weight = if vertex < 1_000 { (vertex + 1) * GREATEST } else { OVER };
-            Label { weight, depth: vertex + 1, edge: vertex }
+            Label { weight, depth: vertex + 1, edge: vertex, pieces: 1 }
         };
         let labels: Vec<Label> = (0..length).map(label).collect();
         let (table, wanted) = (Table::of(length, &edges), Labelling::of(&labels));

@@ -203,17 +203,17 @@ fn at_the_limits(trial: &Trial) -> Outcome {
     Ok(steps.len() as u64)
 }
 
-/// All lengths from 0 to two above n, in all three columns at once.
+/// All lengths from 0 to two above n, in all four columns at once.
 fn answer_lengths(trial: &Trial) -> Outcome {
     let mut rng = trial.rng();
     let mut tried = 0;
     for n in 0..4 {
         let mut table = Table::new(n);
         (0..n).for_each(|vertex| table.push(vertex, vertex, &[]));
-        for code in 0..6usize.pow(3) {
-            let answers = rng.labelling([code % 6, code / 6 % 6, code / 36]);
+        for code in 0..6usize.pow(4) {
+            let answers = rng.labelling([code % 6, code / 6 % 6, code / 36 % 6, code / 216]);
             let call = Call { measure: COST, table: table.clone(), answers };
-            let fits = call.answers.lengths() == [n as usize; 3];
+            let fits = call.answers.lengths() == [n as usize; 4];
             let of_call = if fits { 0 } else { refusal(7, 0) };
             returns(&call, 0, of_call, &mut rng)?;
             tried += 1;
@@ -227,9 +227,9 @@ pub fn with_one_word(rng: &mut Rng) -> Call {
     let table = tables::any(rng);
     let mut call = Call::solved(rng.pick(&MEASURES), table);
     let Table { n, heads, own, strikes, spans, tails } = &mut call.table;
-    let [weights, depths, edges] = call.answers.columns_mut();
-    let columns = [heads, own, strikes, spans, tails, weights, depths, edges];
-    let column = rng.index(10);
+    let [weights, depths, edges, pieces] = call.answers.columns_mut();
+    let columns = [heads, own, strikes, spans, tails, weights, depths, edges, pieces];
+    let column = rng.index(11);
     match columns.into_iter().nth(column) {
         Some(words) if !words.is_empty() && rng.chance(80) => {
             let place = rng.index(words.len());
@@ -237,7 +237,7 @@ pub fn with_one_word(rng: &mut Rng) -> Call {
         }
         Some(words) if rng.chance(50) => words.truncate(words.len().saturating_sub(1)),
         Some(words) => words.push(rng.any()),
-        None if column == 8 => *n = rng.any(),
+        None if column == 9 => *n = rng.any(),
         None => call.measure = rng.any(),
     }
     call
@@ -267,7 +267,7 @@ pub fn of_noise(rng: &mut Rng) -> Call {
     }
     let length = if rng.chance(80) { table.n as usize } else { rng.index(8) };
     let measure = if rng.chance(80) { rng.pick(&MEASURES) } else { rng.any() };
-    let answers = rng.labelling([length; 3]);
+    let answers = rng.labelling([length; 4]);
     Call { measure, table, answers }
 }
 

@@ -86,7 +86,7 @@ pub fn faults() -> Vec<Fault> {
     all.extend([GREATEST + 1, 1 << 32, (1 << 32) + 1, 1 << 63].map(|mark| Fault::Mark(1, mark)));
     all.extend([Fault::Head(LAST, N), Fault::Own(LAST, u64::MAX)]);
     all.extend((0..SPAN_WAYS).map(|way| Fault::Span(LAST, way)));
-    for column in 0..4 {
+    for column in 0..5 {
         all.extend((0..ANSWER_WAYS).map(|way| Fault::Answers(column, way)));
     }
     all
@@ -148,7 +148,7 @@ impl Fault {
                 let offset = call.table.spans[2 * edge] as usize;
                 call.table.tails[offset + place] = value;
             }
-            Fault::Answers(3, way) => {
+            Fault::Answers(4, way) => {
                 let columns = call.answers.columns_mut();
                 columns.into_iter().for_each(|column| damage_answers(column, way));
             }

@@ -44,27 +44,30 @@ fn thousands(last: u64) -> Table {
     Table::of(4, &[(0, GREATEST, vec![]), (1, 0, ten(0)), (2, 0, ten(1)), (3, last, ten(2))])
 }
 
-fn example(name: &'static str, measure: u64, table: Table, labels: &[(u64, u64, u64)]) -> Example {
-    let labels = labels.iter().map(|&(weight, depth, edge)| Label { weight, depth, edge });
+fn example(name: &'static str, measure: u64, table: Table, labels: &[Numbers]) -> Example {
+    let labels = labels.iter();
+    let labels = labels.map(|&(weight, depth, edge, pieces)| Label { weight, depth, edge, pieces });
     Example { name, measure, table, labels: labels.collect() }
 }
 
-/// Weight, depth and hyperedge: of no derivation, and of the worked table's first two vertices.
-const NONE: (u64, u64, u64) = (0, 0, 0);
-const ZERO: (u64, u64, u64) = (1_200, 1, 0);
-const ONE: (u64, u64, u64) = (300, 1, 1);
+/// Weight, depth, hyperedge and pieces: of no derivation, and of the worked table's first two
+/// vertices.
+type Numbers = (u64, u64, u64, u64);
+const NONE: Numbers = (0, 0, 0, 0);
+const ZERO: Numbers = (1_200, 1, 0, 1);
+const ONE: Numbers = (300, 1, 1, 1);
 
 pub fn p1() -> Example {
-    example("P1", COST, worked(), &[ZERO, ONE, (2_000, 2, 2), (2_600, 3, 4), NONE])
+    example("P1", COST, worked(), &[ZERO, ONE, (2_000, 2, 2, 2), (2_600, 3, 4, 4), NONE])
 }
 
 fn p3() -> Example {
-    let labels = [ZERO, (500, 1, 1), (2_100, 1, 3), (3_100, 2, 4), NONE];
+    let labels = [ZERO, (500, 1, 1, 1), (2_100, 1, 3, 1), (3_100, 2, 4, 3), NONE];
     example("P3, settled anew", COST, worked_with(1, 500), &labels)
 }
 
 pub fn p10() -> Example {
-    let labels = [NONE, ONE, (2_100, 1, 3), (2_700, 2, 4), NONE];
+    let labels = [NONE, ONE, (2_100, 1, 3, 1), (2_700, 2, 4, 3), NONE];
     example("P10, settled anew", COST, worked_without(0), &labels)
 }
 
@@ -74,10 +77,10 @@ pub fn changes() -> [(Change, Example); 2] {
 }
 
 pub fn examples() -> Vec<Example> {
-    let tens = [(GREATEST, 1, 0), (10 * GREATEST, 2, 1), (100 * GREATEST, 3, 2)];
+    let tens = [(GREATEST, 1, 0, 1), (10 * GREATEST, 2, 1, 10), (100 * GREATEST, 3, 2, 100)];
     let [first, second, third] = tens;
     let shorter = Table::of(2, &[(0, 5, vec![]), (1, 0, vec![0]), (1, 5, vec![])]);
-    let p4 = [ZERO, ONE, (1_700, 2, 2), (1_700, 3, 4), NONE];
+    let p4 = [ZERO, ONE, (1_700, 2, 2, 2), (1_700, 3, 4, 4), NONE];
     vec![
         p1(),
         p3(),
@@ -86,10 +89,10 @@ pub fn examples() -> Vec<Example> {
         example("P5 in days", DAYS, Table::new(0), &[]),
         example("P6", COST, circle(), &[NONE, NONE]),
         example("P6 in days", DAYS, circle(), &[NONE, NONE]),
-        example("P7", COST, thousands(0), &[first, second, third, (CEILING, 4, 3)]),
-        example("P8", COST, thousands(1), &[first, second, third, (OVER, 4, 3)]),
-        example("P9", COST, shorter.clone(), &[(5, 1, 0), (5, 1, 2)]),
-        example("P9 in days", DAYS, shorter, &[(5, 1, 0), (5, 1, 2)]),
+        example("P7", COST, thousands(0), &[first, second, third, (CEILING, 4, 3, 1_000)]),
+        example("P8", COST, thousands(1), &[first, second, third, (OVER, 4, 3, 1_000)]),
+        example("P9", COST, shorter.clone(), &[(5, 1, 0, 1), (5, 1, 2, 1)]),
+        example("P9 in days", DAYS, shorter, &[(5, 1, 0, 1), (5, 1, 2, 1)]),
         p10(),
     ]
 }

@@ -69,7 +69,7 @@ pub fn flaws() -> Vec<Flaw> {
     all.push(Flaw::Marked);
     all.extend(outside(EDGES).into_iter().map(Flaw::Edge));
     all.extend(TOO_GREAT.map(Flaw::Own));
-    for column in 0..3 {
+    for column in 0..4 {
         for vertex in 0..VERTICES {
             all.extend([1, u64::MAX].map(|more| Flaw::Label(column, vertex, more)));
         }

@@ -23,7 +23,7 @@ use Rattle.refusal.specs.Refusals.{codeOf, columnOf, resultOf, acceptanceResult
 use Rattle.statistics.specs.declared.Moments.{Moments}
 use Rattle.statistics.specs.declared.Summary.{Summary}
 use Rattle.statistics.specs.declared.Summary.the-variants as summary
-use Rattle.columns.specs.Columns.{Answers, Columns}
+use Rattle.columns.specs.Columns.{Entries, Columns}
 use Rattle.settle.specs.Checking.{checked}
 use Rattle.reprice.specs.Repricing.{stricken, restored}
 use Rattle.columns.specs.Longer.{NewLine}
@@ -55,7 +55,7 @@ use Rattle.harness.specs.Results.{
   orderedResult,
 }
 
-module _ {o : MeasureChoice} (c : Columns) (a : Answers) {n : ℕ} where
+module _ {o : MeasureChoice} (c : Columns) (a : Entries) {n : ℕ} where
   pub checked-refused : {r : Refusal} → o ≡ choice.Refused r → n ≡ resultOf (codeOf r) → n ≡ checkedResult o c a
   checked-refused p q = rw (p, q)
 
@@ -67,30 +67,16 @@ module _ {o : MeasureChoice} (c : Columns) (a : Answers) {n : ℕ} where
     pub stricken-refused : {r : Refusal} → o ≡ choice.Refused r → n ≡ resultOf (codeOf r) → record { result = n; strikes = c .strikes; left = a } ≡ strickenResult o c a e
     stricken-refused p q = rw (p, q)
 
-    pub stricken-measure : {m : Measure} {x : Acceptance} {ks : List ℕ} {b : Answers} → o ≡ choice.Measure m → n ≡ acceptanceResult x
+    pub stricken-measure : {m : Measure} {x : Acceptance} {ks : List ℕ} {b : Entries} → o ≡ choice.Measure m → n ≡ acceptanceResult x
         → record { result = x; strikes = ks; left = b } ≡ stricken m c a e → record { result = n; strikes = ks; left = b } ≡ strickenResult o c a e
     stricken-measure p q k = rw (p, q) (ap markResult k)
 
     pub restored-refused : {r : Refusal} → o ≡ choice.Refused r → n ≡ resultOf (codeOf r) → record { result = n; strikes = c .strikes; left = a } ≡ restoredResult o c a e
     restored-refused p q = rw (p, q)
 
-    pub restored-measure : {m : Measure} {x : Acceptance} {ks : List ℕ} {b : Answers} → o ≡ choice.Measure m → n ≡ acceptanceResult x
+    pub restored-measure : {m : Measure} {x : Acceptance} {ks : List ℕ} {b : Entries} → o ≡ choice.Measure m → n ≡ acceptanceResult x
         → record { result = x; strikes = ks; left = b } ≡ restored m c a e → record { result = n; strikes = ks; left = b } ≡ restoredResult o c a e
     restored-measure p q k = rw (p, q) (ap markResult k)
-
-three : (xs : List ℕ) (w d e : ℕ) → length xs ≡ 3 → set (set (set xs 0 w) 1 d) 2 e ≡ w ∷ d ∷ e ∷ []
-three [] w d e h = absurd (omega arith)
-three (x ∷ []) w d e h = absurd (omega arith)
-three (x ∷ (y ∷ [])) w d e h = absurd (omega arith)
-three (x ∷ (y ∷ (z ∷ []))) w d e h = refl
-three (x ∷ (y ∷ (z ∷ (t ∷ ts)))) w d e h = absurd (omega arith)
-
-module _ (e : Entry) (room : List ℕ) where
-  pub written : length room ≡ 3 → set (set (set room 0 (e .weight .0)) 1 (e .depth)) 2 (e .edge .0) ≡ entryWritten e room
-  written h = rw (eq-eqb (length room) 3 h) (three room (e .weight .0) (e .depth) (e .edge .0) h)
-
-  pub unwritten : ¬ (length room ≡ 3) → room ≡ entryWritten e room
-  unwritten n = rw (ne-eqb (length room) 3 n)
 
 four : (xs : List ℕ) (n m e l : ℕ) → length xs ≡ 4 → set (set (set (set xs 0 n) 1 m) 2 e) 3 l ≡ n ∷ m ∷ e ∷ l ∷ []
 four [] n m e l h = absurd (omega arith)
@@ -99,6 +85,13 @@ four (x ∷ (y ∷ [])) n m e l h = absurd (omega arith)
 four (x ∷ (y ∷ (z ∷ []))) n m e l h = absurd (omega arith)
 four (x ∷ (y ∷ (z ∷ (t ∷ [])))) n m e l h = refl
 four (x ∷ (y ∷ (z ∷ (t ∷ (u ∷ us))))) n m e l h = absurd (omega arith)
+
+module _ (e : Entry) (room : List ℕ) where
+  pub written : length room ≡ 4 → set (set (set (set room 0 (e .weight .0)) 1 (e .depth)) 2 (e .edge .0)) 3 (e .pieces) ≡ entryWritten e room
+  written h = rw (eq-eqb (length room) 4 h) (four room (e .weight .0) (e .depth) (e .edge .0) (e .pieces) h)
+
+  pub unwritten : ¬ (length room ≡ 4) → room ≡ entryWritten e room
+  unwritten n = rw (ne-eqb (length room) 4 n)
 
 module _ (h : Header) (room : List ℕ) where
   pub header-written : {m : ℕ} → m ≡ measureNumber (h .measure) → length room ≡ 4 → set (set (set (set room 0 (h .vertices)) 1 m) 2 (h .edges)) 3 (h .listed) ≡ headerWritten h room
@@ -151,11 +144,11 @@ module _ (k : Counts) (room : List ℕ) where
   counts-unwritten n = rw (ne-eqb (length room) 2 n)
 
 -- appending, by the measure's number and then by its answer
-module _ {o : MeasureChoice} (c : Columns) (k : Counts) (a : Answers) (index list : List ℕ) (l : NewLine) (room : List ℕ) where
+module _ {o : MeasureChoice} (c : Columns) (k : Counts) (a : Entries) (index list : List ℕ) (l : NewLine) (room : List ℕ) where
   pub append-measure : {r : Refusal} {n : ℕ} → o ≡ choice.Refused r → n ≡ resultOf (codeOf r) → leftGrown n c a index list room ≡ appendedResult o c k a index list l room
   append-measure p q = rw (p, q)
 
-  module _ {m : Measure} (p : o ≡ choice.Measure m) {x : Appending} {c′ : Columns} {a′ : Answers} {i′ l′ : List ℕ} (e : leaves x c′ a′ i′ l′ ≡ appended m c k a index list l) where
+  module _ {m : Measure} (p : o ≡ choice.Measure m) {x : Appending} {c′ : Columns} {a′ : Entries} {i′ l′ : List ℕ} (e : leaves x c′ a′ i′ l′ ≡ appended m c k a index list l) where
     pub append-refused : {r : Refusal} {n : ℕ} → x ≡ appending.Refused r → n ≡ resultOf (codeOf r) → leftGrown n c′ a′ i′ l′ room ≡ appendedResult o c k a index list l room
     append-refused q s = rw (p, ← e, q, s)
 

@@ -22,7 +22,7 @@ use Rattle.statistics.specs.declared.Moments as moments
 use Rattle.statistics.specs.declared.Summary.{Summary}
 use Rattle.statistics.specs.declared.Summary.the-variants as summary
 use Rattle.statistics.specs.Summaries.{summaryNumber, summaryValues}
-use Rattle.columns.specs.Columns.{Answers, Columns}
+use Rattle.columns.specs.Columns.{Entries, Columns}
 use Rattle.settle.specs.Checking.{checked}
 use Rattle.reprice.specs.Repricing.{MarkOutcome, stricken, restored}
 use Rattle.counter.specs.Results.{Left, outcomeResult, LeftRoom}
@@ -34,7 +34,7 @@ use Rattle.readtable.specs.Read.{ReadOutcome}
 use Rattle.writetable.specs.Write.{WriteOutcome, writeTable}
 
 -- a measure's number is tested before everything
-abbrev pub checkedResult : MeasureChoice → Columns → Answers → ℕ
+abbrev pub checkedResult : MeasureChoice → Columns → Entries → ℕ
 checkedResult (Refused r) c a = resultOf (codeOf r)
 checkedResult (Measure m) c a = verdictResult (checked m c a)
 
@@ -42,16 +42,16 @@ checkedResult (Measure m) c a = verdictResult (checked m c a)
 pub record LeftMarks : Type 0 where
   pub result : ℕ
   pub strikes : List ℕ
-  pub left : Answers
+  pub left : Entries
 
 abbrev pub markResult : MarkOutcome → LeftMarks
 markResult x = record { result = acceptanceResult (x .result); strikes = x .strikes; left = x .left }
 
-abbrev pub strickenResult : MeasureChoice → Columns → Answers → ℕ → LeftMarks
+abbrev pub strickenResult : MeasureChoice → Columns → Entries → ℕ → LeftMarks
 strickenResult (Refused r) c a e = record { result = resultOf (codeOf r); strikes = c .strikes; left = a }
 strickenResult (Measure m) c a e = markResult (stricken m c a e)
 
-abbrev pub restoredResult : MeasureChoice → Columns → Answers → ℕ → LeftMarks
+abbrev pub restoredResult : MeasureChoice → Columns → Entries → ℕ → LeftMarks
 restoredResult (Refused r) c a e = record { result = resultOf (codeOf r); strikes = c .strikes; left = a }
 restoredResult (Measure m) c a e = markResult (restored m c a e)
 
@@ -60,9 +60,9 @@ stateNumber Made = 0
 stateNumber Over = 1
 stateNumber Unmade = 2
 
--- figure, depth and line, where three places are lent
+-- figure, depth, line and piece count, where four places are lent
 abbrev pub entryWritten : Entry → List ℕ → List ℕ
-entryWritten e room = pick (eqb (length room) 3) (e .weight .0 ∷ e .depth ∷ e .edge .0 ∷ []) room
+entryWritten e room = pick (eqb (length room) 4) (e .weight .0 ∷ e .depth ∷ e .edge .0 ∷ e .pieces ∷ []) room
 
 -- what a text said of its table, where four places are lent: n, the measure's number, the lines and the listed parts
 abbrev pub measureNumber : measures.Measure → ℕ
@@ -124,12 +124,12 @@ countsWritten k room = pick (eqb (length room) 2) (k .edges ∷ k .listed ∷ []
 pub record LeftGrown : Type 0 where
   pub result : ℕ
   pub table : Columns
-  pub answers : Answers
+  pub answers : Entries
   pub index : List ℕ
   pub list : List ℕ
   pub counts : List ℕ
 
-abbrev pub leftGrown : ℕ → Columns → Answers → (index list counts : List ℕ) → LeftGrown
+abbrev pub leftGrown : ℕ → Columns → Entries → (index list counts : List ℕ) → LeftGrown
 leftGrown r c a index list counts = record { result = r; table = c; answers = a; index = index; list = list; counts = counts }
 
 abbrev pub appendingResult : Appending → ℕ
@@ -143,7 +143,7 @@ appendingCounts (appending.Refused r) room = room
 abbrev pub grownResult : Grown → List ℕ → LeftGrown
 grownResult o room = leftGrown (appendingResult (o .result)) (o .table) (o .answers) (o .index) (o .list) (appendingCounts (o .result) room)
 
-abbrev pub appendedResult : MeasureChoice → Columns → Counts → Answers → (index list : List ℕ) → NewLine → List ℕ → LeftGrown
+abbrev pub appendedResult : MeasureChoice → Columns → Counts → Entries → (index list : List ℕ) → NewLine → List ℕ → LeftGrown
 appendedResult (Refused r) c k a index list l room = leftGrown (resultOf (codeOf r)) c a index list room
 appendedResult (Measure m) c k a index list l room = grownResult (appended m c k a index list l) room
 

@@ -14,12 +14,11 @@ use weights::State;
 use weights::Vertex;
 use weights::Weight;
 ghost use mathlib.Core.Path.{_≡_};
-ghost use Rattle.weights.specs.Labels.{entryOf};
 ghost use Rattle.refusal.specs.Refusals.{acceptanceResult, measureOf};
-ghost use Rattle.provenance.specs.BestFirst.{labels};
-ghost use Rattle.columns.specs.Columns.{columns, answers};
+ghost use Rattle.columns.specs.Columns.{columns, entries};
 ghost use Rattle.columns.specs.Acceptance.{acceptance};
 ghost use Rattle.columns.specs.Longer.{newLine};
+ghost use Rattle.settle.specs.Settling.{entryAt};
 ghost use Rattle.indextable.specs.Index.{tableIndexed};
 ghost use Rattle.text.specs.Machine.{parse};
 ghost use Rattle.reading.specs.Lines.{readingOf};
@@ -57,10 +56,11 @@ pub extern "C" fn harness_check_answers(
     weights: &[u64],
     depths: &[u64],
     edges: &[u64],
+    pieces: &[u64],
 ) -> u64
     ensures { λ r.
         let c = columns n (now (heads .entry)) (now (own .entry)) (now (strikes .entry)) (now (spans .entry)) (now (tails .entry)) in
-        let a = answers (now (weights .entry)) (now (depths .entry)) (now (edges .entry)) in
+        let a = entries (now (weights .entry)) (now (depths .entry)) (now (edges .entry)) (now (pieces .entry)) in
         ⌜ r ≡ checkedResult (measureOf measure) c a ⌝ }
 {
     let choice = refusal::measure_numbered(measure);
@@ -78,6 +78,7 @@ pub extern "C" fn harness_check_answers(
                 weights,
                 depths,
                 edges,
+                pieces,
             );
             return v.result();
         }
@@ -96,12 +97,13 @@ pub extern "C" fn harness_strike(
     weights: &mut [u64],
     depths: &mut [u64],
     edges: &mut [u64],
+    pieces: &mut [u64],
     line: u64,
 ) -> u64
     ensures { λ r.
         let c = columns n (now (heads .entry)) (now (own .entry)) (now (strikes .entry)) (now (spans .entry)) (now (tails .entry)) in
-        let a = answers (now (weights .entry)) (now (depths .entry)) (now (edges .entry)) in
-        let a′ = answers (now (weights .exit)) (now (depths .exit)) (now (edges .exit)) in
+        let a = entries (now (weights .entry)) (now (depths .entry)) (now (edges .entry)) (now (pieces .entry)) in
+        let a′ = entries (now (weights .exit)) (now (depths .exit)) (now (edges .exit)) (now (pieces .exit)) in
         ⌜ record { result = r; strikes = now (strikes .exit); left = a′ } ≡ strickenResult (measureOf measure) c a line ⌝ }
 {
     let choice = refusal::measure_numbered(measure);
@@ -119,6 +121,7 @@ pub extern "C" fn harness_strike(
                 weights,
                 depths,
                 edges,
+                pieces,
                 Hyperedge(line),
             );
             return a.result();
@@ -138,12 +141,13 @@ pub extern "C" fn harness_restore(
     weights: &mut [u64],
     depths: &mut [u64],
     edges: &mut [u64],
+    pieces: &mut [u64],
     line: u64,
 ) -> u64
     ensures { λ r.
         let c = columns n (now (heads .entry)) (now (own .entry)) (now (strikes .entry)) (now (spans .entry)) (now (tails .entry)) in
-        let a = answers (now (weights .entry)) (now (depths .entry)) (now (edges .entry)) in
-        let a′ = answers (now (weights .exit)) (now (depths .exit)) (now (edges .exit)) in
+        let a = entries (now (weights .entry)) (now (depths .entry)) (now (edges .entry)) (now (pieces .entry)) in
+        let a′ = entries (now (weights .exit)) (now (depths .exit)) (now (edges .exit)) (now (pieces .exit)) in
         ⌜ record { result = r; strikes = now (strikes .exit); left = a′ } ≡ restoredResult (measureOf measure) c a line ⌝ }
 {
     let choice = refusal::measure_numbered(measure);
@@ -161,6 +165,7 @@ pub extern "C" fn harness_restore(
                 weights,
                 depths,
                 edges,
+                pieces,
                 Hyperedge(line),
             );
             return a.result();
@@ -179,26 +184,27 @@ fn state_number(state: State) -> u64
     }
 }
 
-// The state of a vertex's entry, with its figure, depth and line in the room if three places are
-// lent.
+// The state of a vertex's entry, with its figure, depth, line and piece count in the room if four
+// places are lent.
 #[no_mangle]
 pub extern "C" fn harness_entry(
     weights: &[u64],
     depths: &[u64],
     edges: &[u64],
+    pieces: &[u64],
     vertex: u64,
     room: &mut [u64],
 ) -> u64
     ensures number { λ r.
-        let a = answers (now (weights .entry)) (now (depths .entry)) (now (edges .entry)) in
-        ⌜ r ≡ stateNumber (entryOf (labels a vertex) .state) ⌝ }
+        let a = entries (now (weights .entry)) (now (depths .entry)) (now (edges .entry)) (now (pieces .entry)) in
+        ⌜ r ≡ stateNumber (entryAt a vertex .state) ⌝ }
     ensures written { λ r.
-        let a = answers (now (weights .entry)) (now (depths .entry)) (now (edges .entry)) in
-        ⌜ now (room .exit) ≡ entryWritten (entryOf (labels a vertex)) (now (room .entry)) ⌝ }
+        let a = entries (now (weights .entry)) (now (depths .entry)) (now (edges .entry)) (now (pieces .entry)) in
+        ⌜ now (room .exit) ≡ entryWritten (entryAt a vertex) (now (room .entry)) ⌝ }
 {
-    let e = settle::entry(weights, depths, edges, Vertex(vertex));
+    let e = settle::entry(weights, depths, edges, pieces, Vertex(vertex));
     let state = e.state;
-    if room.len() != 3 {
+    if room.len() != 4 {
         return state_number(state);
     }
     let weight = e.weight;
@@ -206,6 +212,7 @@ pub extern "C" fn harness_entry(
     room[0] = weight.0;
     room[1] = e.depth;
     room[2] = root.0;
+    room[3] = e.pieces;
     state_number(state)
 }
 
@@ -329,6 +336,7 @@ pub extern "C" fn harness_append(
     weights: &mut [u64],
     depths: &mut [u64],
     edges: &mut [u64],
+    pieces: &mut [u64],
     index: &mut [u64],
     list: &mut [u64],
     head: u64,
@@ -340,8 +348,8 @@ pub extern "C" fn harness_append(
     ensures { λ r.
         let c = columns n (now (heads .entry)) (now (own .entry)) (now (strikes .entry)) (now (spans .entry)) (now (tails .entry)) in
         let c′ = columns n (now (heads .exit)) (now (own .exit)) (now (strikes .exit)) (now (spans .exit)) (now (tails .exit)) in
-        let a = answers (now (weights .entry)) (now (depths .entry)) (now (edges .entry)) in
-        let a′ = answers (now (weights .exit)) (now (depths .exit)) (now (edges .exit)) in
+        let a = entries (now (weights .entry)) (now (depths .entry)) (now (edges .entry)) (now (pieces .entry)) in
+        let a′ = entries (now (weights .exit)) (now (depths .exit)) (now (edges .exit)) (now (pieces .exit)) in
         let k = usedCounts lines listed in
         let l = newLine head figure mark (now (needed .entry)) in
         let o = leftGrown r c′ a′ (now (index .exit)) (now (list .exit)) (now (counts .exit)) in
@@ -366,6 +374,7 @@ pub extern "C" fn harness_append(
                 weights,
                 depths,
                 edges,
+                pieces,
                 index,
                 list,
                 Vertex(head),

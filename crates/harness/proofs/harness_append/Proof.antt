@@ -1,5 +1,5 @@
 use mathlib.Core.Path.{sym, _∙_}
-use Rattle.columns.specs.Columns.{Answers, Columns, columns, answers}
+use Rattle.columns.specs.Columns.{Entries, Columns, columns, entries}
 use Rattle.columns.specs.Longer.{NewLine, newLine}
 use Rattle.harness.specs.Results.{usedCounts}
 use Rattle.harness.proofs.Laws.{append-measure, append-refused, append-counts}
@@ -11,8 +11,8 @@ use Rattle.harness.proofs.harness_append.Tie as tie
 abbrev tableOf : tie.Start → Columns
 tableOf c = let a = c .args in columns (a .n) (a .heads .now) (a .own .now) (a .strikes .now) (a .spans .now) (a .tails .now)
 
-abbrev came : tie.Start → Answers
-came c = let a = c .args in answers (a .weights .now) (a .depths .now) (a .edges .now)
+abbrev came : tie.Start → Entries
+came c = let a = c .args in entries (a .weights .now) (a .depths .now) (a .edges .now) (a .pieces .now)
 
 abbrev lineOf : tie.Start → NewLine
 lineOf c = let a = c .args in newLine (a .head) (a .figure) (a .mark) (a .needed .now)
@@ -20,7 +20,7 @@ lineOf c = let a = c .args in newLine (a .head) (a .figure) (a .mark) (a .needed
 returns : tie.Need-returns
 returns c =
     let m = c .before .before .before .before in
-    let s = m .before .before .before .before .before .before .before .before .before .before .before .before .before in
+    let s = m .before .before .before .before .before .before .before .before .before .before .before .before .before .before in
     let a = s .args in
     append-measure (tableOf s) (usedCounts (a .lines) (a .listed)) (came s) (a .index .now) (a .list .now) (lineOf s) (a .counts .now)
     (sym (m .measure-numbered .ensures) ∙ c .before .before .choice .given .1) (c .result .ensures)
@@ -28,10 +28,10 @@ returns c =
 returns-2 : tie.Need-returns-2
 returns-2 c =
     let o = c .before .before in
-    let p = o .before .before .before .before .before .before .before .before .before .before .before .before .before .before .before .before .before .before .before .before .before .before in
-    let q = p .before .before .before .before .before .before .before .before .before .before .before .before in
+    let p = o .before .before .before .before .before .before .before .before .before .before .before .before .before .before .before .before .before .before .before .before .before .before .before .before in
+    let q = p .before .before .before .before .before .before .before .before .before .before .before .before .before in
     let m = q .before .before in
-    let s = m .before .before .before .before .before .before .before .before .before .before .before .before .before in
+    let s = m .before .before .before .before .before .before .before .before .before .before .before .before .before .before in
     let a = s .args in
     let measured = sym (m .measure-numbered .ensures) ∙ q .choice2 .given .1 in
     append-refused (tableOf s) (usedCounts (a .lines) (a .listed)) (came s) (a .index .now) (a .list .now) (lineOf s) (a .counts .now) measured
@@ -40,10 +40,10 @@ returns-2 c =
 returns-3 : tie.Need-returns-3
 returns-3 c =
     let o = c .before .before .before .before .before in
-    let p = o .before .before .before .before .before .before .before .before .before .before .before .before .before .before .before .before .before .before .before .before .before .before in
-    let q = p .before .before .before .before .before .before .before .before .before .before .before .before in
+    let p = o .before .before .before .before .before .before .before .before .before .before .before .before .before .before .before .before .before .before .before .before .before .before .before .before in
+    let q = p .before .before .before .before .before .before .before .before .before .before .before .before .before in
     let m = q .before .before in
-    let s = m .before .before .before .before .before .before .before .before .before .before .before .before .before in
+    let s = m .before .before .before .before .before .before .before .before .before .before .before .before .before .before in
     let a = s .args in
     let measured = sym (m .measure-numbered .ensures) ∙ q .choice2 .given .1 in
     append-counts (tableOf s) (usedCounts (a .lines) (a .listed)) (came s) (a .index .now) (a .list .now) (lineOf s) (a .counts .now) measured
@@ -139,6 +139,12 @@ same-length-20 c = search needs
 same-length-21 : tie.Need-same-length-21
 same-length-21 c = search needs
 
+same-length-22 : tie.Need-same-length-22
+same-length-22 c = search needs
+
+same-length-23 : tie.Need-same-length-23
+same-length-23 c = search needs
+
 pub harness-append-spec : {M : Type 1} → statement M
 harness-append-spec =
     tie.close
@@ -161,10 +167,10 @@ harness-append-spec =
     same-length-8
     same-length-9
     same-length-10
+    same-length-11
     returns-2
     enum-known-a-2
     write-counts-requires
-    same-length-11
     same-length-12
     same-length-13
     same-length-14
@@ -175,4 +181,6 @@ harness-append-spec =
     same-length-19
     same-length-20
     same-length-21
+    same-length-22
+    same-length-23
     returns-3)

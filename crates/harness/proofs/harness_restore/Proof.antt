@@ -9,8 +9,8 @@ returns c = restored-refused _ _ _ (sym (c .before .before .before .before .meas
 
 returns-2 : tie.Need-returns-2
 returns-2 c =
-    let p = c .before .before .before .before .before .before .before .before .before in
-    let q = p .before .before .before .before .before .before in
+    let p = c .before .before .before .before .before .before .before .before .before .before .before in
+    let q = p .before .before .before .before .before .before .before in
     let r = q .before .before in
     restored-measure _ _ _ (sym (r .measure-numbered .ensures) ∙ q .choice2 .given .1) (c .result2 .ensures) (p .restore .ensures)
 
@@ -25,6 +25,7 @@ harness-restore-spec =
     (λ c. search needs)
     (λ c κs. search needs)
     (λ c κs. search needs)
+    (λ c. search needs)
     (λ c. search needs)
     (λ c. search needs)
     (λ c. search needs)

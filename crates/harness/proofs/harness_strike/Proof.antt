@@ -9,8 +9,8 @@ returns c = stricken-refused _ _ _ (sym (c .before .before .before .before .meas
 
 returns-2 : tie.Need-returns-2
 returns-2 c =
-    let p = c .before .before .before .before .before .before .before .before .before in
-    let q = p .before .before .before .before .before .before in
+    let p = c .before .before .before .before .before .before .before .before .before .before .before in
+    let q = p .before .before .before .before .before .before .before in
     let r = q .before .before in
     stricken-measure _ _ _ (sym (r .measure-numbered .ensures) ∙ q .choice2 .given .1) (c .result2 .ensures) (p .strike .ensures)
 
@@ -25,6 +25,7 @@ harness-strike-spec =
     (λ c. search needs)
     (λ c κs. search needs)
     (λ c κs. search needs)
+    (λ c. search needs)
     (λ c. search needs)
     (λ c. search needs)
     (λ c. search needs)
