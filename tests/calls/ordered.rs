@@ -37,6 +37,8 @@ extern "C" {
         depths_len: usize,
         edges: *mut u64,
         edges_len: usize,
+        pieces: *mut u64,
+        pieces_len: usize,
     ) -> u64;
 }
 
@@ -89,6 +91,8 @@ pub fn settle_ordered(
             room.depths.len(),
             room.edges.pointer(),
             room.edges.len(),
+            room.pieces.pointer(),
+            room.pieces.len(),
         )
     };
     let columns = if result == 0 { room.guarded() } else { room.kept() };

@@ -48,7 +48,7 @@ pub fn in_order(table: &Table) -> Table {
 fn settles(measure: u64, table: &Table, rng: &mut Rng) -> Verdict {
     let mut verdict = || {
         expect("check_order", check_order(table)?, 0)?;
-        let room = rng.labelling([table.n as usize; 3]);
+        let room = rng.labelling([table.n as usize; 4]);
         let (result, answers) = settle_ordered(measure, table, &room)?;
         expect("settle_ordered", result, 0)?;
         same("settle_ordered", &answers, &solve(measure, table))?;
@@ -105,6 +105,7 @@ fn stated(trial: &Trial) -> Outcome {
         weights: vec![1_200, 300, 2_000, 2_600, 0],
         depths: vec![1, 1, 2, 3, 0],
         edges: vec![0, 1, 2, 4, 0],
+        pieces: vec![1, 1, 2, 4, 0],
     };
     same("the worked table without its last line", &answers, &wanted)?;
     expect("check_order of a circle", check_order(&circle())?, refusal(24, 0))?;

@@ -172,10 +172,10 @@ module _ {x s : Summary} (room : List ℕ) (e : s ≡ x) where
   pub summary-moments : {m : Moments} {room′ : List ℕ} → s ≡ summary.Moments m → room′ ≡ momentsWritten m room → record { result = 0; left = room′ } ≡ summaryLeft x room
   summary-moments p q = rw (← e, p, q)
 
-module _ {o : MeasureChoice} (c : Columns) (a : Answers) {n : ℕ} where
+module _ {o : MeasureChoice} (c : Columns) (a : Entries) {n : ℕ} where
   pub ordered-refused : {r : Refusal} → o ≡ choice.Refused r → n ≡ resultOf (codeOf r) → record { result = n; left = a } ≡ orderedResult o c a
   ordered-refused p q = rw (p, q)
 
-  pub ordered-measure : {m : Measure} {x : Acceptance} {b : Answers} → o ≡ choice.Measure m → n ≡ acceptanceResult x → record { result = x; left = b } ≡ settledInOrder m c a
+  pub ordered-measure : {m : Measure} {x : Acceptance} {b : Entries} → o ≡ choice.Measure m → n ≡ acceptanceResult x → record { result = x; left = b } ≡ settledInOrder m c a
       → record { result = n; left = b } ≡ orderedResult o c a
   ordered-measure {m} {x} {b} p q e = rw (p, q) (ap outcomeResult e)

@@ -159,6 +159,6 @@ abbrev pub summaryLeft : Summary → List ℕ → LeftRoom
 summaryLeft s room = record { result = summaryNumber s; left = summaryWritten s room }
 
 -- settling in order: a number, and the answer columns
-abbrev pub orderedResult : MeasureChoice → Columns → Answers → Left
+abbrev pub orderedResult : MeasureChoice → Columns → Entries → Left
 orderedResult (Refused r) c a = record { result = resultOf (codeOf r); left = a }
 orderedResult (Measure m) c a = outcomeResult (settledInOrder m c a)

@@ -463,11 +463,12 @@ pub extern "C" fn harness_settle_ordered(
     weights: &mut [u64],
     depths: &mut [u64],
     edges: &mut [u64],
+    pieces: &mut [u64],
 ) -> u64
     ensures { λ r.
         let c = columns n (now (heads .entry)) (now (own .entry)) (now (strikes .entry)) (now (spans .entry)) (now (tails .entry)) in
-        let a = answers (now (weights .entry)) (now (depths .entry)) (now (edges .entry)) in
-        let a′ = answers (now (weights .exit)) (now (depths .exit)) (now (edges .exit)) in
+        let a = entries (now (weights .entry)) (now (depths .entry)) (now (edges .entry)) (now (pieces .entry)) in
+        let a′ = entries (now (weights .exit)) (now (depths .exit)) (now (edges .exit)) (now (pieces .exit)) in
         ⌜ record { result = r; left = a′ } ≡ orderedResult (measureOf measure) c a ⌝ }
 {
     let choice = refusal::measure_numbered(measure);
@@ -485,6 +486,7 @@ pub extern "C" fn harness_settle_ordered(
                 weights,
                 depths,
                 edges,
+                pieces,
             );
             return a.result();
         }

@@ -10,10 +10,10 @@ use Rattle.refusal.specs.declared.Refusal.{Refusal}
 use Rattle.refusal.specs.declared.Refusal.the-variants.{Order}
 use Rattle.refusal.specs.declared.Acceptance.the-variants.{Accepted, Refused}
 use Rattle.refusal.specs.Refusals.{numberOf}
-use Rattle.columns.specs.Columns.{Answers, Columns}
+use Rattle.columns.specs.Columns.{Entries, Columns}
 use Rattle.columns.specs.Acceptance.{acceptance}
 use Rattle.provenance.specs.Hypergraph.{Hypergraph, WellFormed}
-use Rattle.provenance.specs.BestFirst.{labels, best-first}
+use Rattle.provenance.specs.BestFirst.{best-first}
 use Rattle.provenance.specs.InOrder.{InOrder, in-order}
 use Rattle.provenance.proofs.InOrder.{in-order-best-first}
 use Rattle.settle.specs.Settling.{settled}
@@ -30,7 +30,7 @@ pub rule-checked : (c : Columns) → (orderedAcceptance c ≡ Accepted) ↔ ((ac
 rule-checked = ordered-accepted
 
 -- "Over every table within the rule, and all measures together, show that both ways of settling leave the same columns"; the same result too
-pub both-ways : (m : Measure) (c : Columns) (a : Answers) → orderedAcceptance c ≡ Accepted → settledInOrder m c a ≡ settled m c a
+pub both-ways : (m : Measure) (c : Columns) (a : Entries) → orderedAcceptance c ≡ Accepted → settledInOrder m c a ≡ settled m c a
 both-ways = same-columns
 
 -- for every algebra with its laws: "by one walk up the part numbers" a hypergraph in order gets the labels of best-first
@@ -38,7 +38,7 @@ pub one-walk : {A : Algebra} → Lawful A → {H : Hypergraph} (own : ℕ → �
 one-walk = in-order-best-first
 
 -- so what it leaves means what demand 2 says
-pub ordered-means : (m : Measure) (c : Columns) (a : Answers) → settledInOrder m c a .result ≡ Accepted → (v : ℕ) → Demand2 m c (labels (settledInOrder m c a .left)) v
+pub ordered-means : (m : Measure) (c : Columns) (a : Entries) → settledInOrder m c a .result ≡ Accepted → (v : ℕ) → Demand2 m c (settledInOrder m c a .left) v
 ordered-means = ordered-demand-2
 
 -- "Turned away …: 24 for a line that lists its head or a higher part, after 6 in that line, with the line as place": of the first line that fails
@@ -54,5 +54,5 @@ pub in-these-only : (c : Columns) (r : Refusal) → acceptance c ≡ Refused r �
 in-these-only = never-order
 
 -- a refusal alters no lent byte
-pub ordered-refusal-keeps : (m : Measure) (c : Columns) (a : Answers) (r : Refusal) → settledInOrder m c a .result ≡ Refused r → settledInOrder m c a .left ≡ a
+pub ordered-refusal-keeps : (m : Measure) (c : Columns) (a : Entries) (r : Refusal) → settledInOrder m c a .result ≡ Refused r → settledInOrder m c a .left ≡ a
 ordered-refusal-keeps = ordered-keeps

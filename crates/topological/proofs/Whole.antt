@@ -16,7 +16,7 @@ use Rattle.refusal.specs.declared.Acceptance.the-variants.{Accepted}
 use Rattle.columns.specs.Columns.{Answers, Sized, Columns, answers, ownAt, cell}
 use Rattle.columns.specs.Acceptance.{mostVertices, mostEdges, acceptance}
 use Rattle.columns.specs.Lent.{Usable}
-use Rattle.columns.proofs.Accepted.{table-accepted, AcceptedColumns}
+use Rattle.columns.proofs.Accepted.{table-accepted, AcceptedLabels}
 use Rattle.columns.proofs.Usable.{same-table, turning-columns}
 use Rattle.provenance.specs.Hypergraph.{Hypergraph}
 use Rattle.provenance.specs.Labelling.{weightIn, depthIn, candidate}
@@ -112,7 +112,7 @@ module _ (m : Measure) (c : Columns) where
 
 -- Before the walk
 
-module _ {c : Columns} {a : Answers} (h : AcceptedColumns c a) where
+module _ {c : Columns} {a : Answers} (h : AcceptedLabels c a) where
   pub few-lines : length (c .heads) ≤ mostEdges
   few-lines = table-accepted c (h .table) .edges
 

@@ -9,7 +9,7 @@ use Rattle.weights.specs.Measures.{fold, weigh}
 use Rattle.weights.specs.Labels.{aheadOf}
 use Rattle.provenance.specs.Labelling.{each, greatestDepth, noneZero, offerOf}
 use Rattle.provenance.specs.InOrder.{offerTo, first, walk, in-order}
-use Rattle.columns.specs.Columns.{answers}
+use Rattle.columns.specs.Columns.{entries}
 use Rattle.columns.specs.Acceptance.{allBelow, edgeAcceptance, sizesAcceptance}
 use Rattle.columns.specs.Worked.{worked}
 use Rattle.topological.specs.Ordering.{orderedEdge, orderedEdgesAcceptance, orderedAcceptance, orderedLentAcceptance, settledInOrder}
@@ -21,8 +21,8 @@ unfolding orderedAcceptance sizesAcceptance orderedEdgesAcceptance orderedEdge e
 worked-unordered = refl
 
 -- without it the parts 0 to 3 have P1's answers, whatever the columns held
-pub worked-in-order : settledInOrder Cost workedInOrder (answers (7 ∷ 7 ∷ 7 ∷ 7 ∷ 7 ∷ []) (7 ∷ 7 ∷ 7 ∷ 7 ∷ 7 ∷ []) (7 ∷ 7 ∷ 7 ∷ 7 ∷ 7 ∷ []))
-    ≡ record { result = Accepted; left = answers (1200 ∷ 300 ∷ 2000 ∷ 2600 ∷ 0 ∷ []) (1 ∷ 1 ∷ 2 ∷ 3 ∷ 0 ∷ []) (0 ∷ 1 ∷ 2 ∷ 4 ∷ 0 ∷ []) }
+pub worked-in-order : settledInOrder Cost workedInOrder (entries (7 ∷ 7 ∷ 7 ∷ 7 ∷ 7 ∷ []) (7 ∷ 7 ∷ 7 ∷ 7 ∷ 7 ∷ []) (7 ∷ 7 ∷ 7 ∷ 7 ∷ 7 ∷ []) (7 ∷ 7 ∷ 7 ∷ 7 ∷ 7 ∷ []))
+    ≡ record { result = Accepted; left = entries (1200 ∷ 300 ∷ 2000 ∷ 2600 ∷ 0 ∷ []) (1 ∷ 1 ∷ 2 ∷ 3 ∷ 0 ∷ []) (0 ∷ 1 ∷ 2 ∷ 4 ∷ 0 ∷ []) (1 ∷ 1 ∷ 2 ∷ 4 ∷ 0 ∷ []) }
 unfolding settledInOrder orderedLentAcceptance orderedAcceptance sizesAcceptance orderedEdgesAcceptance orderedEdge edgeAcceptance allBelow in-order walk first offerTo offerOf noneZero aheadOf weigh fold each greatestDepth
 worked-in-order = refl
 

@@ -10,9 +10,11 @@ use Rattle.weights.specs.Measures.{algebra}
 use Rattle.refusal.specs.declared.Refusal.the-variants.{AnswerLength, Order}
 use Rattle.refusal.specs.declared.Acceptance.{Acceptance}
 use Rattle.refusal.specs.declared.Acceptance.the-variants.{Accepted}
-use Rattle.columns.specs.Columns.{Answers, Columns, headAt, ownAt, strikeAt, offsetAt, lengthAt, part}
+use Rattle.columns.specs.Columns.{Entries, Columns, headAt, ownAt, strikeAt, offsetAt, lengthAt, part}
 use Rattle.columns.specs.Acceptance.{test, andThen, allBelow, edgeAcceptance, sizesAcceptance}
+use Rattle.provenance.specs.BestFirst.{labels}
 use Rattle.provenance.specs.InOrder.{in-order}
+use Rattle.provenance.specs.Pieces.{pieceColumn}
 use Rattle.tables.specs.Table.{hypergraph}
 use Rattle.settle.specs.Settling.{SettleOutcome, outcome}
 
@@ -33,15 +35,22 @@ orderedEdgesAcceptance c (suc left) e end = andThen (orderedEdgeAt c e end) (ord
 unfoldable pub orderedAcceptance : Columns → Acceptance
 orderedAcceptance c = andThen (sizesAcceptance c) (orderedEdgesAcceptance c (length (c .heads)) 0 0)
 
--- the same with three answer columns, each exactly n long: then 7
-unfoldable pub orderedLentAcceptance : Columns → Answers → Acceptance
+-- the same with four answer columns, each exactly n long: then 7
+unfoldable pub orderedLentAcceptance : Columns → Entries → Acceptance
 orderedLentAcceptance c a =
     andThen (orderedAcceptance c)
-    (test (eqb (length (a .weights)) (c .vertices)) AnswerLength
-    (test (eqb (length (a .depths)) (c .vertices)) AnswerLength
-    (test (eqb (length (a .edges)) (c .vertices)) AnswerLength
-    Accepted)))
+    (test (eqb (length (a .labels .weights)) (c .vertices)) AnswerLength
+    (test (eqb (length (a .labels .depths)) (c .vertices)) AnswerLength
+    (test (eqb (length (a .labels .edges)) (c .vertices)) AnswerLength
+    (test (eqb (length (a .pieces)) (c .vertices)) AnswerLength
+    Accepted))))
+
+-- what the walk leaves: its labels, and the piece counts, which they tell
+unfoldable pub entriesInOrder : Measure → Columns → Entries
+entriesInOrder m c =
+    let walked = in-order (algebra m) (hypergraph c) (ownAt c) in
+    record { labels = walked; pieces = pieceColumn (hypergraph c) (labels walked) (c .vertices) }
 
 -- settling, from the columns and answers at entry
-unfoldable pub settledInOrder : Measure → Columns → Answers → SettleOutcome
-settledInOrder m c a = outcome (orderedLentAcceptance c a) (in-order (algebra m) (hypergraph c) (ownAt c)) a
+unfoldable pub settledInOrder : Measure → Columns → Entries → SettleOutcome
+settledInOrder m c a = outcome (orderedLentAcceptance c a) (entriesInOrder m c) a

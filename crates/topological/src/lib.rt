@@ -15,12 +15,12 @@ ghost use lib.ListN.{length};
 ghost use Rattle.weights.specs.Measures.{algebra};
 ghost use Rattle.provenance.specs.BestFirst.{earlier};
 ghost use Rattle.provenance.specs.InOrder.{in-order};
-ghost use Rattle.columns.specs.Columns.{columns, answers, cell};
+ghost use Rattle.columns.specs.Columns.{columns, answers, entries, cell};
 ghost use Rattle.columns.specs.Lent.{lent};
-ghost use Rattle.columns.proofs.Accepted.{AcceptedColumns};
+ghost use Rattle.columns.proofs.Accepted.{AcceptedLabels};
 ghost use Rattle.tables.specs.Table.{hypergraph};
-ghost use Rattle.topological.specs.Ordering.{orderedEdge, orderedEdgesAcceptance, orderedAcceptance, orderedLentAcceptance, settledInOrder};
-ghost use Rattle.topological.specs.Walking.{Linkable, Linked, visited, Visitable, Walkable, putAt, Storable};
+ghost use Rattle.topological.specs.Ordering.{orderedEdge, orderedEdgesAcceptance, orderedAcceptance, orderedLentAcceptance, entriesInOrder, settledInOrder};
+ghost use Rattle.topological.specs.Walking.{Linkable, Linked, visited, Visitable, Walkable, OrderedColumns, putAt, Storable};
 
 // In place of a hyperedge, at the end of a list.
 const END: u16 = 65535;
@@ -120,7 +120,7 @@ pub fn check_order(
     check_lines(n, heads, own, strikes, spans, tails)
 }
 
-// The same with three answer columns, each of which must be n long.
+// The same with four answer columns, each of which must be n long.
 fn check_lent(
     n: u64,
     heads: &[u64],
@@ -131,10 +131,11 @@ fn check_lent(
     weights: &[u64],
     depths: &[u64],
     edges: &[u64],
+    pieces: &[u64],
 ) -> Acceptance
     ensures { λ r.
         let c = columns n (now (heads .entry)) (now (own .entry)) (now (strikes .entry)) (now (spans .entry)) (now (tails .entry)) in
-        let a = answers (now (weights .entry)) (now (depths .entry)) (now (edges .entry)) in
+        let a = entries (now (weights .entry)) (now (depths .entry)) (now (edges .entry)) (now (pieces .entry)) in
         ⌜ r ≡ orderedLentAcceptance c a ⌝ }
 {
     let a = check_order(n, heads, own, strikes, spans, tails);
@@ -149,6 +150,9 @@ fn check_lent(
         return Acceptance::Refused(Refusal::AnswerLength);
     }
     if edges.len() as u64 != n {
+        return Acceptance::Refused(Refusal::AnswerLength);
+    }
+    if pieces.len() as u64 != n {
         return Acceptance::Refused(Refusal::AnswerLength);
     }
     Acceptance::Accepted
@@ -278,8 +282,8 @@ fn walk(
     }
 }
 
-// The labels of an accepted table go into the three answer columns, whatever they held.
-fn label(
+// The labels of an accepted table go into three of the answer columns, whatever they held.
+fn label_vertices(
     measure: Measure,
     heads: &[u64],
     own: &[u64],
@@ -292,7 +296,7 @@ fn label(
 )
     requires { let c = lent (now heads) (now own) (now strikes) (now spans) (now tails) (now depths) in
         let a = answers (now weights) (now depths) (now edges) in
-        ⌜ AcceptedColumns c a ⌝ }
+        ⌜ AcceptedLabels c a ⌝ }
     ensures { λ r.
         let c = lent (now (heads .entry)) (now (own .entry)) (now (strikes .entry)) (now (spans .entry)) (now (tails .entry)) (now (depths .entry)) in
         let a′ = answers (now (weights .exit)) (now (depths .exit)) (now (edges .exit)) in
@@ -319,7 +323,43 @@ fn label(
     );
 }
 
-// Leaves the answers of a table in order in the three answer columns, or refuses and leaves them as
+// The entries of a table in order go into the four answer columns, whatever they held: the labels, and
+// then the piece counts, which the labels tell.
+fn label(
+    measure: Measure,
+    heads: &[u64],
+    own: &[u64],
+    strikes: &[u64],
+    spans: &[u64],
+    tails: &[u64],
+    weights: &mut [u64],
+    depths: &mut [u64],
+    edges: &mut [u64],
+    pieces: &mut [u64],
+)
+    requires { let c = lent (now heads) (now own) (now strikes) (now spans) (now tails) (now depths) in
+        let a = entries (now weights) (now depths) (now edges) (now pieces) in
+        ⌜ OrderedColumns c a ⌝ }
+    ensures { λ r.
+        let c = lent (now (heads .entry)) (now (own .entry)) (now (strikes .entry)) (now (spans .entry)) (now (tails .entry)) (now (depths .entry)) in
+        let a′ = entries (now (weights .exit)) (now (depths .exit)) (now (edges .exit)) (now (pieces .exit)) in
+        ⌜ a′ ≡ entriesInOrder measure c ⌝ }
+{
+    label_vertices(
+        measure,
+        heads,
+        own,
+        strikes,
+        spans,
+        tails,
+        weights,
+        depths,
+        edges,
+    );
+    pieces::count_pieces(spans, tails, depths, edges, pieces);
+}
+
+// Leaves the entries of a table in order in the four answer columns, or refuses and leaves them as
 // they are.
 pub fn settle_ordered(
     measure: Measure,
@@ -332,14 +372,26 @@ pub fn settle_ordered(
     weights: &mut [u64],
     depths: &mut [u64],
     edges: &mut [u64],
+    pieces: &mut [u64],
 ) -> Acceptance
     ensures { λ r.
         let c = columns n (now (heads .entry)) (now (own .entry)) (now (strikes .entry)) (now (spans .entry)) (now (tails .entry)) in
-        let a = answers (now (weights .entry)) (now (depths .entry)) (now (edges .entry)) in
-        let a′ = answers (now (weights .exit)) (now (depths .exit)) (now (edges .exit)) in
+        let a = entries (now (weights .entry)) (now (depths .entry)) (now (edges .entry)) (now (pieces .entry)) in
+        let a′ = entries (now (weights .exit)) (now (depths .exit)) (now (edges .exit)) (now (pieces .exit)) in
         ⌜ record { result = r; left = a′ } ≡ settledInOrder measure c a ⌝ }
 {
-    let a = check_lent(n, heads, own, strikes, spans, tails, weights, depths, edges);
+    let a = check_lent(
+        n,
+        heads,
+        own,
+        strikes,
+        spans,
+        tails,
+        weights,
+        depths,
+        edges,
+        pieces,
+    );
     match a {
         Acceptance::Refused(r) => return Acceptance::Refused(r),
         Acceptance::Accepted => {}
@@ -354,6 +406,7 @@ pub fn settle_ordered(
         weights,
         depths,
         edges,
+        pieces,
     );
     Acceptance::Accepted
 }

@@ -1,3 +1,4 @@
+-- `harness::harness_check_order` meets its contract. Assumes nothing.
 use mathlib.Core.Path.{_∙_, ap}
 use Rattle.refusal.specs.Refusals.{acceptanceResult}
 use borrow.Author.Needs.{needs}

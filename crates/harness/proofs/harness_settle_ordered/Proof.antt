@@ -1,3 +1,4 @@
+-- `harness::harness_settle_ordered` meets its contract. Assumes nothing.
 use mathlib.Core.Path.{sym, _∙_}
 use Rattle.harness.proofs.Laws.{ordered-refused, ordered-measure}
 use borrow.Author.Needs.{needs}
@@ -9,8 +10,8 @@ returns c = ordered-refused _ _ (sym (c .before .before .before .before .measure
 
 returns-2 : tie.Need-returns-2
 returns-2 c =
-    let p = c .before .before .before .before .before .before .before in
-    let q = p .before .before .before .before .before in
+    let p = c .before .before .before .before .before .before .before .before .before in
+    let q = p .before .before .before .before .before .before in
     let r = q .before .before in
     ordered-measure _ _ (sym (r .measure-numbered .ensures) ∙ q .choice2 .given .1) (c .result2 .ensures) (p .settle-ordered .ensures)
 
@@ -25,6 +26,7 @@ harness-settle-ordered-spec =
     (λ c. search needs)
     (λ c κs. search needs)
     (λ c κs. search needs)
+    (λ c. search needs)
     (λ c. search needs)
     (λ c. search needs)
     (λ c. search needs)

@@ -36,11 +36,24 @@ returns-5 : tie.Need-returns-5
 unfolding orderedLentAcceptance
 returns-5 c =
     rw (
-      sym (c .before .before .before .before .before .check-order .ensures)
-          ∙ c .before .before .before .enum-told .given .1,
-      eq-eqb _ _ (c .before .before .if1 .left),
-      eq-eqb _ _ (c .before .if2 .left),
-      eq-eqb _ _ (c .if3 .left),
+      sym (c .before .before .before .before .before .before .check-order .ensures)
+          ∙ c .before .before .before .before .enum-told .given .1,
+      eq-eqb _ _ (c .before .before .before .if1 .left),
+      eq-eqb _ _ (c .before .before .if2 .left),
+      eq-eqb _ _ (c .before .if3 .left),
+      ne-eqb _ _ (c .if4 .taken),
+    )
+
+returns-6 : tie.Need-returns-6
+unfolding orderedLentAcceptance
+returns-6 c =
+    rw (
+      sym (c .before .before .before .before .before .before .check-order .ensures)
+          ∙ c .before .before .before .before .enum-told .given .1,
+      eq-eqb _ _ (c .before .before .before .if1 .left),
+      eq-eqb _ _ (c .before .before .if2 .left),
+      eq-eqb _ _ (c .before .if3 .left),
+      eq-eqb _ _ (c .if4 .left),
     )
 
 pub check-lent-spec : {M : Type 1} → statement M
@@ -54,4 +67,5 @@ check-lent-spec =
     returns-2
     returns-3
     returns-4
-    returns-5)
+    returns-5
+    returns-6)

@@ -4,40 +4,39 @@ use Rattle.topological.proofs.settle_ordered.Statement.{statement}
 use Rattle.topological.proofs.settle_ordered.Tie as tie
 use mathlib.Core.Path.{_≡_, sym, _∙_}
 use Rattle.refusal.specs.declared.Acceptance.the-variants.{Accepted}
-use Rattle.columns.specs.Columns.{Answers, Columns, columns, answers}
-use Rattle.columns.proofs.Accepted.{AcceptedColumns}
-use Rattle.settle.proofs.Settled.{told-accepted}
+use Rattle.columns.specs.Columns.{Entries, Columns, columns, entries}
 use Rattle.topological.specs.Ordering.{orderedLentAcceptance}
-use Rattle.topological.proofs.Settled.{lent-accepted, ordered-refused-left, ordered-all, told-walked}
+use Rattle.topological.specs.Walking.{OrderedColumns}
+use Rattle.topological.proofs.Settled.{lent-ordered, ordered-refused-left, ordered-all, told-ordered, told-walked}
 
 -- the table and the answer columns as they came, which are accepted
 abbrev tableOf : tie.Start → Columns
 tableOf c = let a = c .args in columns (a .n) (a .heads .now) (a .own .now) (a .strikes .now) (a .spans .now) (a .tails .now)
 
-abbrev came : tie.Start → Answers
-came c = let a = c .args in answers (a .weights .now) (a .depths .now) (a .edges .now)
+abbrev came : tie.Start → Entries
+came c = let a = c .args in entries (a .weights .now) (a .depths .now) (a .edges .now) (a .pieces .now)
 
 abbrev entry : tie.After-enum-told → tie.Start
-entry c = c .before .before .before .before .before .before .before .before .before .before .before .before .before .before
+entry c = c .before .before .before .before .before .before .before .before .before .before .before .before .before .before .before .before
 
 accepted : (c : tie.After-enum-told) → orderedLentAcceptance (tableOf (entry c)) (came (entry c)) ≡ Accepted
 accepted c = sym (c .before .before .check-lent .ensures) ∙ c .enum-told .given .1
 
-passed : (c : tie.After-enum-told) → AcceptedColumns (tableOf (entry c)) (came (entry c))
-passed c = lent-accepted (tableOf (entry c)) (came (entry c)) (accepted c) .1
+passed : (c : tie.After-enum-told) → OrderedColumns (tableOf (entry c)) (came (entry c))
+passed c = lent-ordered (tableOf (entry c)) (came (entry c)) (accepted c)
 
 returns : tie.Need-returns
 returns c = ordered-refused-left _ _ _ _ (sym (c .before .before .before .check-lent .ensures) ∙ c .before .a .given .1)
 
 label-requires : tie.Need-label-requires
 label-requires c κs =
-    let p = c .before .before .before in
-    told-accepted (tableOf (entry p)) (came (entry p)) (passed p)
+    let p = c .before .before .before .before in
+    told-ordered (tableOf (entry p)) (came (entry p)) (passed p)
 
 returns-2 : tie.Need-returns-2
 returns-2 c =
-    let l = c .before .before .before .before .before .before in
-    let p = l .before .before .before .before in
+    let l = c .before .before .before .before .before .before .before .before in
+    let p = l .before .before .before .before .before in
     let s = entry p in
     ordered-all (s .args .measure) (tableOf s) (came s) _ (accepted p) (told-walked (tableOf s) (came s) (passed p) (s .args .measure) (l .label .ensures))
 
@@ -50,9 +49,11 @@ settle-ordered-spec =
     (λ c. search needs)
     (λ c. search needs)
     (λ c. search needs)
+    (λ c. search needs)
     returns
     (λ c. search needs)
     label-requires
+    (λ c. search needs)
     (λ c. search needs)
     (λ c. search needs)
     (λ c. search needs)
