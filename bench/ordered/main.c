@@ -17,7 +17,8 @@ enum { ROUNDS = 400, MAKERS = 3, NAMES = 6 };
 struct job {
     uint64_t measure;
     struct table t;
-    uint64_t figures[TOZBIERDU_MOST_PARTS], depths[TOZBIERDU_MOST_PARTS], lines[TOZBIERDU_MOST_PARTS];
+    uint64_t figures[TOZBIERDU_MOST_PARTS], depths[TOZBIERDU_MOST_PARTS], lines[TOZBIERDU_MOST_PARTS],
+        pieces[TOZBIERDU_MOST_PARTS];
 };
 
 static const char *const names[NAMES] = { "acyclic", "chain", "wide", "in_order", "bought", "shuffled" };
@@ -31,7 +32,8 @@ static uint64_t call(int maker, struct job *j)
     struct table *t = &j->t;
 
     return makers[maker](j->measure, t->n, t->heads, t->lines, t->own, t->lines, t->strikes, t->lines, t->spans,
-                         2 * t->lines, t->tails, t->listed, j->figures, t->n, j->depths, t->n, j->lines, t->n);
+                         2 * t->lines, t->tails, t->listed, j->figures, t->n, j->depths, t->n, j->lines, t->n,
+                         j->pieces, t->n);
 }
 
 /* The lines in another order, with their listed parts behind one another in it. */

@@ -54,7 +54,8 @@ static inline uint64_t offer(const struct view *t, uint64_t measure, uint64_t li
     return key(capped(t->own[line] + joined), deepest + 1, line);
 }
 
-static void walk(const struct view *t, uint64_t measure, uint64_t *figures, uint64_t *depths, uint64_t *lines)
+static void walk(const struct view *t, uint64_t measure, uint64_t *figures, uint64_t *depths, uint64_t *lines,
+                 uint64_t *pieces)
 {
     uint16_t first[TOZBIERDU_MOST_PARTS], next[TOZBIERDU_MOST_LINES], line;
     uint64_t part, i;
@@ -71,6 +72,7 @@ static void walk(const struct view *t, uint64_t measure, uint64_t *figures, uint
         figures[part] = best == NO_KEY ? 0 : figure_of(best);
         depths[part] = best == NO_KEY ? 0 : depth_of(best);
         lines[part] = best == NO_KEY ? 0 : line_of(best);
+        pieces[part] = best == NO_KEY ? 0 : pieces_by(t, line_of(best), pieces);
     }
 }
 
@@ -88,8 +90,8 @@ uint64_t plain_settle_ordered(uint64_t measure, uint64_t n, TABLE_COLUMNS, WRITT
         return REFUSED(TOZBIERDU_REFUSED_LENGTHS, 0);
     if ((result = check_lines(&t)) != 0)
         return result;
-    if (figures_count != n || depths_count != n || lines_count != n)
+    if (figures_count != n || depths_count != n || lines_count != n || pieces_count != n)
         return REFUSED(TOZBIERDU_REFUSED_ANSWER_LENGTHS, 0);
-    walk(&t, measure, figures, depths, lines);
+    walk(&t, measure, figures, depths, lines, pieces);
     return 0;
 }

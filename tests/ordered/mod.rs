@@ -115,7 +115,8 @@ fn stated(trial: &Trial) -> Outcome {
 /// Tables at the limits, brought in order; and 4,096 lines of the last vertex.
 fn at_the_limits(trial: &Trial) -> Outcome {
     let mut rng = trial.rng();
-    let mut tables: Vec<Table> = limits(&mut rng).iter().map(|(_, table)| in_order(table)).collect();
+    let mut tables: Vec<Table> =
+        limits(&mut rng).iter().map(|(_, table)| in_order(table)).collect();
     let mut last = Table::new(MOST_VERTICES);
     last.push(0, 5, &[]);
     for edge in 1..MOST_EDGES as u64 {

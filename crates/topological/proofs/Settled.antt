@@ -1,5 +1,6 @@
 -- From the walk to the whole call, and what it leaves: on every table in order, and in every measure, what `settle` does. Assumes nothing.
 use mathlib.Core.Path.{_≡_, refl, sym, _∙_, ap, subst}
+use mathlib.Core.List.{List}
 use Prim.Native.Nat.{ℕ}
 use lib.Dec.{eqb}
 use lib.ListN.{length}
@@ -11,21 +12,21 @@ use Rattle.refusal.specs.declared.Refusal.{Refusal}
 use Rattle.refusal.specs.declared.Refusal.the-variants.{AnswerLength}
 use Rattle.refusal.specs.declared.Acceptance.{Acceptance}
 use Rattle.refusal.specs.declared.Acceptance.the-variants.{Accepted, Refused}
-use Rattle.columns.specs.Columns.{Answers, Entries, Columns, Sized, ownAt}
+use Rattle.columns.specs.Columns.{Answers, Sized, Entries, Columns, ownAt}
 use Rattle.columns.specs.Acceptance.{test, andThen, acceptance, lentAcceptance}
 use Rattle.columns.proofs.Accepted.{refused, test-passed, both-accepted, AcceptedColumns}
 use Rattle.columns.proofs.Usable.{same-table}
 use Rattle.provenance.specs.BestFirst.{labels, best-first}
-use Rattle.provenance.specs.InOrder.{in-order}
-use Rattle.provenance.specs.Pieces.{pieceColumn}
 use Rattle.provenance.proofs.InOrder.{in-order-best-first}
 use Rattle.tables.specs.Table.{hypergraph}
 use Rattle.tables.proofs.Formed.{well-formed}
 use Rattle.settle.specs.Settling.{answersOf, entriesOf, SettleOutcome, outcome, settled}
 use Rattle.settle.specs.Demands.{Demand2}
 use Rattle.settle.proofs.Demands.{demand-2}
-use Rattle.topological.specs.Ordering.{orderedAcceptance, orderedLentAcceptance, entriesInOrder, settledInOrder}
-use Rattle.topological.specs.Walking.{OrderedColumns}
+use Rattle.settle.proofs.Settled.{answers-countable, entered}
+use Rattle.pieces.specs.Counting.{Countable, counted}
+use Rattle.provenance.specs.Pieces.{pieceColumn}
+use Rattle.topological.specs.Ordering.{orderedAcceptance, orderedLentAcceptance, walked, walkedEntries, settledInOrder}
 use Rattle.topological.proofs.Ordered.{ordered-accepted, table-in-order}
 
 module _ (c : Columns) (a : Entries) where
@@ -42,39 +43,37 @@ module _ (c : Columns) (a : Entries) where
   unfolding orderedLentAcceptance lentAcceptance
   lent-same p = rw (p, ordered-accepted c .0 p .0)
 
-  pub lent-ordered : orderedLentAcceptance c a ≡ Accepted → OrderedColumns c a
+  pub lent-accepted : orderedLentAcceptance c a ≡ Accepted → (orderedAcceptance c ≡ Accepted) × AcceptedColumns c a
   unfolding orderedLentAcceptance
-  lent-ordered p =
+  lent-accepted p =
       let t = both-accepted (orderedAcceptance c) lengths p in
       let t1 = test-passed _ _ _ (t .1) in
       let t2 = test-passed _ _ _ (t1 .1) in
       let t3 = test-passed _ _ _ (t2 .1) in
       let t4 = test-passed _ _ _ (t3 .1) in
-      let labels : Sized (c .vertices) (a .labels) = record { weights = eqb-true _ _ (t1 .0); depths = eqb-true _ _ (t2 .0); edges = eqb-true _ _ (t3 .0) } in
-      record { ordered = t .0; sized = record { labels = labels; pieces = eqb-true _ _ (t4 .0) } }
-
-pub ordered-columns : {c : Columns} {a : Entries} → OrderedColumns c a → AcceptedColumns c a
-ordered-columns {c} h = record { table = ordered-accepted c .0 (h .ordered) .0; sized = h .sized }
+      let labels-long : Sized (c .vertices) (a .labels) = record { weights = eqb-true _ _ (t1 .0); depths = eqb-true _ _ (t2 .0); edges = eqb-true _ _ (t3 .0) } in (
+        t .0,
+        record {
+          table = ordered-accepted c .0 (t .0) .0;
+          sized = record { labels = labels-long; pieces = eqb-true _ _ (t4 .0) };
+        },
+      )
 
 module _ (m : Measure) (c : Columns) where
-  -- the answers that the walk leaves
-  abbrev pub walked : Answers
-  walked = in-order (algebra m) (hypergraph c) (ownAt c)
-
-  pub same-answers : orderedAcceptance c ≡ Accepted → walked ≡ answersOf m c
+  pub same-answers : orderedAcceptance c ≡ Accepted → walked m c ≡ answersOf m c
   unfolding answersOf
   same-answers p = in-order-best-first (lawful m) (ownAt c) (well-formed c (ordered-accepted c .0 p .0)) (table-in-order c p)
 
-  pub same-entries : orderedAcceptance c ≡ Accepted → entriesInOrder m c ≡ entriesOf m c
-  unfolding entriesInOrder entriesOf
-  same-entries p = ap (λ (z : Answers). record { labels = z; pieces = pieceColumn (hypergraph c) (labels z) (c .vertices) }) (same-answers p)
+  same-entries : orderedAcceptance c ≡ Accepted → walkedEntries m c ≡ entriesOf m c
+  unfolding entriesOf
+  same-entries p = let e = same-answers p in λ i. record { labels = e i; pieces = pieceColumn (hypergraph c) (labels (e i)) (c .vertices) }
 
   module _ (a : Entries) where
     pub ordered-refused-left : (r : Refusal) → orderedLentAcceptance c a ≡ Refused r → record { result = Refused r; left = a } ≡ settledInOrder m c a
     unfolding settledInOrder
     ordered-refused-left r p = rw p
 
-    pub ordered-all : (b : Entries) → orderedLentAcceptance c a ≡ Accepted → b ≡ entriesInOrder m c → record { result = Accepted; left = b } ≡ settledInOrder m c a
+    pub ordered-all : (b : Entries) → orderedLentAcceptance c a ≡ Accepted → b ≡ walkedEntries m c → record { result = Accepted; left = b } ≡ settledInOrder m c a
     unfolding settledInOrder
     ordered-all b p q = rw (p, q)
 
@@ -88,7 +87,7 @@ module _ (m : Measure) (c : Columns) where
     unfolding settledInOrder
     ordered-keeps r p = kept (orderedLentAcceptance c a) p
       where
-        kept : (x : Acceptance) → outcome x (entriesInOrder m c) a .result ≡ Refused r → outcome x (entriesInOrder m c) a .left ≡ a
+        kept : (x : Acceptance) → outcome x (walkedEntries m c) a .result ≡ Refused r → outcome x (walkedEntries m c) a .left ≡ a
         kept Accepted q = absurd (refused (sym q))
         kept (Refused s) q = refl
 
@@ -96,20 +95,27 @@ module _ (m : Measure) (c : Columns) where
     unfolding settledInOrder
     result-accepted p = told (orderedLentAcceptance c a) p
       where
-        told : (x : Acceptance) → outcome x (entriesInOrder m c) a .result ≡ Accepted → x ≡ Accepted
+        told : (x : Acceptance) → outcome x (walkedEntries m c) a .result ≡ Accepted → x ≡ Accepted
         told Accepted q = refl
         told (Refused s) q = absurd (refused q)
 
     -- the answers have their meaning
     pub ordered-demand-2 : settledInOrder m c a .result ≡ Accepted → (v : ℕ) → Demand2 m c (settledInOrder m c a .left) v
     ordered-demand-2 p v =
-        let s = same-columns (lent-ordered c a (result-accepted p) .ordered) in
+        let s = same-columns (lent-accepted c a (result-accepted p) .0) in
         subst (λ (o : SettleOutcome). Demand2 m c (o .left) v) (sym s) (demand-2 m c a (sym (ap (λ (o : SettleOutcome). o .result) s) ∙ p) v)
 
--- accepted columns tell the number of vertices, so `label` is not given it
-module _ (c : Columns) (a : Entries) (h : OrderedColumns c a) where
-  pub told-ordered : OrderedColumns (same-table c (length (a .labels .depths))) a
-  told-ordered = subst (λ (n : ℕ). OrderedColumns (same-table c n) a) (sym (h .sized .labels .depths)) h
+-- accepted columns tell the number of vertices, so `label` is not given it; and what it leaves can be counted
+module _ (m : Measure) (c : Columns) (a : Entries) (h : AcceptedColumns c a) {b : Answers} (e : b ≡ walked m (same-table c (length (a .labels .depths)))) where
+  told-walked : b ≡ walked m c
+  told-walked = subst (λ (n : ℕ). b ≡ walked m (same-table c n)) (h .sized .labels .depths) e
 
-  pub told-walked : (m : Measure) {b : Entries} → b ≡ entriesInOrder m (same-table c (length (a .labels .depths))) → b ≡ entriesInOrder m c
-  told-walked m {b} e = subst (λ (n : ℕ). b ≡ entriesInOrder m (same-table c n)) (h .sized .labels .depths) e
+  module _ (p : orderedAcceptance c ≡ Accepted) where
+    right : b ≡ answersOf m c
+    right = told-walked ∙ same-answers m c p
+
+    pub walked-countable : Countable (c .spans) (c .tails) (b .depths) (b .edges) (a .pieces)
+    walked-countable = answers-countable m c (h .table) right (h .sized .pieces)
+
+    pub walked-counted : {new : List ℕ} → new ≡ counted (c .spans) (c .tails) (b .depths) (b .edges) → record { labels = b; pieces = new } ≡ walkedEntries m c
+    walked-counted q = entered m c (h .table) right q ∙ sym (same-entries m c p)

@@ -8,6 +8,9 @@ use Rattle.refusal.specs.declared.Acceptance.the-variants.{Accepted, Refused}
 use Rattle.weights.specs.Measures.{fold, weigh}
 use Rattle.weights.specs.Labels.{aheadOf}
 use Rattle.provenance.specs.Labelling.{each, greatestDepth, noneZero, offerOf}
+use Rattle.provenance.specs.Support.{bill, bills}
+use Rattle.provenance.specs.Counting.{total}
+use Rattle.provenance.specs.Pieces.{piece, piecesAt, below}
 use Rattle.provenance.specs.InOrder.{offerTo, first, walk, in-order}
 use Rattle.columns.specs.Columns.{entries}
 use Rattle.columns.specs.Acceptance.{allBelow, edgeAcceptance, sizesAcceptance}
@@ -23,7 +26,7 @@ worked-unordered = refl
 -- without it the parts 0 to 3 have P1's answers, whatever the columns held
 pub worked-in-order : settledInOrder Cost workedInOrder (entries (7 ∷ 7 ∷ 7 ∷ 7 ∷ 7 ∷ []) (7 ∷ 7 ∷ 7 ∷ 7 ∷ 7 ∷ []) (7 ∷ 7 ∷ 7 ∷ 7 ∷ 7 ∷ []) (7 ∷ 7 ∷ 7 ∷ 7 ∷ 7 ∷ []))
     ≡ record { result = Accepted; left = entries (1200 ∷ 300 ∷ 2000 ∷ 2600 ∷ 0 ∷ []) (1 ∷ 1 ∷ 2 ∷ 3 ∷ 0 ∷ []) (0 ∷ 1 ∷ 2 ∷ 4 ∷ 0 ∷ []) (1 ∷ 1 ∷ 2 ∷ 4 ∷ 0 ∷ []) }
-unfolding settledInOrder orderedLentAcceptance orderedAcceptance sizesAcceptance orderedEdgesAcceptance orderedEdge edgeAcceptance allBelow in-order walk first offerTo offerOf noneZero aheadOf weigh fold each greatestDepth
+unfolding settledInOrder orderedLentAcceptance orderedAcceptance sizesAcceptance orderedEdgesAcceptance orderedEdge edgeAcceptance allBelow below piecesAt piece total bill bills in-order walk first offerTo offerOf noneZero aheadOf weigh fold each greatestDepth
 worked-in-order = refl
 
 -- line 0 of P6's table, `0 0 1`, lists a higher part

@@ -10,7 +10,7 @@ use Rattle.weights.specs.Measures.{algebra}
 use Rattle.refusal.specs.declared.Refusal.the-variants.{AnswerLength, Order}
 use Rattle.refusal.specs.declared.Acceptance.{Acceptance}
 use Rattle.refusal.specs.declared.Acceptance.the-variants.{Accepted}
-use Rattle.columns.specs.Columns.{Entries, Columns, headAt, ownAt, strikeAt, offsetAt, lengthAt, part}
+use Rattle.columns.specs.Columns.{Answers, Entries, Columns, headAt, ownAt, strikeAt, offsetAt, lengthAt, part}
 use Rattle.columns.specs.Acceptance.{test, andThen, allBelow, edgeAcceptance, sizesAcceptance}
 use Rattle.provenance.specs.BestFirst.{labels}
 use Rattle.provenance.specs.InOrder.{in-order}
@@ -45,12 +45,13 @@ orderedLentAcceptance c a =
     (test (eqb (length (a .pieces)) (c .vertices)) AnswerLength
     Accepted))))
 
--- what the walk leaves: its labels, and the piece counts, which they tell
-unfoldable pub entriesInOrder : Measure → Columns → Entries
-entriesInOrder m c =
-    let walked = in-order (algebra m) (hypergraph c) (ownAt c) in
-    record { labels = walked; pieces = pieceColumn (hypergraph c) (labels walked) (c .vertices) }
+-- the answers of the walk, and with them the piece counts, which they tell (document 02, 2026-09)
+abbrev pub walked : Measure → Columns → Answers
+walked m c = in-order (algebra m) (hypergraph c) (ownAt c)
+
+abbrev pub walkedEntries : Measure → Columns → Entries
+walkedEntries m c = record { labels = walked m c; pieces = pieceColumn (hypergraph c) (labels (walked m c)) (c .vertices) }
 
 -- settling, from the columns and answers at entry
 unfoldable pub settledInOrder : Measure → Columns → Entries → SettleOutcome
-settledInOrder m c a = outcome (orderedLentAcceptance c a) (entriesInOrder m c) a
+settledInOrder m c a = outcome (orderedLentAcceptance c a) (walkedEntries m c) a

@@ -9,13 +9,12 @@ use Rattle.weights.specs.declared.Offer.{Offer}
 use Rattle.weights.specs.declared.Offer.the-variants.{Nothing, Found}
 use Rattle.weights.specs.Measures.{algebra}
 use Rattle.refusal.specs.declared.Acceptance.the-variants.{Accepted}
-use Rattle.columns.specs.Columns.{Answers, Entries, Columns, SizedEntries, cell}
+use Rattle.columns.specs.Columns.{Answers, Columns, Sized, cell}
 use Rattle.columns.specs.Acceptance.{mostVertices, mostEdges, acceptance}
 use Rattle.columns.specs.Lent.{Usable}
 use Rattle.provenance.specs.BestFirst.{put, blank}
 use Rattle.provenance.specs.InOrder.{first}
 use Rattle.tables.specs.Table.{hypergraph}
-use Rattle.topological.specs.Ordering.{orderedAcceptance}
 
 -- stands for no line
 abbrev pub end : ℕ
@@ -61,11 +60,6 @@ pub record Storable (v : ℕ) (a : Answers) : Type 0 where
 abbrev pub putAt : Answers → ℕ → Offer → Answers
 putAt a v Nothing = a
 putAt a v (Found l) = put a v l
-
--- a table in order, and four columns of its length
-pub record OrderedColumns (c : Columns) (a : Entries) : Type 0 where
-  pub ordered : orderedAcceptance c ≡ Accepted
-  pub sized : SizedEntries (c .vertices) a
 
 -- the walk can begin
 pub record Walkable (c : Columns) (a : Answers) (first next : List ℕ) : Type 0 where

@@ -19,8 +19,8 @@ ghost use Rattle.columns.specs.Columns.{columns, answers, entries, cell};
 ghost use Rattle.columns.specs.Lent.{lent};
 ghost use Rattle.columns.proofs.Accepted.{AcceptedLabels};
 ghost use Rattle.tables.specs.Table.{hypergraph};
-ghost use Rattle.topological.specs.Ordering.{orderedEdge, orderedEdgesAcceptance, orderedAcceptance, orderedLentAcceptance, entriesInOrder, settledInOrder};
-ghost use Rattle.topological.specs.Walking.{Linkable, Linked, visited, Visitable, Walkable, OrderedColumns, putAt, Storable};
+ghost use Rattle.topological.specs.Ordering.{orderedEdge, orderedEdgesAcceptance, orderedAcceptance, orderedLentAcceptance, settledInOrder};
+ghost use Rattle.topological.specs.Walking.{Linkable, Linked, visited, Visitable, Walkable, putAt, Storable};
 
 // In place of a hyperedge, at the end of a list.
 const END: u16 = 65535;
@@ -282,8 +282,8 @@ fn walk(
     }
 }
 
-// The labels of an accepted table go into three of the answer columns, whatever they held.
-fn label_vertices(
+// The labels of an accepted table go into the three answer columns, whatever they held.
+fn label(
     measure: Measure,
     heads: &[u64],
     own: &[u64],
@@ -321,42 +321,6 @@ fn label_vertices(
         &first,
         &next,
     );
-}
-
-// The entries of a table in order go into the four answer columns, whatever they held: the labels, and
-// then the piece counts, which the labels tell.
-fn label(
-    measure: Measure,
-    heads: &[u64],
-    own: &[u64],
-    strikes: &[u64],
-    spans: &[u64],
-    tails: &[u64],
-    weights: &mut [u64],
-    depths: &mut [u64],
-    edges: &mut [u64],
-    pieces: &mut [u64],
-)
-    requires { let c = lent (now heads) (now own) (now strikes) (now spans) (now tails) (now depths) in
-        let a = entries (now weights) (now depths) (now edges) (now pieces) in
-        ⌜ OrderedColumns c a ⌝ }
-    ensures { λ r.
-        let c = lent (now (heads .entry)) (now (own .entry)) (now (strikes .entry)) (now (spans .entry)) (now (tails .entry)) (now (depths .entry)) in
-        let a′ = entries (now (weights .exit)) (now (depths .exit)) (now (edges .exit)) (now (pieces .exit)) in
-        ⌜ a′ ≡ entriesInOrder measure c ⌝ }
-{
-    label_vertices(
-        measure,
-        heads,
-        own,
-        strikes,
-        spans,
-        tails,
-        weights,
-        depths,
-        edges,
-    );
-    pieces::count_pieces(spans, tails, depths, edges, pieces);
 }
 
 // Leaves the entries of a table in order in the four answer columns, or refuses and leaves them as
@@ -406,7 +370,7 @@ pub fn settle_ordered(
         weights,
         depths,
         edges,
-        pieces,
     );
+    pieces::count_pieces(spans, tails, depths, edges, pieces);
     Acceptance::Accepted
 }

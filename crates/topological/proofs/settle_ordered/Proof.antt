@@ -1,13 +1,15 @@
--- `topological::settle_ordered` meets its contract: the columns are refused, or they are accepted and `label` leaves the answers in them. Assumes nothing.
+-- `topological::settle_ordered` meets its contract: the columns are refused, or they are accepted, `label` leaves the answers in three of them, and the counts are the
+-- fourth. Assumes nothing.
 use borrow.Author.Needs.{needs}
 use Rattle.topological.proofs.settle_ordered.Statement.{statement}
 use Rattle.topological.proofs.settle_ordered.Tie as tie
 use mathlib.Core.Path.{_≡_, sym, _∙_}
 use Rattle.refusal.specs.declared.Acceptance.the-variants.{Accepted}
 use Rattle.columns.specs.Columns.{Entries, Columns, columns, entries}
-use Rattle.topological.specs.Ordering.{orderedLentAcceptance}
-use Rattle.topological.specs.Walking.{OrderedColumns}
-use Rattle.topological.proofs.Settled.{lent-ordered, ordered-refused-left, ordered-all, told-ordered, told-walked}
+use Rattle.columns.proofs.Accepted.{AcceptedColumns, labels-accepted}
+use Rattle.settle.proofs.Settled.{told-accepted}
+use Rattle.topological.specs.Ordering.{orderedAcceptance, orderedLentAcceptance}
+use Rattle.topological.proofs.Settled.{lent-accepted, ordered-refused-left, ordered-all, walked-countable, walked-counted}
 
 -- the table and the answer columns as they came, which are accepted
 abbrev tableOf : tie.Start → Columns
@@ -22,23 +24,32 @@ entry c = c .before .before .before .before .before .before .before .before .bef
 accepted : (c : tie.After-enum-told) → orderedLentAcceptance (tableOf (entry c)) (came (entry c)) ≡ Accepted
 accepted c = sym (c .before .before .check-lent .ensures) ∙ c .enum-told .given .1
 
-passed : (c : tie.After-enum-told) → OrderedColumns (tableOf (entry c)) (came (entry c))
-passed c = lent-ordered (tableOf (entry c)) (came (entry c)) (accepted c)
+passed : (c : tie.After-enum-told) → (orderedAcceptance (tableOf (entry c)) ≡ Accepted) × AcceptedColumns (tableOf (entry c)) (came (entry c))
+passed c = lent-accepted (tableOf (entry c)) (came (entry c)) (accepted c)
 
 returns : tie.Need-returns
 returns c = ordered-refused-left _ _ _ _ (sym (c .before .before .before .check-lent .ensures) ∙ c .before .a .given .1)
 
 label-requires : tie.Need-label-requires
 label-requires c κs =
-    let p = c .before .before .before .before in
-    told-ordered (tableOf (entry p)) (came (entry p)) (passed p)
+    let p = c .before .before .before in
+    labels-accepted (told-accepted (tableOf (entry p)) (came (entry p)) (passed p .1))
+
+count-pieces-requires : tie.Need-count-pieces-requires
+count-pieces-requires c κs =
+    let l = c .before .before .before .before .before .before .before .before .before in
+    let p = l .before .before .before .before in
+    let s = entry p in
+    walked-countable (s .args .measure) (tableOf s) (came s) (passed p .1) (l .label .ensures) (passed p .0)
 
 returns-2 : tie.Need-returns-2
 returns-2 c =
-    let l = c .before .before .before .before .before .before .before .before in
-    let p = l .before .before .before .before .before in
+    let k = c .before .before in
+    let l = k .before .before .before .before .before .before .before .before .before .before in
+    let p = l .before .before .before .before in
     let s = entry p in
-    ordered-all (s .args .measure) (tableOf s) (came s) _ (accepted p) (told-walked (tableOf s) (came s) (passed p) (s .args .measure) (l .label .ensures))
+    let counts = walked-counted (s .args .measure) (tableOf s) (came s) (passed p .1) (l .label .ensures) (passed p .0) (k .count-pieces .ensures) in
+    ordered-all (s .args .measure) (tableOf s) (came s) _ (accepted p) counts
 
 pub settle-ordered-spec : {M : Type 1} → statement M
 settle-ordered-spec =
@@ -53,6 +64,7 @@ settle-ordered-spec =
     returns
     (λ c. search needs)
     label-requires
+    count-pieces-requires
     (λ c. search needs)
     (λ c. search needs)
     (λ c. search needs)
