@@ -74,6 +74,13 @@ module _ {own own′ : ℕ → ℕ} {e d : ℕ} (r : Raised own own′ e d) wher
   pub raised-more : (x : ℕ) → own x ≤ own′ x
   raised-more x = omega (arith, raised-once x)
 
+  pub raised-most : (x : ℕ) → own′ x ≤ own x + d
+  raised-most x = go (ℕ-discrete x e)
+    where
+      go : Dec (x ≡ e) → own′ x ≤ own x + d
+      go (yes q) = omega (arith, ap own′ q, ap own q, r .here)
+      go (no n) = omega (arith, r .elsewhere x n)
+
   -- a bill rises by d for each time that it has the line
   pub raised-total : (es : List ℕ) → total own′ es ≡ total own es + d * count e es
   unfolding total count

@@ -1,29 +1,38 @@
--- The semiring in which a measure weighs: cost in the tropical semiring, where its weight function is the product, and days in the bottleneck semiring, both up to
--- the ceiling. Assumes nothing.
+-- The semiring in which a measure weighs: cost in the tropical semiring and grade in that of grades, where their weight functions are the product, and days in the
+-- bottleneck semiring; cost and days up to the ceiling. Assumes nothing.
 use mathlib.Core.Path.{_≡_, refl, sym, _∙_, ap}
 use mathlib.Core.List.{List, [], _∷_, map}
 use Prim.Native.Nat.{ℕ, _+_, min, max}
 use native.Mathlib.Omega.{arith}
 use lib.Dec.{leb}
-use Rattle.semiring.specs.Semiring.{product, finite, extend, Joining}
-use Rattle.semiring.proofs.Semiring.{extend-assoc, extend-comm, extend-one, least-semiring, +-joining, max-joining, tropical, bottleneck}
+use borrow.Author.Tests.{le-leb}
+use Rattle.semiring.specs.Semiring.{Semiring, Below, product, finite, extend}
+use Rattle.semiring.specs.Chain.{present}
+use Rattle.semiring.proofs.Semiring.{tropical}
+use Rattle.semiring.proofs.Chain.{backwards, better-first, bottleneck, bottleneck-plus, bottleneck-times, graded, grades, grades-times}
 use Rattle.weights.specs.declared.Measure.{Measure}
-use Rattle.weights.specs.declared.Measure.the-variants.{Cost, Days}
-use Rattle.weights.specs.Figures.{capped}
-use Rattle.weights.specs.Measures.{cost, days, algebra, fold, weigh}
+use Rattle.weights.specs.declared.Measure.the-variants.{Cost, Days, Grade}
+use Rattle.weights.specs.Figures.{greatest, capped}
+use Rattle.weights.specs.Measures.{cost, days, grade, algebra, fold, weigh}
 use Rattle.weights.specs.Laws.{NoWorse, Lawful}
-use Rattle.weights.proofs.Laws.{least, at-most, upward}
-use Rattle.provenance.specs.Semirings.{long-cost, long-days, Weighs, Computes}
+use Rattle.weights.proofs.Laws.{least, at-most, unturn, upward, grade-lawful}
+use Rattle.weights.proofs.Weighing.{fold-least}
+use Rattle.provenance.specs.Semirings.{long-cost, long-days, gradeOf, Weighs, Computes}
 
-module _ {f : ℕ → ℕ → ℕ} (j : Joining f) where
-  fold-times : (a : ℕ) (ws : List ℕ) → finite (fold f a ws) ≡ extend f (finite a) (product (least-semiring f j) (map finite ws))
+-- where the element of f a b is the product of the elements, joining a list by f is the product of the list
+module _ (S : Semiring) (element : ℕ → S .Carrier) (f : ℕ → ℕ → ℕ) (joins : (a b : ℕ) → element (f a b) ≡ S .times (element a) (element b)) where
+  fold-product : (a : ℕ) (ws : List ℕ) → element (fold f a ws) ≡ S .times (element a) (product S (map element ws))
   unfolding fold product
-  fold-times a [] = sym (extend-one j (finite a))
-  fold-times a (w ∷ ws) = fold-times (f a w) ws ∙ extend-assoc j (finite a) (finite w) (product (least-semiring f j) (map finite ws))
+  fold-product a [] = sym (S .times-one (element a))
+  fold-product a (w ∷ ws) =
+      let p = product S (map element ws) in
+      fold-product (f a w) ws ∙ ap (λ x. S .times x p) (joins a w) ∙ S .times-assoc (element a) (element w) p
 
-  -- weights joined from 0 on are a product
-  fold-product : (ws : List ℕ) → finite (fold f 0 ws) ≡ product (least-semiring f j) (map finite ws)
-  fold-product ws = let p = product (least-semiring f j) (map finite ws) in fold-times 0 ws ∙ extend-comm j (finite 0) p ∙ extend-one j p
+  -- from what is the product of nothing on
+  unit-product : (u : ℕ) → element u ≡ S .one → (ws : List ℕ) → element (fold f u ws) ≡ product S (map element ws)
+  unit-product u e ws =
+      let p = product S (map element ws) in
+      fold-product u ws ∙ ap (λ x. S .times x p) e ∙ S .times-comm (S .one) p ∙ S .times-one p
 
 pub finite-below : {a b : ℕ} → NoWorse leb a b → finite (min a b) ≡ finite a
 finite-below p = ap finite (omega (arith, at-most p))
@@ -66,11 +75,14 @@ days-caps own ws = omega (arith, fold-caps max max (λ a b. omega arith) 0 ws)
 
 pub cost-function : (own : ℕ) (ws : List ℕ) → finite (weigh long-cost own ws) ≡ extend _+_ (finite own) (product tropical (map finite ws))
 unfolding weigh
-cost-function own ws = ap (extend _+_ (finite own)) (fold-product +-joining ws)
+cost-function own ws = ap (extend _+_ (finite own)) (unit-product tropical finite _+_ (λ a b. refl) 0 refl ws)
 
 pub days-function : (own : ℕ) (ws : List ℕ) → finite (weigh long-days own ws) ≡ extend _+_ (finite own) (product bottleneck (map finite ws))
 unfolding weigh
-days-function own ws = ap (extend _+_ (finite own)) (fold-product max-joining ws)
+days-function own ws = ap (extend _+_ (finite own)) (unit-product bottleneck finite max (λ a b. sym (bottleneck-times (finite a) (finite b))) 0 refl ws)
+
+pub days-below : {a b : ℕ} → NoWorse leb a b → Below bottleneck (finite a) (finite b)
+days-below {a} {b} p = bottleneck-plus (finite a) (finite b) ∙ finite-below p
 
 -- costs are sums, capped
 abbrev pub cost-weighs : Weighs cost
@@ -100,11 +112,61 @@ days-weighs = record {
   caps = days-caps;
   semiring = bottleneck;
   element = finite;
-  element-below = finite-below;
+  element-below = days-below;
   function = λ own xs. extend _+_ (finite own) (product bottleneck xs);
   weighs = days-function;
 }
 
+-- grades: the product is the least of two, and what is cut at the greatest stays cut
+grade-joins : (a b : ℕ) → gradeOf (min a b) ≡ grades .times (gradeOf a) (gradeOf b)
+unfolding gradeOf
+grade-joins a b =
+    ap (λ (x : ℕ). present (finite x)) (let q : min (min a b) greatest ≡ min (min a greatest) (min b greatest) = omega arith in q)
+    ∙ sym (grades-times (min a greatest) (min b greatest))
+
+cut-twice : (a : ℕ) → gradeOf (min a greatest) ≡ gradeOf a
+unfolding gradeOf
+cut-twice a = ap (λ (x : ℕ). present (finite x)) (let q : min (min a greatest) greatest ≡ min a greatest = omega arith in q)
+
+pub grade-function : (own : ℕ) (ws : List ℕ) → gradeOf (weigh grade own ws) ≡ grades .times (gradeOf own) (product grades (map gradeOf ws))
+unfolding weigh
+grade-function own ws =
+    ap gradeOf (fold-least own greatest ws)
+    ∙ fold-product grades gradeOf min grade-joins (min own greatest) ws
+    ∙ ap (λ x. grades .times x (product grades (map gradeOf ws))) (cut-twice own)
+
+pub grade-below : {a b : ℕ} → NoWorse (grade .leq) a b → Below grades (gradeOf a) (gradeOf b)
+unfolding gradeOf
+grade-below {a} {b} p =
+    let h = le-leb (min b greatest) (min a greatest) (omega (arith, at-most (unturn p))) in
+    better-first (backwards graded) (present (finite (min a greatest))) (present (finite (min b greatest))) h
+
+map-same : (ws : List ℕ) → map (λ (a : ℕ). a) ws ≡ ws
+map-same [] = refl
+map-same (w ∷ ws) = ap (λ (xs : List ℕ). w ∷ xs) (map-same ws)
+
+pub grade-caps : (own : ℕ) (ws : List ℕ) → weigh grade own (map (λ (a : ℕ). a) ws) ≡ weigh grade own ws
+grade-caps own ws = ap (weigh grade own) (map-same ws)
+
+-- grades are the least of the own figure and the tail's, and nothing is capped
+abbrev pub grade-weighs : Weighs grade
+grade-weighs = record {
+  exact = grade;
+  lawful = grade-lawful;
+  cap = λ a. a;
+  cap-mono = λ p. p;
+  caps = grade-caps;
+  semiring = grades;
+  element = gradeOf;
+  element-below = grade-below;
+  function = λ own xs. grades .times (gradeOf own) (product grades xs);
+  weighs = grade-function;
+}
+
+abbrev pub grade-computes : Computes grade
+grade-computes = record { base = grade-weighs; times = λ own xs. refl }
+
 abbrev pub weighs : (m : Measure) → Weighs (algebra m)
 weighs Cost = cost-weighs
 weighs Days = days-weighs
+weighs Grade = grade-weighs

@@ -1,6 +1,6 @@
 -- Sensitivity: what becomes of the labels where own figures change. The same parts are unmade. In cost each part within the ceiling keeps to the bounds that its two
 -- bills set, the sums over all lines of figure × count; for one line raised by d, it rises by at least d × its count in the new bill and at most d × its count
--- in the old. In days it rises by 0 to d, since a line stands at most once on a downward path. The paper's demand 3. Assumes nothing.
+-- in the old. In days it rises by 0 to d, since a line stands at most once on a downward path, and in grade, since the least of some figures does. Demand 3. Assumes nothing.
 use mathlib.Core.Path.{_≡_, refl, _∙_, ap}
 use mathlib.Core.List.{List, [], _∷_}
 use Prim.Native.Nat.{ℕ, _+_, _*_, _≤_}
@@ -9,9 +9,9 @@ use native.Mathlib.Nat.{mul-zero, mul-one}
 use native.Mathlib.Decide.{ℕ-discrete}
 use Rattle.weights.specs.declared.Label.{Label}
 use Rattle.weights.specs.Figures.{capped}
-use Rattle.weights.specs.Measures.{Algebra, cost, days, fold, weigh}
+use Rattle.weights.specs.Measures.{Algebra, cost, days, grade, fold, weigh}
 use Rattle.weights.specs.Laws.{NoWorse, Lawful}
-use Rattle.weights.proofs.Laws.{least, at-most, cost-lawful, days-lawful}
+use Rattle.weights.proofs.Laws.{least, at-most, turn, unturn, cost-lawful, days-lawful, grade-lawful}
 use Rattle.weights.proofs.Weighing.{no-worse-eq, Pointwise, weigh-mono}
 use Rattle.provenance.specs.Hypergraph.{Hypergraph, Derivation, Derivations, node, none, more, weight, weights, listing, listings}
 use Rattle.provenance.specs.Labelling.{Made, Fixpoint}
@@ -24,7 +24,7 @@ use Rattle.provenance.proofs.Exact.{weight-capped}
 use Rattle.provenance.specs.Paths.{Greatest}
 use Rattle.provenance.proofs.Paths.{line-once, days-path}
 use Rattle.provenance.specs.Counting.{count, charge, total, Raised}
-use Rattle.provenance.proofs.Counting.{total-charge, total-append, AllBelow, below-append, raised-more, raised-total}
+use Rattle.provenance.proofs.Counting.{total-charge, total-append, AllBelow, below-append, raised-more, raised-most, raised-total}
 use Rattle.provenance.specs.Sensitivity.{MadeWithin, Exchange, CostRise, DaysRise}
 
 -- whether a part is made does not look at figures
@@ -146,3 +146,34 @@ module _ {H : Hypergraph} {own own′ : ℕ → ℕ} {e d : ℕ} (r : Raised own
         least = at-most (label-mono days-lawful own own′ (λ x. least (raised-more r x)) fix fix′ v (a′ .made));
         most = omega (arith, a .low, s, at-most b, days-most fix (t .tree) (t .follows), days-total own (t .tree), days-total own′ (t .tree));
       }
+
+-- where joining and finishing rise by at most d when what they take does, so does every make-up
+record Slow (A : Algebra) (d : ℕ) : Type 0 where
+  pub joins : (a a′ b b′ : ℕ) → a′ ≤ a + d → b′ ≤ b + d → A .join a′ b′ ≤ A .join a b + d
+  pub finishes : (a a′ b b′ : ℕ) → a′ ≤ a + d → b′ ≤ b + d → A .finish a′ b′ ≤ A .finish a b + d
+
+module _ {A : Algebra} {d : ℕ} (slow : Slow A d) {H : Hypergraph} (own own′ : ℕ → ℕ) (most : (x : ℕ) → own′ x ≤ own x + d) where
+  mutual
+    unfolding weight weigh fold
+
+    weight-slow : {v : ℕ} (t : Derivation H v) → weight A own′ t ≤ weight A own t + d
+    weight-slow (node e s h ds) = slow .finishes (own e) (own′ e) _ _ (most e) (fold-slow (A .unit) (A .unit) (omega arith) ds)
+
+    fold-slow : (a a′ : ℕ) → a′ ≤ a + d → {vs : List ℕ} (ds : Derivations H vs) → fold (A .join) a′ (weights A own′ ds) ≤ fold (A .join) a (weights A own ds) + d
+    fold-slow a a′ h none = h
+    fold-slow a a′ h (more t ds) = fold-slow _ _ (slow .joins a a′ (weight A own t) (weight A own′ t) h (weight-slow t)) ds
+
+grade-slow : (d : ℕ) → Slow grade d
+grade-slow d = record { joins = λ a a′ b b′ p q. omega arith; finishes = λ a a′ b b′ p q. omega arith }
+
+-- in grade a raise makes no part worse, and the new chosen make-up, weighed with the old figures, is at most d below
+pub grade-rise : {H : Hypergraph} {own own′ : ℕ → ℕ} {e d : ℕ} → Raised own own′ e d → {ls ls′ : ℕ → Label} → Fixpoint grade H own ls → Fixpoint grade H own′ ls′
+    → (v : ℕ) → Made (ls v) → DaysRise d (ls v .weight .0) (ls′ v .weight .0)
+grade-rise {H} {own} {own′} {e} {d} r {ls} {ls′} fix fix′ v a =
+    let t = chosen grade-lawful fix′ v (same-made grade-lawful fix fix′ v a) in
+    let b = bound grade-lawful fix (t .tree) .low in
+    let s = supports grade-lawful fix′ (t .tree) (t .follows) .weighs in
+    record {
+      least = at-most (unturn (label-mono grade-lawful own′ own (λ x. turn (least (raised-more r x))) fix′ fix v a));
+      most = omega (arith, at-most (unturn b), weight-slow (grade-slow d) own own′ (raised-most r) (t .tree), s);
+    }

@@ -1,6 +1,6 @@
 -- Sensitivity: what becomes of the labels where own figures change. The same parts are unmade. In cost each part within the ceiling keeps to the bounds that its two
 -- bills set, the sums over all lines of figure × count; for one line raised by d, it rises by at least d × its count in the new bill and at most d × its count
--- in the old. In days it rises by 0 to d, since a line stands at most once on a downward path. The paper's demand 3. Assumes nothing: these are definitions.
+-- in the old. In days it rises by 0 to d, since a line stands at most once on a downward path, and in grade, since the least of some figures does. Demand 3. Assumes nothing: these are definitions.
 use mathlib.Core.Path.{_≡_}
 use mathlib.Core.List.{List}
 use Prim.Native.Nat.{ℕ, _+_, _*_, _≤_}
@@ -28,6 +28,7 @@ pub record CostRise (d w w′ : ℕ) (old new : ℕ) : Type 0 where
   pub least : w + d * new ≤ w′
   pub most : w′ ≤ w + d * old
 
+-- the rise in days, and in grade
 pub record DaysRise (d w w′ : ℕ) : Type 0 where
   pub least : w ≤ w′
   pub most : w′ ≤ w + d

@@ -1,7 +1,7 @@
 -- What a refusal's number and place are, and the one number that a caller in C gets. The paper's table of refusals, and "The calls" for C.
 -- Assumes nothing: these are definitions.
 use lib.Dec.{eqb}
-use Rattle.weights.specs.declared.Measure.the-variants.{Cost, Days}
+use Rattle.weights.specs.declared.Measure.the-variants.{Cost, Days, Grade}
 use Rattle.weights.specs.Choice.{pick}
 use Rattle.refusal.specs.declared.MeasureChoice.{MeasureChoice}
 use Rattle.refusal.specs.declared.MeasureChoice.the-variants as choice
@@ -134,6 +134,6 @@ abbrev pub readingResult : Reading → ℕ
 readingResult (reading.Table h) = 0
 readingResult (reading.Refused r) = resultOf (codeOf r)
 
--- the measure's number from C: 0 is cost, 1 is days, and any other is refused by 16
+-- the measure's number from C: 0 is cost, 1 is days, 2 is grade, and any other is refused by 16
 abbrev pub measureOf : ℕ → MeasureChoice
-measureOf n = pick (eqb n 0) (choice.Measure Cost) (pick (eqb n 1) (choice.Measure Days) (choice.Refused MeasureNumber))
+measureOf n = pick (eqb n 0) (choice.Measure Cost) (pick (eqb n 1) (choice.Measure Days) (pick (eqb n 2) (choice.Measure Grade) (choice.Refused MeasureNumber)))

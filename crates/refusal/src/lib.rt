@@ -235,7 +235,7 @@ pub enum MeasureChoice {
     Refused(Refusal),
 }
 
-// The measure of a number: 0 is cost, 1 is days.
+// The measure of a number: 0 is cost, 1 is days, 2 is grade.
 pub fn measure_numbered(number: u64) -> MeasureChoice
     ensures { λ r. ⌜ r ≡ measureOf number ⌝ }
 {
@@ -244,6 +244,9 @@ pub fn measure_numbered(number: u64) -> MeasureChoice
     }
     if number == 1 {
         return MeasureChoice::Measure(Measure::Days);
+    }
+    if number == 2 {
+        return MeasureChoice::Measure(Measure::Grade);
     }
     MeasureChoice::Refused(Refusal::MeasureNumber)
 }

@@ -2,13 +2,10 @@
 -- families, so through the infima of chains. Assumes nothing.
 use mathlib.Core.Path.{_≡_, refl, sym, _∙_, ap}
 use mathlib.Core.Logic.{_↔_}
-use Prim.Native.Nat.{ℕ, _+_, _-_, _≤_, min, max}
+use Prim.Native.Nat.{ℕ, _+_, _-_, _≤_, min}
 use native.Mathlib.Omega.{arith}
-use mathlib.Core.Bool.{Bool, true, false}
-use lib.Dec.{leb}
-use borrow.Author.Tests.{leb-true, leb-false}
 use Rattle.semiring.specs.Semiring.{Semiring, Below, Sum, partial, Extended, finite, infinite, least, extend, Joining}
-use Rattle.semiring.proofs.Semiring.{sum-same, sum-partial, below-trans, plus-right, below-plus, least-semiring, +-joining, max-joining, tropical, bottleneck}
+use Rattle.semiring.proofs.Semiring.{sum-same, sum-partial, below-trans, plus-right, below-plus, least-semiring, +-joining, tropical}
 
 -- the sequence a has the members of the family f: then f's sum is the infimum of a's partial sums
 pub sum-sequence : (S : Semiring) {I : Type 0} (f : I → S .Carrier) (a : ℕ → S .Carrier) → ((i : I) → (n : ℕ) × (f i ≡ a n)) → ((n : ℕ) → (i : I) × (f i ≡ a n))
@@ -39,28 +36,6 @@ record Residual (f : ℕ → ℕ → ℕ) : Type 0 where
 
 +-residual : Residual _+_
 +-residual = record { rest = λ a y. y - a; enough = λ a y b h. omega arith; needed = λ a y b h. omega arith }
-
--- 0 where y is reached already
-abbrev unreached : Bool → ℕ → ℕ
-unreached true y = 0
-unreached false y = y
-
-max-enough : (a y b : ℕ) → unreached (leb y a) y ≤ b → y ≤ max a b
-max-enough a y b = go (leb y a) refl
-  where
-    go : (t : Bool) → leb y a ≡ t → unreached t y ≤ b → y ≤ max a b
-    go true e h = let k = leb-true y a e in omega arith
-    go false e h = omega arith
-
-max-needed : (a y b : ℕ) → y ≤ max a b → unreached (leb y a) y ≤ b
-max-needed a y b h = go (leb y a) refl
-  where
-    go : (t : Bool) → leb y a ≡ t → unreached t y ≤ b
-    go true e = omega arith
-    go false e = let k = leb-false y a e in omega arith
-
-max-residual : Residual max
-max-residual = record { rest = λ a y. unreached (leb y a) y; enough = max-enough; needed = max-needed }
 
 least-finite : {a b : ℕ} → a ≤ b → finite (min a b) ≡ finite a
 least-finite h = ap finite (omega arith)
@@ -110,9 +85,6 @@ module _ {f : ℕ → ℕ → ℕ} (j : Joining f) (r : Residual f) {I : Type 0}
   times-sum : (a x : Extended) → Sum S g x → Sum S (λ i. extend f a (g i)) (extend f a x)
   times-sum a x s = record { lower = λ i. times-low a x (g i) (s .lower i); greatest = λ y h. times-high a x y s h }
 
--- multiplication passes through every sum, in the tropical semiring and in the bottleneck semiring
+-- multiplication passes through every sum, in the tropical semiring; Chain has it of the others
 pub tropical-times-sum : {I : Type 0} (g : I → Extended) (a x : Extended) → Sum tropical g x → Sum tropical (λ i. tropical .times a (g i)) (tropical .times a x)
 tropical-times-sum = times-sum +-joining +-residual
-
-pub bottleneck-times-sum : {I : Type 0} (g : I → Extended) (a x : Extended) → Sum bottleneck g x → Sum bottleneck (λ i. bottleneck .times a (g i)) (bottleneck .times a x)
-bottleneck-times-sum = times-sum max-joining max-residual

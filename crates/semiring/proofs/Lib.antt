@@ -1,3 +1,4 @@
 pub mod Datalog
 pub mod Continuous
 pub mod Semiring
+pub mod Chain

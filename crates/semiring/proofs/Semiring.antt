@@ -1,9 +1,9 @@
--- Semirings (document 000, Definition 1), their natural order, sums of whole families (Definition 3), and the two that measures compute in, over ℕ: the tropical
--- semiring (document 000, Example 6) and the bottleneck semiring (document 003, Semiring 5). Assumes nothing.
+-- Semirings (document 000, Definition 1), their natural order, sums of whole families (Definition 3), and the tropical semiring over ℕ (document 000, Example 6).
+-- Assumes nothing.
 use mathlib.Core.Path.{_≡_, refl, sym, _∙_, ap, subst}
 use mathlib.Core.Logic.{_↔_}
 use mathlib.Core.List.{List, [], _∷_, _++_}
-use Prim.Native.Nat.{ℕ, zero, suc, _+_, max}
+use Prim.Native.Nat.{ℕ, zero, suc, _+_}
 use native.Mathlib.Omega.{arith}
 use Rattle.semiring.specs.Semiring.{Semiring, Below, Sum, product, partial, Extended, finite, infinite, least, extend, Joining}
 
@@ -149,10 +149,3 @@ pub +-joining : Joining _+_
 -- (ℕ ∪ {∞}, min, +, ∞, 0)
 abbrev pub tropical : Semiring
 tropical = least-semiring _+_ +-joining
-
-pub max-joining : Joining max
-max-joining = omega arith
-
--- (ℕ ∪ {∞}, min, max, ∞, 0)
-abbrev pub bottleneck : Semiring
-bottleneck = least-semiring max max-joining

@@ -1,2 +1,3 @@
 pub mod Semiring
+pub mod Chain
 pub mod Datalog

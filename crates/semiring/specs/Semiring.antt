@@ -1,5 +1,5 @@
--- Semirings (document 000, Definition 1), their natural order, sums of whole families (Definition 3), and the two that measures compute in, over ℕ: the tropical
--- semiring (document 000, Example 6) and the bottleneck semiring (document 003, Semiring 5). Assumes nothing: these are definitions.
+-- Semirings (document 000, Definition 1), their natural order, sums of whole families (Definition 3), and what the tropical semiring (document 000, Example 6) has
+-- over ℕ. Assumes nothing: these are definitions.
 use mathlib.Core.Path.{_≡_}
 use mathlib.Core.List.{List, [], _∷_}
 use Prim.Native.Nat.{ℕ, zero, suc, min}

@@ -1,9 +1,11 @@
 -- What the laws of a measure give for the weight of a hyperedge, `weigh`: it is monotone in the own weight and in each weight of the tail, stays in range,
--- and is no better than any of the weights of the tail. Assumes nothing.
-use mathlib.Core.Path.{_≡_}
+-- and is no better than any of the weights of the tail. In grade it is the least of them all. Assumes nothing.
+use mathlib.Core.Path.{_≡_, refl, _∙_, ap}
 use mathlib.Core.List.{List, [], _∷_, List·Memᴰ, List·Memᴰ·head, List·Memᴰ·tail}
-use Prim.Native.Nat.{ℕ}
-use Rattle.weights.specs.Measures.{Algebra, fold, weigh}
+use Prim.Native.Nat.{ℕ, _≤_, min}
+use native.Mathlib.Omega.{arith}
+use Rattle.weights.specs.Figures.{greatest}
+use Rattle.weights.specs.Measures.{Algebra, grade, fold, weigh}
 use Rattle.weights.specs.Laws.{NoWorse, InRange, Lawful}
 
 -- each weight of one list is no worse than the other's
@@ -44,3 +46,14 @@ module _ {A : Algebra} (L : Lawful A) where
   pub superior : (own : ℕ) {x : ℕ} {xs : List ℕ} → List·Memᴰ x xs → InRange A x → NoWorse (A .leq) x (weigh A own xs)
   unfolding weigh
   superior own i h = L .finish-superior own h (fold-superior (A .unit) i h)
+
+-- the least of a number and of a list is the least of the list joined from the lesser one on
+pub fold-least : (a b : ℕ) (ws : List ℕ) → min a (fold min b ws) ≡ fold min (min a b) ws
+unfolding fold
+fold-least a b [] = refl
+fold-least a b (w ∷ ws) = fold-least a (min b w) ws ∙ ap (λ (x : ℕ). fold min x ws) (let q : min a (min b w) ≡ min (min a b) w = omega arith in q)
+
+-- in grade the start of the joining is not seen: of an own figure the weight is the least of it and of the tail's, so without a tail it is the own figure
+pub weigh-grade : (own : ℕ) (ws : List ℕ) → own ≤ greatest → weigh grade own ws ≡ fold min own ws
+unfolding weigh
+weigh-grade own ws h = fold-least own greatest ws ∙ ap (λ (x : ℕ). fold min x ws) (let q : min own greatest ≡ own = omega arith in q)

@@ -1,7 +1,7 @@
 // Weights, the measures by which they are joined and compared, and the labels and entries that are
 // made of them.
 ghost use mathlib.Core.Path.{_≡_};
-ghost use Prim.Native.Nat.{_+_, max};
+ghost use Prim.Native.Nat.{_+_, min, max};
 ghost use Rattle.weights.specs.Figures.{isStruckMark, isOver, capped};
 ghost use Rattle.weights.specs.Measures.{algebra};
 ghost use Rattle.weights.specs.Labels.{aheadOf, stateOf, entryOf};
@@ -12,10 +12,11 @@ pub struct Vertex(pub u64);
 pub struct Hyperedge(pub u64);
 
 // The paper's measure: by cost a line's own figure and the figures of its parts are added, by days
-// its own figure and the greatest of its parts'.
+// its own figure and the greatest of its parts'; by grade the least of them all counts.
 pub enum Measure {
     Cost,
     Days,
+    Grade,
 }
 
 // The paper's figure: an own figure of a line, or the figure of a part.
@@ -61,6 +62,15 @@ impl Weight {
         }
         self
     }
+
+    pub fn lesser(self, other: Weight) -> Weight
+        ensures { λ r. ⌜ r .0 ≡ min (self .0) (other .0) ⌝ }
+    {
+        if self.0 > other.0 {
+            return other;
+        }
+        self
+    }
 }
 
 impl Weight {
@@ -71,6 +81,7 @@ impl Weight {
         match measure {
             Measure::Cost => Weight(0),
             Measure::Days => Weight(0),
+            Measure::Grade => Weight::GREATEST,
         }
     }
 
@@ -81,6 +92,7 @@ impl Weight {
         match measure {
             Measure::Cost => self.plus(other),
             Measure::Days => self.greater(other),
+            Measure::Grade => self.lesser(other),
         }
     }
 
@@ -91,6 +103,7 @@ impl Weight {
         match measure {
             Measure::Cost => self.plus(joined),
             Measure::Days => self.plus(joined),
+            Measure::Grade => self.lesser(joined),
         }
     }
 
@@ -101,6 +114,7 @@ impl Weight {
         match measure {
             Measure::Cost => self.0 <= other.0,
             Measure::Days => self.0 <= other.0,
+            Measure::Grade => self.0 >= other.0,
         }
     }
 }
