@@ -5,6 +5,7 @@ use mathlib.Core.List.{List}
 use native.Mathlib.Omega.{arith}
 use lib.ListN.{length, replicate, length-replicate, getD-replicate}
 use Rattle.weights.specs.declared.Measure.{Measure}
+use Rattle.weights.specs.Measures.{algebra}
 use Rattle.columns.specs.Columns.{Answers, Columns, cell}
 use Rattle.provenance.specs.BestFirst.{turns}
 use Rattle.provenance.proofs.Existence.{zeros}
@@ -13,20 +14,22 @@ use Rattle.columns.proofs.Accepted.{table-accepted}
 use Rattle.minima.specs.Minima.{none, size}
 use Rattle.queue.specs.Keys.{heavy}
 use Rattle.waiting.specs.Lines.{end, Lines, lines, places, Offerable, Rested, Empty}
+use Rattle.waiting.proofs.Steps.{edge-room}
 use Rattle.bestfirst.specs.Turns.{Blank, Begun, Cleared}
 
 -- columns that are made for the purpose, with as many places for hyperedges as a table of so many asks for
-pub clear-columns : (edges r : ℕ) → places edges ≡ r → Cleared edges (lines (replicate mostVertices end) (replicate r 0) (replicate r 0) (replicate r 0) (replicate r 0)) (replicate size none)
-clear-columns edges r p =
+pub clear-columns : (m : Measure) (edges r : ℕ) {j : ℕ} → j ≡ algebra m .unit → places edges ≡ r
+    → Cleared m edges (lines (replicate mostVertices end) (replicate r 0) (replicate r 0) (replicate r j) (replicate r 0)) (replicate size none)
+clear-columns m edges r {j} u p =
     let l : length {A = ℕ} (replicate r 0) ≡ places edges = length-replicate {A = ℕ} r 0 ∙ sym p in
     record {
-      sizes = record { first = length-replicate mostVertices end; next = l; at = l; joined = l; deepest = l };
-      untouched = λ e. record { at = zeros r e; joined = zeros r e; deepest = zeros r e };
+      sizes = record { first = length-replicate mostVertices end; next = l; at = l; joined = length-replicate {A = ℕ} r j ∙ sym p; deepest = l };
+      untouched = λ e h. record { at = zeros r e; joined = getD-replicate r e j 0 (omega arith) ∙ u; deepest = zeros r e };
       first = refl;
       queue = refl;
     }
 
-module _ {m : Measure} {c : Columns} {a : Answers} {s : Lines} {q : List ℕ} (u : Blank m c a) (k : Cleared (length (c .heads)) s q) where
+module _ {m : Measure} {c : Columns} {a : Answers} {s : Lines} {q : List ℕ} (u : Blank m c a) (k : Cleared m (length (c .heads)) s q) where
   light : (v : ℕ) → cell (a .weights) v < heavy
   unfolding turns
   light v = omega (arith, ap (λ (b : Answers). cell (b .weights) v) (u .blank), zeros (c .vertices) v)
@@ -42,11 +45,11 @@ module _ {m : Measure} {c : Columns} {a : Answers} {s : Lines} {q : List ℕ} (u
     sized = ap length (k .queue) ∙ length-replicate size none;
   }
 
-  pub emptied : Empty c (a .depths) s q
+  pub emptied : Empty m c (a .depths) s q
   emptied = record {
     sizes = k .sizes;
     unmade = deep-none;
-    untouched = k .untouched;
+    untouched = λ e h. k .untouched e (edge-room offerable e h);
     empty = λ v h. ap (λ (z : List ℕ). cell z v) (k .first) ∙ getD-replicate mostVertices v end 0 (omega (arith, table-accepted c (u .turning .usable .accepted) .few));
     nothing = k .queue;
   }

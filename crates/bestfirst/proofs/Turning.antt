@@ -80,17 +80,17 @@ module _ {m : Measure} {c : Columns} {a : Answers} {s : Lines} {q : List ℕ} (u
   fitting : Fitting here
   fitting = fitting-next m H own w d (λ e h. edge-fits offerable e h m) (H .edges) (omega arith)
 
-  key-is : leastFrom q 0 keys ≡ keyOf here
+  key-is : leastFrom q 0 keys ≡ keyOf m here
   key-is =
       least-next m H own w d (λ e h. edge-fits offerable e h m) q (head-key offerable)
-      (queued (algebra m) c w d (head-key offerable) (λ e h. edge-fits offerable e h m) (u .waits .rested .waiting))
+      (queued m c w d (head-key offerable) (λ e h. edge-fits offerable e h m) (u .waits .rested .waiting))
 
   pub stuck : (k : ℕ) → k ≡ leastFrom q 0 keys → k ≡ none → a ≡ turn (algebra m) H own a
   unfolding turn
-  stuck k p z = ap (place (algebra m) H own a) (told-nothing k fitting (p ∙ key-is) z)
+  stuck k p z = ap (place (algebra m) H own a) (told-nothing m k fitting (p ∙ key-is) z)
 
-  pub found : {l : Label} (k : ℕ) → k ≡ leastFrom q 0 keys → k ≢ none → l ≡ unpacked k → Found l ≡ here
-  found k p n e = ap Found e ∙ told-found k fitting (p ∙ key-is) n
+  pub found : {l : Label} (k : ℕ) → k ≡ leastFrom q 0 keys → k ≢ none → l ≡ unpacked m k → Found l ≡ here
+  found k p n e = ap Found e ∙ told-found m k fitting (p ∙ key-is) n
 
   module _ {l : Label} (f : Found l ≡ here) where
     turned : put a (H .head (l .edge .0)) l ≡ turn (algebra m) H own a
@@ -173,9 +173,9 @@ module _ {m : Measure} {c : Columns} {a : Answers} {s : Lines} {q : List ℕ} (u
     waking = record {
       sizes = u .waits .rested .sizes;
       made = made;
-      left = woken (algebra m) c w d (cell ws) (cell ds) v weights-same depths-same (told .fresh) made (head-key offerable) few head-below (u .waits .rested .waiting);
-      chain = woken-chain (algebra m) c w d (cell ws) (cell ds) v weights-same depths-same (told .fresh) made (head-key offerable) few head-below (u .waits .rested .waiting);
-      waiting = relabelled (algebra m) c w d (cell ws) (cell ds) v weights-same depths-same (told .fresh) made (head-key offerable) few head-below (u .waits .rested .waiting);
+      left = woken m c w d (cell ws) (cell ds) v weights-same depths-same (told .fresh) made (head-key offerable) few head-below (u .waits .rested .waiting);
+      chain = woken-chain m c w d (cell ws) (cell ds) v weights-same depths-same (told .fresh) made (head-key offerable) few head-below (u .waits .rested .waiting);
+      waiting = relabelled m c w d (cell ws) (cell ds) v weights-same depths-same (told .fresh) made (head-key offerable) few head-below (u .waits .rested .waiting);
     }
 
     -- the same from the columns in which the label was stored, the vertex that got it, and the queue without its key

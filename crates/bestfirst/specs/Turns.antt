@@ -14,7 +14,7 @@ use Rattle.columns.specs.Acceptance.{mostVertices}
 use Rattle.columns.specs.Lent.{Turning}
 use Rattle.minima.specs.Minima.{none, size}
 use Rattle.queue.specs.Keys.{heavy}
-use Rattle.waiting.specs.Lines.{end, Lines, Sizes, Untouched, Rested}
+use Rattle.waiting.specs.Lines.{end, Lines, places, Sizes, Untouched, Rested}
 
 -- a label's hyperedge has a head, and that head its place in each column
 pub record Placeable (l : Label) (heads : List ℕ) (a : Answers) : Type 0 where
@@ -45,9 +45,9 @@ pub record Begun (m : Measure) (c : Columns) (a : Answers) (s : Lines) (q : List
   pub unmade : Blank m c a
   pub waits : Waits m c (a .weights) (a .depths) s q
 
--- columns to work in, for as many hyperedges: nothing is stored, every list ends at once, and no key waits
-pub record Cleared (edges : ℕ) (s : Lines) (q : List ℕ) : Type 0 where
+-- columns to work in, for as many hyperedges: nothing is passed, every list ends at once, and no key waits
+pub record Cleared (m : Measure) (edges : ℕ) (s : Lines) (q : List ℕ) : Type 0 where
   pub sizes : Sizes edges s
-  pub untouched : (e : ℕ) → Untouched s e
+  pub untouched : (e : ℕ) → e < places edges → Untouched (algebra m) s e
   pub first : s .first ≡ replicate mostVertices end
   pub queue : q ≡ replicate size none

@@ -3,6 +3,7 @@
 use weights::Label;
 use weights::Measure;
 use weights::Vertex;
+use weights::Weight;
 ghost use mathlib.Core.Path.{_≡_};
 ghost use Prim.Native.Nat.{_≤_, _<_};
 ghost use lib.ListN.{length};
@@ -74,7 +75,7 @@ fn turn(
     if key == minima::NONE {
         return;
     }
-    let l = queue::unpack(key);
+    let l = queue::unpack(measure, key);
     let v = store(l, heads, weights, depths, edges);
     minima::raise(queue, v.0 as usize);
     waiting::wake_all(
@@ -167,10 +168,11 @@ fn label_few(
         let a′ = answers (now (weights .exit)) (now (depths .exit)) (now (edges .exit)) in
         ⌜ a′ ≡ best-first (algebra measure) (hypergraph c) (cell (now (own .entry))) ⌝ }
 {
+    let unit = Weight::unit(measure);
     let mut first = [65535u16; 1024];
     let mut next = [0u16; 256];
     let mut at = [0u16; 256];
-    let mut joined = [0u64; 256];
+    let mut joined = [unit.0; 256];
     let mut deepest = [0u16; 256];
     let mut queue = [18446744073709551615u64; 1168];
     waiting::start(
@@ -228,10 +230,11 @@ fn label_many(
         let a′ = answers (now (weights .exit)) (now (depths .exit)) (now (edges .exit)) in
         ⌜ a′ ≡ best-first (algebra measure) (hypergraph c) (cell (now (own .entry))) ⌝ }
 {
+    let unit = Weight::unit(measure);
     let mut first = [65535u16; 1024];
     let mut next = [0u16; 4096];
     let mut at = [0u16; 4096];
-    let mut joined = [0u64; 4096];
+    let mut joined = [unit.0; 4096];
     let mut deepest = [0u16; 4096];
     let mut queue = [18446744073709551615u64; 1168];
     waiting::start(

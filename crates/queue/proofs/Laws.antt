@@ -63,7 +63,7 @@ module _ (m : Measure) (H : Hypergraph) (own w d : ℕ → ℕ) where
   next′ = next (algebra m) H own w d
 
   abbrev key : ℕ → ℕ
-  key = keyAt (algebra m) H own w d
+  key = keyAt m H own w d
 
   module _ (fits : (e : ℕ) → e < H .edges → Fitting (opening (algebra m) H own w d e)) where
     pub fitting-next : (k : ℕ) → k ≤ H .edges → Fitting (next′ k)
@@ -71,65 +71,65 @@ module _ (m : Measure) (H : Hypergraph) (own w d : ℕ → ℕ) where
     fitting-next zero h = nothing
     fitting-next (suc k) h = fitting-earlier m (fitting-next k (omega arith)) (fits k h)
 
-    key-next : (k : ℕ) → suc k ≤ H .edges → keyOf (next′ (suc k)) ≡ min (keyOf (next′ k)) (key k)
+    key-next : (k : ℕ) → suc k ≤ H .edges → keyOf m (next′ (suc k)) ≡ min (keyOf m (next′ k)) (key k)
     unfolding next
     key-next k h = key-earlier m (fitting-next k (omega arith)) (fits k h)
 
-    next-at-most : (k : ℕ) → k ≤ H .edges → keyOf (next′ k) ≤ none
+    next-at-most : (k : ℕ) → k ≤ H .edges → keyOf m (next′ k) ≤ none
     unfolding next
     next-at-most zero h = omega arith
     next-at-most (suc k) h = omega (arith, key-next k h, next-at-most k (omega arith))
 
-    next-lower : (k e : ℕ) → k ≤ H .edges → e < k → keyOf (next′ k) ≤ key e
+    next-lower : (k e : ℕ) → k ≤ H .edges → e < k → keyOf m (next′ k) ≤ key e
     next-lower zero e h l = absurd (omega arith)
     next-lower (suc k) e h l = go (next-lower k e (omega arith)) (ℕ-discrete e k)
       where
-        go : (e < k → keyOf (next′ k) ≤ key e) → Dec (e ≡ k) → keyOf (next′ (suc k)) ≤ key e
+        go : (e < k → keyOf m (next′ k) ≤ key e) → Dec (e ≡ k) → keyOf m (next′ (suc k)) ≤ key e
         go r (yes q) = omega (arith, key-next k h, ap key q)
         go r (no n) = omega (arith, key-next k h, r (omega arith))
 
-    next-greatest : (k x : ℕ) → k ≤ H .edges → x ≤ none → ((e : ℕ) → e < k → x ≤ key e) → x ≤ keyOf (next′ k)
+    next-greatest : (k x : ℕ) → k ≤ H .edges → x ≤ none → ((e : ℕ) → e < k → x ≤ key e) → x ≤ keyOf m (next′ k)
     unfolding next
     next-greatest zero x h n f = n
     next-greatest (suc k) x h n f = omega (arith, key-next k h, next-greatest k x (omega arith) n (λ e l. f e (omega arith)), f k (omega arith))
 
     -- the least key of a queue is that of what is next
-    pub least-next : (q : List ℕ) → ((e : ℕ) → e < H .edges → H .head e < keys) → Queued (algebra m) H own w d q → leastFrom q 0 keys ≡ keyOf (next′ (H .edges))
+    pub least-next : (q : List ℕ) → ((e : ℕ) → e < H .edges → H .head e < keys) → Queued m H own w d q → leastFrom q 0 keys ≡ keyOf m (next′ (H .edges))
     least-next q heads w = omega (arith, up, down)
       where
         from : (u : ℕ) → u < keys → getD q (0 + u) 0 ≡ leastWith key (H .head) u (H .edges)
         from u l = let z : 0 + u ≡ u = omega arith in ap (λ (i : ℕ). getD q i 0) z ∙ w .waiting u l
 
-        up : leastFrom q 0 keys ≤ keyOf (next′ (H .edges))
+        up : leastFrom q 0 keys ≤ keyOf m (next′ (H .edges))
         up = next-greatest (H .edges) (leastFrom q 0 keys) (omega arith) (least-at-most q 0 keys)
             (λ e l. omega (arith, least-lower q 0 keys (H .head e) (heads e l), from (H .head e) (heads e l), with-lower key (H .head) (H .head e) (H .edges) e l refl))
 
-        down : keyOf (next′ (H .edges)) ≤ leastFrom q 0 keys
-        down = least-greatest q 0 keys (keyOf (next′ (H .edges))) (next-at-most (H .edges) (omega arith))
+        down : keyOf m (next′ (H .edges)) ≤ leastFrom q 0 keys
+        down = least-greatest q 0 keys (keyOf m (next′ (H .edges))) (next-at-most (H .edges) (omega arith))
             (λ u l. omega (
               arith,
               from u l,
-              with-greatest key (H .head) u (H .edges) (keyOf (next′ (H .edges))) (next-at-most (H .edges) (omega arith)) (λ e k p. next-lower (H .edges) e (omega arith) k),
+              with-greatest key (H .head) u (H .edges) (keyOf m (next′ (H .edges))) (next-at-most (H .edges) (omega arith)) (λ e k p. next-lower (H .edges) e (omega arith) k),
             ))
 
 -- Offering ------------------------------------------------------------------------------------------------------------------------------------------
 
-pub offered-grouped : (q : List ℕ) (v : ℕ) {o : Offer} → v < keys → Fitting o → Grouped q → Grouped (offered q v o)
-offered-grouped q v h nothing g = g
-offered-grouped q v h (found {l = l} f) g = lowered-grouped q v (packed l) h g
+pub offered-grouped : (m : Measure) (q : List ℕ) (v : ℕ) {o : Offer} → v < keys → Fitting o → Grouped q → Grouped (offered m q v o)
+offered-grouped m q v h nothing g = g
+offered-grouped m q v h (found {l = l} f) g = lowered-grouped q v (packed m l) h g
 
-pub offered-key : (q : List ℕ) (v : ℕ) {o : Offer} (u : ℕ) → v < keys → u < keys → Fitting o → Grouped q → getD q u 0 ≤ none
-    → getD (offered q v o) u 0 ≡ min (getD q u 0) (pick (eqb v u) (keyOf o) none)
-offered-key q v u h k nothing g b = go (eqb v u)
+pub offered-key : (m : Measure) (q : List ℕ) (v : ℕ) {o : Offer} (u : ℕ) → v < keys → u < keys → Fitting o → Grouped q → getD q u 0 ≤ none
+    → getD (offered m q v o) u 0 ≡ min (getD q u 0) (pick (eqb v u) (keyOf m o) none)
+offered-key m q v u h k nothing g b = go (eqb v u)
   where
     go : (t : Bool) → getD q u 0 ≡ min (getD q u 0) (pick t none none)
     go true = omega arith
     go false = omega arith
-offered-key q v u h k (found {l = l} f) g b = go (eqb v u) refl
+offered-key m q v u h k (found {l = l} f) g b = go (eqb v u) refl
   where
-    go : (t : Bool) → eqb v u ≡ t → getD (lowered q v (packed l)) u 0 ≡ min (getD q u 0) (pick t (packed l) none)
-    go true e = let p : v ≡ u = eqb-true v u e in ap (λ (z : ℕ). getD (lowered q v (packed l)) z 0) (sym p) ∙ lowered-same q v (packed l) h (g .sized) ∙ ap (λ (z : ℕ). min (getD q z 0) (packed l)) p
-    go false e = omega (arith, lowered-other q v (packed l) h u k (λ p. eqb-false v u e (sym p)))
+    go : (t : Bool) → eqb v u ≡ t → getD (lowered q v (packed m l)) u 0 ≡ min (getD q u 0) (pick t (packed m l) none)
+    go true e = let p : v ≡ u = eqb-true v u e in ap (λ (z : ℕ). getD (lowered q v (packed m l)) z 0) (sym p) ∙ lowered-same q v (packed m l) h (g .sized) ∙ ap (λ (z : ℕ). min (getD q z 0) (packed m l)) p
+    go false e = omega (arith, lowered-other q v (packed m l) h u k (λ p. eqb-false v u e (sym p)))
 
 -- Labelling ----------------------------------------------------------------------------------------------------------------------------------------
 
@@ -217,10 +217,10 @@ open-fits m H own w d e f h = go (eqb (d (H .head e)) 0) (H .live e) (noneZero d
     go true true true = found fits
 
 -- what a key tells of the offer
-pub told-nothing : {o : Offer} (k : ℕ) → Fitting o → k ≡ keyOf o → k ≡ none → Nothing ≡ o
-told-nothing k nothing p z = refl
-told-nothing k (found {l = l} f) p z = absurd (omega (arith, below-none l f))
+pub told-nothing : (m : Measure) {o : Offer} (k : ℕ) → Fitting o → k ≡ keyOf m o → k ≡ none → Nothing ≡ o
+told-nothing m k nothing p z = refl
+told-nothing m k (found {l = l} f) p z = absurd (omega (arith, below-none m l f))
 
-pub told-found : {o : Offer} (k : ℕ) → Fitting o → k ≡ keyOf o → k ≢ none → Found (unpacked k) ≡ o
-told-found k nothing p n = absurd (n p)
-told-found k (found {l = l} f) p n = ap Found (ap unpacked p ∙ unpacked-packed l f)
+pub told-found : (m : Measure) {o : Offer} (k : ℕ) → Fitting o → k ≡ keyOf m o → k ≢ none → Found (unpacked m k) ≡ o
+told-found m k nothing p n = absurd (n p)
+told-found m k (found {l = l} f) p n = ap Found (ap (unpacked m) p ∙ unpacked-packed m l f)

@@ -5,10 +5,11 @@ use mathlib.Core.Path.{_≡_}
 use mathlib.Core.List.{List}
 use lib.ListN.{getD}
 use lib.Dec.{eqb}
+use Rattle.weights.specs.declared.Measure.{Measure}
 use Rattle.weights.specs.declared.Offer.{Offer}
 use Rattle.weights.specs.declared.Offer.the-variants.{Nothing, Found}
 use Rattle.weights.specs.Choice.{pick}
-use Rattle.weights.specs.Measures.{Algebra}
+use Rattle.weights.specs.Measures.{algebra}
 use Rattle.provenance.specs.Hypergraph.{Hypergraph}
 use Rattle.provenance.specs.BestFirst.{opening}
 use Rattle.minima.specs.Minima.{none, keys, Grouped, lowered}
@@ -20,14 +21,14 @@ leastWith key head u zero = none
 leastWith key head u (suc k) = min (leastWith key head u k) (pick (eqb (head k) u) (key k) none)
 
 -- vertex v is offered a candidate, or none
-abbrev pub offered : List ℕ → ℕ → Offer → List ℕ
-offered q v Nothing = q
-offered q v (Found l) = lowered q v (packed l)
+abbrev pub offered : Measure → List ℕ → ℕ → Offer → List ℕ
+offered m q v Nothing = q
+offered m q v (Found l) = lowered q v (packed m l)
 
-module _ (A : Algebra) (H : Hypergraph) (own weight depth : ℕ → ℕ) where
+module _ (m : Measure) (H : Hypergraph) (own weight depth : ℕ → ℕ) where
   -- the key of what hyperedge e has to offer
   abbrev pub keyAt : ℕ → ℕ
-  keyAt e = keyOf (opening A H own weight depth e)
+  keyAt e = keyOf m (opening (algebra m) H own weight depth e)
 
   -- each vertex has the least key of its hyperedges: of a vertex that is made, none
   pub record Queued (q : List ℕ) : Type 0 where

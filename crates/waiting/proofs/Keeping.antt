@@ -13,7 +13,7 @@ use lib.Dec.{eqb}
 use borrow.Author.Tests.{eq-eqb, eqb-true, eqb-false}
 use Rattle.weights.specs.Choice.{pick}
 use Rattle.weights.specs.declared.Measure.{Measure}
-use Rattle.weights.specs.declared.Measure.the-variants.{Cost, Days}
+use Rattle.weights.specs.declared.Measure.the-variants.{Cost, Days, Grade}
 use Rattle.weights.specs.Labels.{label}
 use Rattle.weights.specs.Measures.{Algebra, algebra, fold}
 use Rattle.weights.specs.Figures.{over, isStruckMark}
@@ -65,6 +65,7 @@ unfolding fold
 plain-fold Cost own a x [] = omega arith
 plain-fold Cost own a x (y ∷ ws) = let e : min (a + x + y) over ≡ min (min (a + x) over + y) over = omega arith in ap (λ (z : ℕ). min (own + fold (algebra Cost .join) z ws) over) e
 plain-fold Days own a x ws = refl
+plain-fold Grade own a x ws = refl
 
 plain-rest : (m : Measure) (e own : ℕ) (w d : ℕ → ℕ) (a x g : ℕ) (vs : List ℕ) → rest (algebra m) e own w d (plain m a x) g vs ≡ rest (algebra m) e own w d (algebra m .join a x) g vs
 unfolding rest
@@ -73,11 +74,13 @@ plain-rest m e own w d a x g vs = ap (λ (z : ℕ). pick (noneZero d vs) (Found 
 plain-bound : (m : Measure) (a x b : ℕ) → a ≤ b → x < heavy → plain m a x ≤ b + heavy
 plain-bound Cost a x b h k = omega arith
 plain-bound Days a x b h k = omega arith
+plain-bound Grade a x b h k = omega arith
 
--- joining starts at 0
-pub unit-none : (m : Measure) → algebra m .unit ≡ 0
-unit-none Cost = refl
-unit-none Days = refl
+-- joining starts at a figure
+pub unit-light : (m : Measure) → algebra m .unit < heavy
+unit-light Cost = omega arith
+unit-light Days = omega arith
+unit-light Grade = omega arith
 
 -- a vertex that is made is passed
 pub carried-more : (m : Measure) (w d : ℕ → ℕ) (tail : List ℕ) (i j g : ℕ) → Carried (algebra m) w d tail i j g → i < length tail
@@ -205,26 +208,26 @@ module _ (A : Algebra) (c : Columns) (w d : ℕ → ℕ) (s : Lines) (u e i j g 
 
 -- Going on ---------------------------------------------------------------------------------------------------------------------------------------------
 
-fitting-bound : {o : Offer} → Fitting o → keyOf o ≤ none
-fitting-bound nothing = omega arith
-fitting-bound (found {l = l} f) = omega (arith, below-none l f)
+fitting-bound : (m : Measure) {o : Offer} → Fitting o → keyOf m o ≤ none
+fitting-bound m nothing = omega arith
+fitting-bound m (found {l = l} f) = omega (arith, below-none m l f)
 
-module _ (A : Algebra) (c : Columns) (w d : ℕ → ℕ) (heads : (e : ℕ) → e < length (c .heads) → headAt c e < keys)
-    (fits : (e : ℕ) → e < length (c .heads) → Fitting (opening A (hypergraph c) (cell (c .own)) w d e)) where
+module _ (m : Measure) (c : Columns) (w d : ℕ → ℕ) (heads : (e : ℕ) → e < length (c .heads) → headAt c e < keys)
+    (fits : (e : ℕ) → e < length (c .heads) → Fitting (opening (algebra m) (hypergraph c) (cell (c .own)) w d e)) where
   abbrev pub key : ℕ → ℕ
-  key = keyOn A c w d
+  key = keyOn m c w d
 
   abbrev pub Source : List ℕ → ℕ → Type 0
   Source q u = (cell q u ≡ none) ⊎ ((e : ℕ) × ((e < length (c .heads)) × ((headAt c e ≡ u) × (cell q u ≡ key e))))
 
   pub source-bound : (q : List ℕ) (u : ℕ) → Source q u → cell q u ≤ none
   source-bound q u (inl p) = omega arith
-  source-bound q u (inr x) = omega (arith, x .1 .1 .1, fitting-bound (fits (x .0) (x .1 .0)))
+  source-bound q u (inr x) = omega (arith, x .1 .1 .1, fitting-bound m (fits (x .0) (x .1 .0)))
 
-  module _ {s : Lines} {q : List ℕ} {busy : ℕ → Type 0} (W : Waiting A c w d s q busy) (e : ℕ) (h : e < length (c .heads)) {q′ : List ℕ}
-      (p : q′ ≡ offered q (headAt c e) (opening A (hypergraph c) (cell (c .own)) w d e)) where
+  module _ {s : Lines} {q : List ℕ} {busy : ℕ → Type 0} (W : Waiting m c w d s q busy) (e : ℕ) (h : e < length (c .heads)) {q′ : List ℕ}
+      (p : q′ ≡ offered m q (headAt c e) (opening (algebra m) (hypergraph c) (cell (c .own)) w d e)) where
     at-key : (u : ℕ) → u < keys → cell q′ u ≡ min (cell q u) (pick (eqb (headAt c e) u) (key e) none)
-    at-key u l = ap (λ (z : List ℕ). cell z u) p ∙ offered-key q (headAt c e) u (heads e h) l (fits e h) (W .grouped) (source-bound q u (W .offers u l))
+    at-key u l = ap (λ (z : List ℕ). cell z u) p ∙ offered-key m q (headAt c e) u (heads e h) l (fits e h) (W .grouped) (source-bound q u (W .offers u l))
 
     lower : (u : ℕ) → u < keys → cell q′ u ≤ cell q u
     lower u l = omega (arith, at-key u l)
@@ -233,7 +236,7 @@ module _ (A : Algebra) (c : Columns) (w d : ℕ → ℕ) (heads : (e : ℕ) → 
     lowest = omega (arith, at-key (headAt c e) (heads e h), ap (λ (t : Bool). pick t (key e) none) (eq-eqb (headAt c e) (headAt c e) refl))
 
     grouped-still : Grouped q′
-    grouped-still = subst Grouped (sym p) (offered-grouped q (headAt c e) (heads e h) (fits e h) (W .grouped))
+    grouped-still = subst Grouped (sym p) (offered-grouped m q (headAt c e) (heads e h) (fits e h) (W .grouped))
 
     sources : (u : ℕ) → u < keys → Source q′ u
     sources u l = go (eqb (headAt c e) u) refl (at-key u l) (decLe (cell q u) (key e)) (W .offers u l)
@@ -249,7 +252,7 @@ module _ (A : Algebra) (c : Columns) (w d : ℕ → ℕ) (heads : (e : ℕ) → 
 
     module _ {busy′ : ℕ → Type 0} (others : (x : ℕ) → busy x → (x ≡ e) ⊎ busy′ x) (fewer : (x : ℕ) → busy′ x → busy x) where
       -- e stays out of the lists
-      pub went-stays : (d (headAt c e) ≡ 0 → noneZero d (tailAt c e) ≡ true) → Waiting A c w d s q′ busy′
+      pub went-stays : (d (headAt c e) ≡ 0 → noneZero d (tailAt c e) ≡ true) → Waiting m c w d s q′ busy′
       went-stays r =
           record {
             lists =
@@ -262,11 +265,11 @@ module _ (A : Algebra) (c : Columns) (w d : ℕ → ℕ) (heads : (e : ℕ) → 
             offers = sources;
           }
         where
-          now-there : (x : ℕ) → d (headAt c x) ≡ 0 → (x ≡ e) ⊎ busy′ x → Placed A c w d (W .lists) q′ busy′ x
+          now-there : (x : ℕ) → d (headAt c x) ≡ 0 → (x ≡ e) ⊎ busy′ x → Placed m c w d (W .lists) q′ busy′ x
           now-there x z (inr b) = kept b
-          now-there x z (inl y) = subst (λ (a : ℕ). Placed A c w d (W .lists) q′ busy′ a) (sym y) (heard (r (ap (λ (a : ℕ). d (headAt c a)) (sym y) ∙ z)) lowest)
+          now-there x z (inl y) = subst (λ (a : ℕ). Placed m c w d (W .lists) q′ busy′ a) (sym y) (heard (r (ap (λ (a : ℕ). d (headAt c a)) (sym y) ∙ z)) lowest)
 
-          go : (x : ℕ) → x < length (c .heads) → d (headAt c x) ≡ 0 → Placed A c w d (W .lists) q busy x → Placed A c w d (W .lists) q′ busy′ x
+          go : (x : ℕ) → x < length (c .heads) → d (headAt c x) ≡ 0 → Placed m c w d (W .lists) q busy x → Placed m c w d (W .lists) q′ busy′ x
           go x a z (kept b) = now-there x z (others x b)
           go x a z (waits v l y k) = waits v l y k
           go x a z (heard y b) = heard y (omega (arith, lower (headAt c x) (heads x a)))
@@ -274,14 +277,14 @@ module _ (A : Algebra) (c : Columns) (w d : ℕ → ℕ) (heads : (e : ℕ) → 
       -- e waits for another vertex
       pub went-waits : (i j g : ℕ) → Sizes (length (c .heads)) s → e < places (length (c .heads)) → ((k : ℕ) → k < length (tailAt c e) → cell (tailAt c e) k < c .vertices) → c .vertices ≤ 1024
           → busy e → (busy′ e → ⊥)
-          → isStruckMark (strikeAt c e) ≡ false → i < length (tailAt c e) → d (cell (tailAt c e) i) ≡ 0 → Carried A w d (tailAt c e) i j g
-          → Waiting A c w d (pushed s (cell (tailAt c e) i) e i j g) q′ busy′
-      went-waits i j g z m inside few was gone n b y k =
+          → isStruckMark (strikeAt c e) ≡ false → i < length (tailAt c e) → d (cell (tailAt c e) i) ≡ 0 → Carried (algebra m) w d (tailAt c e) i j g
+          → Waiting m c w d (pushed s (cell (tailAt c e) i) e i j g) q′ busy′
+      went-waits i j g z room inside few was gone n b y k =
           record {
-            lists = put-first A c w d s u e i j g z m o (W .lists);
-            chained = λ v l a. chains A c w d s u e i j g z m o (W .lists) v (waiter-same A c w d s u e i j g z m h n b refl k) (out v l a) (W .chained v l a);
+            lists = put-first (algebra m) c w d s u e i j g z room o (W .lists);
+            chained = λ v l a. chains (algebra m) c w d s u e i j g z room o (W .lists) v (waiter-same (algebra m) c w d s u e i j g z room h n b refl k) (out v l a) (W .chained v l a);
             covered = λ x a r t. go x a (W .covered x a r t);
-            apart = λ v x l a t f. apart v x l a (out-first A c w d s u e i j g z m o (W .lists) v x t) f;
+            apart = λ v x l a t f. apart v x l a (out-first (algebra m) c w d s u e i j g z room o (W .lists) v x t) f;
             grouped = grouped-still;
             offers = sources;
           }
@@ -300,13 +303,13 @@ module _ (A : Algebra) (c : Columns) (w d : ℕ → ℕ) (heads : (e : ℕ) → 
           o = omega (arith, inside i b)
 
           lists′ : ℕ → List ℕ
-          lists′ = put-first A c w d s u e i j g z m o (W .lists)
+          lists′ = put-first (algebra m) c w d s u e i j g z room o (W .lists)
 
-          now-there : (x : ℕ) → (x ≡ e) ⊎ busy′ x → Placed A c w d lists′ q′ busy′ x
+          now-there : (x : ℕ) → (x ≡ e) ⊎ busy′ x → Placed m c w d lists′ q′ busy′ x
           now-there x (inr a) = kept a
-          now-there x (inl r) = subst (λ (a : ℕ). Placed A c w d lists′ q′ busy′ a) (sym r) (waits u (inside i b) y (in-first A c w d s u e i j g z m o (W .lists)))
+          now-there x (inl r) = subst (λ (a : ℕ). Placed m c w d lists′ q′ busy′ a) (sym r) (waits u (inside i b) y (in-first (algebra m) c w d s u e i j g z room o (W .lists)))
 
-          go : (x : ℕ) → x < length (c .heads) → Placed A c w d (W .lists) q busy x → Placed A c w d lists′ q′ busy′ x
+          go : (x : ℕ) → x < length (c .heads) → Placed m c w d (W .lists) q busy x → Placed m c w d lists′ q′ busy′ x
           go x a (kept r) = now-there x (others x r)
-          go x a (waits v l r t) = waits v l r (in-others A c w d s u e i j g z m o (W .lists) v x t)
+          go x a (waits v l r t) = waits v l r (in-others (algebra m) c w d s u e i j g z room o (W .lists) v x t)
           go x a (heard r t) = heard r (omega (arith, lower (headAt c x) (heads x a)))

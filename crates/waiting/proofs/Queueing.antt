@@ -11,12 +11,13 @@ use lib.Dec.{eqb}
 use borrow.Author.Tests.{eqb-false, ne-eqb}
 use Rattle.weights.specs.Lists.{member}
 use Rattle.weights.proofs.Lists.{member-at}
+use Rattle.weights.specs.declared.Measure.{Measure}
 use Rattle.weights.specs.declared.Offer.{Offer}
 use Rattle.weights.specs.declared.Offer.the-variants.{Nothing}
 use Rattle.weights.specs.Choice.{pick}
 use Rattle.weights.proofs.Choice.{apart}
 use Rattle.weights.specs.Figures.{isStruckMark}
-use Rattle.weights.specs.Measures.{Algebra}
+use Rattle.weights.specs.Measures.{Algebra, algebra}
 use Rattle.provenance.specs.Labelling.{noneZero, offerOf}
 use Rattle.provenance.specs.BestFirst.{opening}
 use Rattle.columns.specs.Columns.{Columns, headAt, strikeAt, tailAt, cell}
@@ -48,32 +49,32 @@ none-zero-on {w} {d} {w′} {d′} x (v ∷ vs) p = go (eqb (d v) 0) refl p (non
     go true q p r = apart p
     go false q p r = rw (ne-eqb (d′ v) 0 (made-still x v (eqb-false _ _ q))) (r p)
 
-module _ (A : Algebra) (c : Columns) (w d : ℕ → ℕ) {s : Lines} where
+module _ (m : Measure) (c : Columns) (w d : ℕ → ℕ) {s : Lines} where
   -- a hyperedge that waits for an unmade vertex offers nothing
-  shut : {v e : ℕ} → d v ≡ 0 → Waiter A c w d s v e → keyOn A c w d e ≡ none
-  shut {v} {e} z k = ap keyOf (open-unmade A (hypergraph c) (cell (c .own)) w d (cell (tailAt c e) (cell (s .at) e)) e (ap d (k .here) ∙ z) (member-at (tailAt c e) (cell (s .at) e) (k .before)))
+  shut : {v e : ℕ} → d v ≡ 0 → Waiter (algebra m) c w d s v e → keyOn m c w d e ≡ none
+  shut {v} {e} z k = ap (keyOf m) (open-unmade (algebra m) (hypergraph c) (cell (c .own)) w d (cell (tailAt c e) (cell (s .at) e)) e (ap d (k .here) ∙ z) (member-at (tailAt c e) (cell (s .at) e) (k .before)))
 
   module _ (heads : (e : ℕ) → e < length (c .heads) → headAt c e < keys)
-      (fits : (e : ℕ) → e < length (c .heads) → Fitting (opening A (hypergraph c) (cell (c .own)) w d e)) {q : List ℕ}
-      (W : Waiting A c w d s q (λ e. ⊥)) where
+      (fits : (e : ℕ) → e < length (c .heads) → Fitting (opening (algebra m) (hypergraph c) (cell (c .own)) w d e)) {q : List ℕ}
+      (W : Waiting m c w d s q (λ e. ⊥)) where
     abbrev key : ℕ → ℕ
-    key = keyOn A c w d
+    key = keyOn m c w d
 
     bound : (u : ℕ) → u < keys → cell q u ≤ none
-    bound u l = source-bound A c w d heads fits q u (W .offers u l)
+    bound u l = source-bound m c w d heads fits q u (W .offers u l)
 
     below-key : (u : ℕ) → u < keys → (e : ℕ) → e < length (c .heads) → headAt c e ≡ u → cell q u ≤ key e
     below-key u l e h p = go (isStruckMark (strikeAt c e)) refl (ℕ-discrete (d (headAt c e)) 0)
       where
-        placed : Placed A c w d (W .lists) q (λ e. ⊥) e → cell q u ≤ key e
+        placed : Placed m c w d (W .lists) q (λ e. ⊥) e → cell q u ≤ key e
         placed (kept b) = absurd b
         placed (waits v k z i) = omega (arith, bound u l, shut z (chain-each (W .chained v k z) e i))
         placed (heard r b) = omega (arith, ap (cell q) p)
 
         go : (t : Bool) → isStruckMark (strikeAt c e) ≡ t → Dec (d (headAt c e) ≡ 0) → cell q u ≤ key e
-        go true t z = omega (arith, bound u l, ap keyOf (open-struck A c w d e t))
+        go true t z = omega (arith, bound u l, ap (keyOf m) (open-struck (algebra m) c w d e t))
         go false t (yes z) = placed (W .covered e h t z)
-        go false t (no n) = omega (arith, bound u l, ap keyOf (open-made A (hypergraph c) (cell (c .own)) w d e n))
+        go false t (no n) = omega (arith, bound u l, ap (keyOf m) (open-made (algebra m) (hypergraph c) (cell (c .own)) w d e n))
 
     offered-by : (u : ℕ) → u < keys → leastWith key (headAt c) u (length (c .heads)) ≤ cell q u
     offered-by u l = go (W .offers u l)
@@ -82,14 +83,14 @@ module _ (A : Algebra) (c : Columns) (w d : ℕ → ℕ) {s : Lines} where
         go (inl z) = omega (arith, with-at-most key (headAt c) u (length (c .heads)))
         go (inr x) = omega (arith, with-lower key (headAt c) u (length (c .heads)) (x .0) (x .1 .0) (x .1 .1 .0), x .1 .1 .1)
 
-    pub queued : Queued A (hypergraph c) (cell (c .own)) w d q
+    pub queued : Queued m (hypergraph c) (cell (c .own)) w d q
     queued = record {
       grouped = W .grouped;
       waiting = λ u l. omega (arith, offered-by u l, with-greatest key (headAt c) u (length (c .heads)) (cell q u) (bound u l) (below-key u l));
     }
 
 -- v is made, and nothing else changes
-module _ (A : Algebra) (c : Columns) (w d w′ d′ : ℕ → ℕ) (v : ℕ) (weights-same : (u : ℕ) → u ≢ v → w′ u ≡ w u) (depths-same : (u : ℕ) → u ≢ v → d′ u ≡ d u) (unmade : d v ≡ 0) (made : d′ v ≢ 0) where
+module _ (m : Measure) (c : Columns) (w d w′ d′ : ℕ → ℕ) (v : ℕ) (weights-same : (u : ℕ) → u ≢ v → w′ u ≡ w u) (depths-same : (u : ℕ) → u ≢ v → d′ u ≡ d u) (unmade : d v ≡ 0) (made : d′ v ≢ 0) where
   pub extended : Extends w d w′ d′
   extended = record { weight = λ u n. weights-same u (λ p. n (ap d p ∙ unmade)); depth = λ u n. depths-same u (λ p. n (ap d p ∙ unmade)) }
 
@@ -97,23 +98,23 @@ module _ (A : Algebra) (c : Columns) (w d w′ d′ : ℕ → ℕ) (v : ℕ) (we
   other u z p = made (ap d′ (sym p) ∙ z)
 
   -- a hyperedge with another head that does not list v offers what it did; one that lists v offered nothing
-  key-same : (e : ℕ) → headAt c e ≢ v → member v (tailAt c e) ≡ false → keyOn A c w′ d′ e ≡ keyOn A c w d e
-  key-same e n m = ap keyOf (open-same A (hypergraph c) (cell (c .own)) w d w′ d′ v weights-same depths-same e n m)
+  key-same : (e : ℕ) → headAt c e ≢ v → member v (tailAt c e) ≡ false → keyOn m c w′ d′ e ≡ keyOn m c w d e
+  key-same e n p = ap (keyOf m) (open-same (algebra m) (hypergraph c) (cell (c .own)) w d w′ d′ v weights-same depths-same e n p)
 
-  key-none : (e : ℕ) → member v (tailAt c e) ≡ true → keyOn A c w d e ≡ none
-  key-none e m = ap keyOf (open-unmade A (hypergraph c) (cell (c .own)) w d v e unmade m)
+  key-none : (e : ℕ) → member v (tailAt c e) ≡ true → keyOn m c w d e ≡ none
+  key-none e p = ap (keyOf m) (open-unmade (algebra m) (hypergraph c) (cell (c .own)) w d v e unmade p)
 
-  module _ {s : Lines} {q : List ℕ} (heads : (e : ℕ) → e < length (c .heads) → headAt c e < keys) (h : v < keys) (k : v < c .vertices) (W : Waiting A c w d s q (λ e. ⊥)) where
+  module _ {s : Lines} {q : List ℕ} (heads : (e : ℕ) → e < length (c .heads) → headAt c e < keys) (h : v < keys) (k : v < c .vertices) (W : Waiting m c w d s q (λ e. ⊥)) where
     abbrev pub woken : List ℕ
     woken = W .lists v
 
-    pub woken-chain : Chain (Waiter A c w′ d′ s v) (s .next) (cell (s .first) v) woken
+    pub woken-chain : Chain (Waiter (algebra m) c w′ d′ s v) (s .next) (cell (s .first) v) woken
     woken-chain = chain-on (λ x i. waiter-on extended) (λ x i. refl) (W .chained v k unmade)
 
     abbrev Sourced : (ℕ → ℕ) → (ℕ → ℕ) → List ℕ → ℕ → Type 0
-    Sourced w d q u = (cell q u ≡ none) ⊎ ((e : ℕ) × ((e < length (c .heads)) × ((headAt c e ≡ u) × (cell q u ≡ keyOn A c w d e))))
+    Sourced w d q u = (cell q u ≡ none) ⊎ ((e : ℕ) × ((e < length (c .heads)) × ((headAt c e ≡ u) × (cell q u ≡ keyOn m c w d e))))
 
-    pub relabelled : Waiting A c w′ d′ s (raised q v) (λ e. List·Memᴰ e woken)
+    pub relabelled : Waiting m c w′ d′ s (raised q v) (λ e. List·Memᴰ e woken)
     relabelled = record {
       lists = W .lists;
       chained = λ u l z. chain-on (λ x i. waiter-on extended) (λ x i. refl) (W .chained u l (unmade-before extended u z));
@@ -139,11 +140,11 @@ module _ (A : Algebra) (c : Columns) (w d w′ d′ : ℕ → ℕ) (v : ℕ) (we
             go true m = apart (sym (zero-stops d v (tailAt c e) unmade m) ∙ r)
             go false m = refl
 
-        waits-still : (e u : ℕ) → u < c .vertices → d u ≡ 0 → List·Memᴰ e (W .lists u) → Dec (u ≡ v) → Placed A c w′ d′ (W .lists) (raised q v) (λ e. List·Memᴰ e woken) e
+        waits-still : (e u : ℕ) → u < c .vertices → d u ≡ 0 → List·Memᴰ e (W .lists u) → Dec (u ≡ v) → Placed m c w′ d′ (W .lists) (raised q v) (λ e. List·Memᴰ e woken) e
         waits-still e u l z i (yes p) = kept (subst (λ (x : ℕ). List·Memᴰ e (W .lists x)) p i)
         waits-still e u l z i (no n) = waits u l (depths-same u n ∙ z) i
 
-        covered : (e : ℕ) → e < length (c .heads) → d′ (headAt c e) ≡ 0 → Placed A c w d (W .lists) q (λ e. ⊥) e → Placed A c w′ d′ (W .lists) (raised q v) (λ e. List·Memᴰ e woken) e
+        covered : (e : ℕ) → e < length (c .heads) → d′ (headAt c e) ≡ 0 → Placed m c w d (W .lists) q (λ e. ⊥) e → Placed m c w′ d′ (W .lists) (raised q v) (λ e. List·Memᴰ e woken) e
         covered e l z (kept b) = absurd b
         covered e l z (waits u y r i) = waits-still e u y r i (ℕ-discrete u v)
         covered e l z (heard r b) =

@@ -9,10 +9,9 @@ use native.Mathlib.Decide.{ℕ-discrete}
 use lib.ListN.{length, set}
 use lib.Seq.{getD-set-other, set-getD}
 use Rattle.weights.specs.declared.Measure.{Measure}
-use Rattle.weights.specs.declared.Measure.the-variants.{Cost, Days}
 use Rattle.weights.proofs.Choice.{apart}
 use Rattle.weights.specs.Figures.{isStruckMark}
-use Rattle.weights.specs.Measures.{algebra}
+use Rattle.weights.specs.Measures.{Algebra, algebra}
 use Rattle.columns.specs.Columns.{Columns, headAt, strikeAt, offsetAt, lengthAt, tailAt, cell}
 use Rattle.minima.specs.Minima.{Grouped}
 use Rattle.minima.proofs.Laws.{no-keys, no-keys-grouped}
@@ -21,11 +20,11 @@ use Rattle.waiting.proofs.Keeping.{carried-none, pushed-sizes, went-sta
 use Rattle.waiting.proofs.Steps.{few, edge-room, head-key, tail-length, tail-at, tail-below, edge-fits, went-on, linkable, pushable}
 use Rattle.waiting.proofs.Walking.{waiting-on}
 
-pub nothing-waits : {m : Measure} {c : Columns} {ws ds : List ℕ} {s : Lines} {q : List ℕ} → Empty c ds s q → Starting m c ws ds s q 0
+pub nothing-waits : {m : Measure} {c : Columns} {ws ds : List ℕ} {s : Lines} {q : List ℕ} → Empty m c ds s q → Starting m c ws ds s q 0
 nothing-waits {q = q} x = record {
   sizes = x .sizes;
   unmade = x .unmade;
-  untouched = λ e h. x .untouched e;
+  untouched = λ e h l. x .untouched e l;
   waiting = record {
     lists = λ v. [];
     chained = λ v h z. ended (x .empty v h);
@@ -36,21 +35,16 @@ nothing-waits {q = q} x = record {
   };
 }
 
--- before a hyperedge starts, what it has passed joins to 0 by either measure
-unit-none : (m : Measure) → 0 ≡ algebra m .unit
-unit-none Cost = refl
-unit-none Days = refl
-
--- so the lists alone tell it from one that waits for the first vertex of its tail
-linked-pushed : (s : Lines) (v e : ℕ) {first next : List ℕ} → Untouched s e → Linked (s .first) (s .next) v e first next
-    → lines first next (s .at) (s .joined) (s .deepest) ≡ pushed s v e 0 0 0
-linked-pushed s v e u l = λ i. record { first = l .first i; next = l .next i; at = none (s .at) (u .at) i; joined = none (s .joined) (u .joined) i; deepest = none (s .deepest) (u .deepest) i }
+-- the columns start with what a hyperedge has passed that waits for the first vertex of its tail, so the lists alone tell the two apart
+linked-pushed : {A : Algebra} (s : Lines) (v e : ℕ) {first next : List ℕ} → Untouched A s e → Linked (s .first) (s .next) v e first next
+    → lines first next (s .at) (s .joined) (s .deepest) ≡ pushed s v e 0 (A .unit) 0
+linked-pushed s v e u l = λ i. record { first = l .first i; next = l .next i; at = same (s .at) (u .at) i; joined = same (s .joined) (u .joined) i; deepest = same (s .deepest) (u .deepest) i }
   where
-    none : (xs : List ℕ) → cell xs e ≡ 0 → xs ≡ set xs e 0
-    none xs z = sym (set-getD xs e 0) ∙ ap (set xs e) z
+    same : (xs : List ℕ) {x : ℕ} → cell xs e ≡ x → xs ≡ set xs e x
+    same xs z = sym (set-getD xs e 0) ∙ ap (set xs e) z
 
 -- another hyperedge that waits stores nothing of it
-pushed-untouched : (s : Lines) (v e i j g x : ℕ) → x ≢ e → Untouched s x → Untouched (pushed s v e i j g) x
+pushed-untouched : {A : Algebra} (s : Lines) (v e i j g x : ℕ) → x ≢ e → Untouched A s x → Untouched A (pushed s v e i j g) x
 pushed-untouched s v e i j g x n u = record {
   at = getD-set-other (s .at) e x i 0 n ∙ u .at;
   joined = getD-set-other (s .joined) e x j 0 n ∙ u .joined;
@@ -70,7 +64,7 @@ module _ {m : Measure} {c : Columns} {ws ds : List ℕ} {s : Lines} {q : List �
   struck-next t = record {
     sizes = x .sizes;
     unmade = x .unmade;
-    untouched = λ e h. x .untouched e (omega arith);
+    untouched = λ e h l. x .untouched e (omega arith) l;
     waiting = waiting-on (λ e h u b. go e u (next-or i e b)) (λ e b. omega arith) (x .waiting);
   }
     where
@@ -100,16 +94,15 @@ module _ {m : Measure} {c : Columns} {ws ds : List ℕ} {s : Lines} {q : List �
 
     -- so it waits for the first vertex of its tail, and nothing is to be stored of what it passed
     pub first-linkable : lengthAt c i ≢ 0 → Linkable (s .first) (s .next) (cell (c .tails) (offsetAt c i)) i
-    first-linkable n = linkable (pushable o (going (unit-none m)) (cell (c .tails) (offsetAt c i)) 0 0 0 (gone-none (unit-none m)) (tail-first n .0) (tail-first n .1))
+    first-linkable n = linkable (pushable o (going refl) (cell (c .tails) (offsetAt c i)) 0 (algebra m .unit) 0 (gone-none refl) (tail-first n .0) (tail-first n .1))
 
     pub first-waits : {first next : List ℕ} → lengthAt c i ≢ 0 → Linked (s .first) (s .next) (cell (c .tails) (offsetAt c i)) i first next
-        → Went (algebra m) c (cell ws) (cell ds) i s (lines first next (s .at) (s .joined) (s .deepest)) q q
+        → Went m c (cell ws) (cell ds) i s (lines first next (s .at) (s .joined) (s .deepest)) q q
     first-waits n y =
         let v = cell (c .tails) (offsetAt c i) in
-        let g = gone-none (unit-none m) in
-        went-on (algebra m) c (cell ws) (cell ds) i q v 0 0 0 g (tail-first n .0) (tail-first n .1) (linked-pushed s v i (x .untouched i (omega arith)) y)
+        went-on m c (cell ws) (cell ds) i q v 0 (algebra m .unit) 0 (gone-none refl) (tail-first n .0) (tail-first n .1) (linked-pushed s v i (x .untouched i (omega arith) h) y)
 
-    pub went-next : {s′ : Lines} {q′ : List ℕ} → Went (algebra m) c (cell ws) (cell ds) i s s′ q q′ → Starting m c ws ds s′ q′ (i + 1)
+    pub went-next : {s′ : Lines} {q′ : List ℕ} → Went m c (cell ws) (cell ds) i s s′ q q′ → Starting m c ws ds s′ q′ (i + 1)
     went-next {s′} {q′} y = go (y .moved)
       where
         go : Moved (algebra m) c (cell ws) (cell ds) i s s′ → Starting m c ws ds s′ q′ (i + 1)
@@ -117,15 +110,15 @@ module _ {m : Measure} {c : Columns} {ws ds : List ℕ} {s : Lines} {q : List �
             subst (λ (a : Lines). Starting m c ws ds a q′ (i + 1)) (sym z) (record {
               sizes = x .sizes;
               unmade = x .unmade;
-              untouched = λ e l. x .untouched e (omega arith);
-              waiting = went-stays (algebra m) c (cell ws) (cell ds) (head-key o) (λ e k. edge-fits o e k m) (x .waiting) i h (y .heard) (next-or i) (λ e b. omega arith) b;
+              untouched = λ e l k. x .untouched e (omega arith) k;
+              waiting = went-stays m c (cell ws) (cell ds) (head-key o) (λ e k. edge-fits o e k m) (x .waiting) i h (y .heard) (next-or i) (λ e b. omega arith) b;
             })
         go (waits k j g b z a r) =
             subst (λ (a : Lines). Starting m c ws ds a q′ (i + 1)) (sym r) (record {
               sizes = pushed-sizes (algebra m) c (cell ws) (cell ds) s (cell (tailAt c i) k) i k j g (x .sizes) (edge-room o i h) (omega (arith, few o i h, tail-below o i h k b));
               unmade = x .unmade;
-              untouched = λ e l. pushed-untouched s (cell (tailAt c i) k) i k j g e (λ p. omega arith) (x .untouched e (omega arith));
-              waiting = went-waits (algebra m) c (cell ws) (cell ds) (head-key o) (λ e k. edge-fits o e k m) (x .waiting) i h (y .heard) (next-or i) (λ e b. omega arith)
+              untouched = λ e l f. pushed-untouched s (cell (tailAt c i) k) i k j g e (λ p. omega arith) (x .untouched e (omega arith) f);
+              waiting = went-waits m c (cell ws) (cell ds) (head-key o) (λ e k. edge-fits o e k m) (x .waiting) i h (y .heard) (next-or i) (λ e b. omega arith)
                   k j g (x .sizes) (edge-room o i h) (tail-below o i h) (few o i h) (omega arith) (λ b. omega arith) u b z a;
             })
 

@@ -126,21 +126,25 @@ module _ (A : Algebra) (c : Columns) (w d : ℕ → ℕ) (e : ℕ) where
     unfolding opening
     end-open u f = at-end ∙ rest-whole A e (ownAt c e) (strikeAt c e) w d (tailAt c e) u ∙ rw (eq-eqb _ _ f)
 
+module _ (m : Measure) (c : Columns) (w d : ℕ → ℕ) (e : ℕ) where
+  abbrev offer : Offer
+  offer = opening (algebra m) (hypergraph c) (cell (c .own)) w d e
+
   -- at a vertex that is unmade nothing is offered
-  pub heard-nothing : (q : List ℕ) (i : ℕ) → i < length (tailAt c e) → d (cell (tailAt c e) i) ≡ 0 → q ≡ offered q (headAt c e) here
-  heard-nothing q i l z = ap (offered q (headAt c e)) (sym (open-unmade A H (cell (c .own)) w d (cell (tailAt c e) i) e z (member-at (tailAt c e) i l)))
+  pub heard-nothing : (q : List ℕ) (i : ℕ) → i < length (tailAt c e) → d (cell (tailAt c e) i) ≡ 0 → q ≡ offered m q (headAt c e) offer
+  heard-nothing q i l z = ap (offered m q (headAt c e)) (sym (open-unmade (algebra m) (hypergraph c) (cell (c .own)) w d (cell (tailAt c e) i) e z (member-at (tailAt c e) i l)))
 
-  pub heard-made : (q : List ℕ) → d (headAt c e) ≢ 0 → q ≡ offered q (headAt c e) here
-  heard-made q n = ap (offered q (headAt c e)) (sym (open-made A H (cell (c .own)) w d e n))
+  pub heard-made : (q : List ℕ) → d (headAt c e) ≢ 0 → q ≡ offered m q (headAt c e) offer
+  heard-made q n = ap (offered m q (headAt c e)) (sym (open-made (algebra m) (hypergraph c) (cell (c .own)) w d e n))
 
-  pub went-on : {s s′ : Lines} (q : List ℕ) (v i j g : ℕ) → Gone A w d (tailAt c e) i j g → i < length (tailAt c e) → cell (tailAt c e) i ≡ v → s′ ≡ pushed s v e i j g → Went A c w d e s s′ q q
+  pub went-on : {s s′ : Lines} (q : List ℕ) (v i j g : ℕ) → Gone (algebra m) w d (tailAt c e) i j g → i < length (tailAt c e) → cell (tailAt c e) i ≡ v → s′ ≡ pushed s v e i j g → Went m c w d e s s′ q q
   went-on {s} q v i j g p l y x = record {
     moved = waits i j g l (p .stopped l) (p .passed) (x ∙ ap (λ (z : ℕ). pushed s z e i j g) (sym y));
     heard = heard-nothing q i l (p .stopped l);
   }
 
-  pub went-out : (s : Lines) {q q′ : List ℕ} (i j g : ℕ) → Gone A w d (tailAt c e) i j g → length (tailAt c e) ≤ i → q′ ≡ offered q (headAt c e) here → Went A c w d e s s q q′
-  went-out s i j g p l x = record { moved = stays refl (λ _. all-made (p .passed) l); heard = x }
+  pub went-out : (s : Lines) {q q′ : List ℕ} (i j g : ℕ) → Gone (algebra m) w d (tailAt c e) i j g → length (tailAt c e) ≤ i → q′ ≡ offered m q (headAt c e) offer → Went m c w d e s s q q′
+  went-out s i j g p l x = record { moved = stays refl (λ _. all-made (algebra m) c w d e (p .passed) l); heard = x }
 
 -- there is room for a hyperedge that waits
 pub pushable : {m : Measure} {c : Columns} {ws ds q : List ℕ} {s : Lines} {e a b k : ℕ} → Offerable c ws ds q → Going m c ws ds s e a b k

@@ -8,22 +8,22 @@ use native.Mathlib.Omega.{arith}
 use lib.ListN.{length}
 use Rattle.weights.specs.declared.Measure.{Measure}
 use Rattle.weights.specs.Figures.{isStruckMark}
-use Rattle.weights.specs.Measures.{Algebra, algebra}
+use Rattle.weights.specs.Measures.{algebra}
 use Rattle.columns.specs.Columns.{Columns, strikeAt, tailAt, cell}
 use Rattle.waiting.specs.Lines.{end, Lines, places, pushed, Chain, ended, linked, Waiter, Placed, kept, waits, heard, Waiting, Moved, stays, Went, Offerable, Waking, Rested, Wakeful}
 use Rattle.waiting.proofs.Keeping.{chain-other, pushed-sizes, went-stays, went-waits}
 use Rattle.waiting.proofs.Steps.{few, edge-few, edge-room, head-key, tail-below, edge-fits}
 use Rattle.waiting.proofs.Short.{chain-short, steps, chain-steps}
 
-placed-on : {A : Algebra} {c : Columns} {w d : ℕ → ℕ} {lists : ℕ → List ℕ} {q : List ℕ} {busy busy′ : ℕ → Type 0} {e : ℕ} → (busy e → busy′ e)
-    → Placed A c w d lists q busy e → Placed A c w d lists q busy′ e
+placed-on : {m : Measure} {c : Columns} {w d : ℕ → ℕ} {lists : ℕ → List ℕ} {q : List ℕ} {busy busy′ : ℕ → Type 0} {e : ℕ} → (busy e → busy′ e)
+    → Placed m c w d lists q busy e → Placed m c w d lists q busy′ e
 placed-on f (kept b) = kept (f b)
 placed-on f (waits v l z i) = waits v l z i
 placed-on f (heard r b) = heard r b
 
-pub waiting-on : {A : Algebra} {c : Columns} {w d : ℕ → ℕ} {s : Lines} {q : List ℕ} {busy busy′ : ℕ → Type 0}
-    → ((e : ℕ) → e < length (c .heads) → isStruckMark (strikeAt c e) ≡ false → busy e → busy′ e) → ((e : ℕ) → busy′ e → busy e) → Waiting A c w d s q busy
-    → Waiting A c w d s q busy′
+pub waiting-on : {m : Measure} {c : Columns} {w d : ℕ → ℕ} {s : Lines} {q : List ℕ} {busy busy′ : ℕ → Type 0}
+    → ((e : ℕ) → e < length (c .heads) → isStruckMark (strikeAt c e) ≡ false → busy e → busy′ e) → ((e : ℕ) → busy′ e → busy e) → Waiting m c w d s q busy
+    → Waiting m c w d s q busy′
 waiting-on f g W =
     record {
       lists =
@@ -38,7 +38,7 @@ waiting-on f g W =
 
 module _ {m : Measure} {c : Columns} {ws ds : List ℕ} {s : Lines} {q : List ℕ} {v l : ℕ} (o : Offerable c ws ds q) (x : Waking m c ws ds s q v l) where
   abbrev W : Lines → List ℕ → List ℕ → Type 0
-  W s′ q′ es = Waiting (algebra m) c (cell ws) (cell ds) s′ q′ (λ e. List·Memᴰ e es)
+  W s′ q′ es = Waiting m c (cell ws) (cell ds) s′ q′ (λ e. List·Memᴰ e es)
 
   abbrev C : Lines → ℕ → List ℕ → Type 0
   C s′ f es = Chain (Waiter (algebra m) c (cell ws) (cell ds) s′ v) (s′ .next) f es
@@ -74,7 +74,7 @@ module _ {m : Measure} {c : Columns} {ws ds : List ℕ} {s : Lines} {q : List �
           chain-steps 4096 (λ e y. bounded {s′ = s′} e y) r (chain-short 4096 (λ e y. bounded {s′ = s′} e y) r),
         )
 
-    pub walked : {s′ : Lines} {q′ : List ℕ} → Went (algebra m) c (cell ws) (cell ds) l s s′ q q′ → Walked s′ q′
+    pub walked : {s′ : Lines} {q′ : List ℕ} → Went m c (cell ws) (cell ds) l s s′ q q′ → Walked s′ q′
     walked {s′} {q′} y = go (x .chain) (x .waiting) (y .moved)
       where
         go : {es : List ℕ} → C s l es → W s q es → Moved (algebra m) c (cell ws) (cell ds) l s s′ → Walked s′ q′
@@ -86,7 +86,7 @@ module _ {m : Measure} {c : Columns} {ws ds : List ℕ} {s : Lines} {q : List �
                 made = x .made;
                 left = es;
                 chain = r;
-                waiting = went-stays (algebra m) c (cell ws) (cell ds) (head-key o) (λ e h. edge-fits o e h m) t l (p .numbered) (y .heard) (λ e i. List·Memᴰ·cases-cons i) (λ e i. List·Memᴰ·tail i) b;
+                waiting = went-stays m c (cell ws) (cell ds) (head-key o) (λ e h. edge-fits o e h m) t l (p .numbered) (y .heard) (λ e i. List·Memᴰ·cases-cons i) (λ e i. List·Memᴰ·tail i) b;
               };
               fewer = counted {s′ = s} (linked p k r) r;
             })
@@ -100,7 +100,7 @@ module _ {m : Measure} {c : Columns} {ws ds : List ℕ} {s : Lines} {q : List �
                 made = x .made;
                 left = es;
                 chain = r′;
-                waiting = went-waits (algebra m) c (cell ws) (cell ds) (head-key o) (λ e h. edge-fits o e h m) t l (p .numbered) (y .heard) (λ e i. List·Memᴰ·cases-cons i) (λ e i. List·Memᴰ·tail i)
+                waiting = went-waits m c (cell ws) (cell ds) (head-key o) (λ e h. edge-fits o e h m) t l (p .numbered) (y .heard) (λ e i. List·Memᴰ·cases-cons i) (λ e i. List·Memᴰ·tail i)
                     i j g (x .sizes) (edge-room o l (p .numbered)) (tail-below o l (p .numbered)) (few o l (p .numbered))
                     (List·Memᴰ·head refl) k
                     (p .unstruck) b z a;

@@ -1,7 +1,7 @@
 -- Hyperedges that wait, each for one vertex of its tail: the first that is not made. In columns: `first` has for each vertex the first hyperedge that waits for it, `next`
 -- for each hyperedge the next in the same list; `at`, `joined` and `deepest` how far a hyperedge has come in its tail, and what the places before join to.
 -- What holds of them between two steps is said by `Waiting`. Assumes nothing: these are definitions.
-use Prim.Native.Nat.{ℕ, _+_, _*_, _≤_, _<_, max}
+use Prim.Native.Nat.{ℕ, _+_, _*_, _≤_, _<_, min, max}
 use mathlib.Core.Path.{_≡_}
 use mathlib.Core.Logic.{_⊎_, _≢_}
 use mathlib.Core.Bool.{true, false}
@@ -9,7 +9,7 @@ use mathlib.Core.List.{List, [], _∷_, List·Memᴰ}
 use lib.ListN.{length, drop, set, replicate}
 use lib.Dec.{leb}
 use Rattle.weights.specs.declared.Measure.{Measure}
-use Rattle.weights.specs.declared.Measure.the-variants.{Cost, Days}
+use Rattle.weights.specs.declared.Measure.the-variants.{Cost, Days, Grade}
 use Rattle.weights.specs.Figures.{isStruckMark}
 use Rattle.weights.specs.Measures.{Algebra, algebra}
 use Rattle.provenance.specs.Labelling.{noneZero}
@@ -63,10 +63,10 @@ pub record Linked (fs ns : List ℕ) (v e : ℕ) (fs′ ns′ : List ℕ) : Type
   pub first : fs′ ≡ set fs v e
   pub next : ns′ ≡ set ns e (cell fs v)
 
--- nothing is stored of hyperedge e, which is what it has passed before it starts
-pub record Untouched (s : Lines) (e : ℕ) : Type 0 where
+-- nothing is passed of the tail of hyperedge e, as before it starts
+pub record Untouched (A : Algebra) (s : Lines) (e : ℕ) : Type 0 where
   pub at : cell (s .at) e ≡ 0
-  pub joined : cell (s .joined) e ≡ 0
+  pub joined : cell (s .joined) e ≡ A .unit
   pub deepest : cell (s .deepest) e ≡ 0
 
 -- Labels -----------------------------------------------------------------------------------------------------------------------------------------------
@@ -80,6 +80,7 @@ pub record Extends (w d w′ d′ : ℕ → ℕ) : Type 0 where
 abbrev pub plain : Measure → ℕ → ℕ → ℕ
 plain Cost a b = a + b
 plain Days a b = max a b
+plain Grade a b = min a b
 
 -- a tail can be passed: it can be read, and its weights can be summed
 pub record Passable (tail ws ds : List ℕ) : Type 0 where
@@ -115,9 +116,15 @@ module _ (A : Algebra) (c : Columns) (w d : ℕ → ℕ) where
     pub here : cell (tailAt c e) (cell (s .at) e) ≡ v
     pub passed : Carried A w d (tailAt c e) (cell (s .at) e) (cell (s .joined) e) (cell (s .deepest) e)
 
+  -- what a hyperedge does when it goes on: it stays out of the lists, offered unless its head is made, or waits for another vertex
+  pub data Moved (e : ℕ) (s s′ : Lines) : Type 0 where
+    stays : s′ ≡ s → (d (headAt c e) ≡ 0 → noneZero d (tailAt c e) ≡ true) → Moved e s s′
+    waits : (i j g : ℕ) → i < length (tailAt c e) → d (cell (tailAt c e) i) ≡ 0 → Carried A w d (tailAt c e) i j g → s′ ≡ pushed s (cell (tailAt c e) i) e i j g → Moved e s s′
+
+module _ (m : Measure) (c : Columns) (w d : ℕ → ℕ) where
   -- the key of what e has to offer
   abbrev pub keyOn : ℕ → ℕ
-  keyOn e = keyAt A (hypergraph c) (cell (c .own)) w d e
+  keyOn e = keyAt m (hypergraph c) (cell (c .own)) w d e
 
   -- where e is: still to be looked at, in the list of an unmade vertex, or offered
   pub data Placed (lists : ℕ → List ℕ) (q : List ℕ) (busy : ℕ → Type 0) (e : ℕ) : Type 0 where
@@ -128,20 +135,15 @@ module _ (A : Algebra) (c : Columns) (w d : ℕ → ℕ) where
   -- every unstruck hyperedge whose head is unmade is in one of these; and what is queued is offered by some hyperedge
   pub record Waiting (s : Lines) (q : List ℕ) (busy : ℕ → Type 0) : Type 0 where
     pub lists : ℕ → List ℕ
-    pub chained : (v : ℕ) → v < c .vertices → d v ≡ 0 → Chain (Waiter s v) (s .next) (cell (s .first) v) (lists v)
+    pub chained : (v : ℕ) → v < c .vertices → d v ≡ 0 → Chain (Waiter (algebra m) c w d s v) (s .next) (cell (s .first) v) (lists v)
     pub covered : (e : ℕ) → e < length (c .heads) → isStruckMark (strikeAt c e) ≡ false → d (headAt c e) ≡ 0 → Placed lists q busy e
     pub apart : (v e : ℕ) → v < c .vertices → d v ≡ 0 → List·Memᴰ e (lists v) → busy e → ⊥
     pub grouped : Grouped q
     pub offers : (u : ℕ) → u < keys → (cell q u ≡ none) ⊎ ((e : ℕ) × ((e < length (c .heads)) × ((headAt c e ≡ u) × (cell q u ≡ keyOn e))))
 
-  -- what a hyperedge does when it goes on: it stays out of the lists, offered unless its head is made, or waits for another vertex
-  pub data Moved (e : ℕ) (s s′ : Lines) : Type 0 where
-    stays : s′ ≡ s → (d (headAt c e) ≡ 0 → noneZero d (tailAt c e) ≡ true) → Moved e s s′
-    waits : (i j g : ℕ) → i < length (tailAt c e) → d (cell (tailAt c e) i) ≡ 0 → Carried A w d (tailAt c e) i j g → s′ ≡ pushed s (cell (tailAt c e) i) e i j g → Moved e s s′
-
   pub record Went (e : ℕ) (s s′ : Lines) (q q′ : List ℕ) : Type 0 where
-    pub moved : Moved e s s′
-    pub heard : q′ ≡ offered q (headAt c e) (opening A (hypergraph c) (cell (c .own)) w d e)
+    pub moved : Moved (algebra m) c w d e s s′
+    pub heard : q′ ≡ offered m q (headAt c e) (opening (algebra m) (hypergraph c) (cell (c .own)) w d e)
 
 -- What functions ask -----------------------------------------------------------------------------------------------------------------------------------
 
@@ -185,8 +187,8 @@ pub record Wakeful (m : Measure) (c : Columns) (ws ds : List ℕ) (s : Lines) (e
 pub record Starting (m : Measure) (c : Columns) (ws ds : List ℕ) (s : Lines) (q : List ℕ) (i : ℕ) : Type 0 where
   pub sizes : Sizes (length (c .heads)) s
   pub unmade : (v : ℕ) → cell ds v ≡ 0
-  pub untouched : (e : ℕ) → i ≤ e → Untouched s e
-  pub waiting : Waiting (algebra m) c (cell ws) (cell ds) s q (λ e. i ≤ e)
+  pub untouched : (e : ℕ) → i ≤ e → e < length (c .heads) → Untouched (algebra m) s e
+  pub waiting : Waiting m c (cell ws) (cell ds) s q (λ e. i ≤ e)
 
 -- vertex v is made, and what waited for it is still to be looked at
 pub record Waking (m : Measure) (c : Columns) (ws ds : List ℕ) (s : Lines) (q : List ℕ) (v l : ℕ) : Type 0 where
@@ -194,17 +196,17 @@ pub record Waking (m : Measure) (c : Columns) (ws ds : List ℕ) (s : Lines) (q 
   pub made : cell ds v ≢ 0
   pub left : List ℕ
   pub chain : Chain (Waiter (algebra m) c (cell ws) (cell ds) s v) (s .next) l left
-  pub waiting : Waiting (algebra m) c (cell ws) (cell ds) s q (λ e. List·Memᴰ e left)
+  pub waiting : Waiting m c (cell ws) (cell ds) s q (λ e. List·Memᴰ e left)
 
 -- nothing is still to be looked at
 pub record Rested (m : Measure) (c : Columns) (ws ds : List ℕ) (s : Lines) (q : List ℕ) : Type 0 where
   pub sizes : Sizes (length (c .heads)) s
-  pub waiting : Waiting (algebra m) c (cell ws) (cell ds) s q (λ e. ⊥)
+  pub waiting : Waiting m c (cell ws) (cell ds) s q (λ e. ⊥)
 
--- no vertex is made, nothing is stored, nothing waits, and nothing is queued
-pub record Empty (c : Columns) (ds : List ℕ) (s : Lines) (q : List ℕ) : Type 0 where
+-- no vertex is made, nothing is passed, nothing waits, and nothing is queued
+pub record Empty (m : Measure) (c : Columns) (ds : List ℕ) (s : Lines) (q : List ℕ) : Type 0 where
   pub sizes : Sizes (length (c .heads)) s
   pub unmade : (v : ℕ) → cell ds v ≡ 0
-  pub untouched : (e : ℕ) → Untouched s e
+  pub untouched : (e : ℕ) → e < length (c .heads) → Untouched (algebra m) s e
   pub empty : (v : ℕ) → v < c .vertices → cell (s .first) v ≡ end
   pub nothing : q ≡ replicate size none

@@ -10,7 +10,7 @@ use weights::Measure;
 use weights::Vertex;
 use weights::Weight;
 ghost use mathlib.Core.Path.{_≡_};
-ghost use Prim.Native.Nat.{_+_, _<_};
+ghost use Prim.Native.Nat.{_+_, _<_, min};
 ghost use lib.ListN.{length};
 ghost use Rattle.weights.specs.Measures.{algebra};
 ghost use Rattle.columns.specs.Lent.{lent};
@@ -27,6 +27,16 @@ struct Reached {
     deepest: u64,
 }
 
+// The lesser of two grades.
+fn lesser(a: u64, b: u64) -> u64
+    ensures { λ r. ⌜ r ≡ min a b ⌝ }
+{
+    if a > b {
+        return b;
+    }
+    a
+}
+
 // Two weights of a tail, joined. A sum is capped only at the end of the tail, where it has no more
 // than 16 weights.
 fn joining(measure: Measure, a: u64, b: u64) -> u64
@@ -36,6 +46,7 @@ fn joining(measure: Measure, a: u64, b: u64) -> u64
     match measure {
         Measure::Cost => a + b,
         Measure::Days => deeper(a, b),
+        Measure::Grade => lesser(a, b),
     }
 }
 
@@ -133,7 +144,7 @@ fn advance(
         let c = lent (now (heads .entry)) (now (own .entry)) (now (strikes .entry)) (now (spans .entry)) (now (tails .entry)) (now (depths .entry)) in
         let s = lines (now (first .entry)) (now (next .entry)) (now (at .entry)) (now (joined .entry)) (now (deepest .entry)) in
         let s′ = lines (now (first .exit)) (now (next .exit)) (now (at .exit)) (now (joined .exit)) (now (deepest .exit)) in
-        ⌜ Went (algebra measure) c (cell (now (weights .entry))) (cell (now (depths .entry))) (e .0) s s′ (now (queue .entry)) (now (queue .exit)) ⌝ }
+        ⌜ Went measure c (cell (now (weights .entry))) (cell (now (depths .entry))) (e .0) s s′ (now (queue .entry)) (now (queue .exit)) ⌝ }
 {
     let i = e.0 as usize;
     let offset = spans[2 * i] as usize;
@@ -155,7 +166,7 @@ fn advance(
         depth,
         edge: e,
     };
-    let key = queue::pack(l);
+    let key = queue::pack(measure, l);
     let h = heads[i] as usize;
     minima::lower(queue, h, key);
 }
@@ -185,7 +196,7 @@ fn wake(
         let c = lent (now (heads .entry)) (now (own .entry)) (now (strikes .entry)) (now (spans .entry)) (now (tails .entry)) (now (depths .entry)) in
         let s = lines (now (first .entry)) (now (next .entry)) (now (at .entry)) (now (joined .entry)) (now (deepest .entry)) in
         let s′ = lines (now (first .exit)) (now (next .exit)) (now (at .exit)) (now (joined .exit)) (now (deepest .exit)) in
-        ⌜ Went (algebra measure) c (cell (now (weights .entry))) (cell (now (depths .entry))) (e .0) s s′ (now (queue .entry)) (now (queue .exit)) ⌝ }
+        ⌜ Went measure c (cell (now (weights .entry))) (cell (now (depths .entry))) (e .0) s s′ (now (queue .entry)) (now (queue .exit)) ⌝ }
 {
     let i = e.0 as usize;
     let h = heads[i] as usize;
@@ -275,7 +286,7 @@ pub fn wake_all(
 }
 
 // Hyperedge e, unless it is struck, waits for the first vertex of its tail or is offered. To wait it
-// is linked alone: what it has passed is 0 in every column, and the columns start with that.
+// is linked alone: the columns start with what it has passed, which is nothing.
 fn begin(
     measure: Measure,
     e: Hyperedge,
@@ -359,7 +370,7 @@ pub fn start(
 )
     requires { let c = lent (now heads) (now own) (now strikes) (now spans) (now tails) (now depths) in
         let s = lines (now first) (now next) (now at) (now joined) (now deepest) in
-        ⌜ (Offerable c (now weights) (now depths) (now queue)) × Empty c (now depths) s (now queue) ⌝ }
+        ⌜ (Offerable c (now weights) (now depths) (now queue)) × Empty measure c (now depths) s (now queue) ⌝ }
     ensures { λ r.
         let c = lent (now (heads .entry)) (now (own .entry)) (now (strikes .entry)) (now (spans .entry)) (now (tails .entry)) (now (depths .entry)) in
         let s′ = lines (now (first .exit)) (now (next .exit)) (now (at .exit)) (now (joined .exit)) (now (deepest .exit)) in

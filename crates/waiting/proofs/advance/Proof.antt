@@ -128,7 +128,7 @@ returns c =
     let r = q .before in
     let s = r .before .before .before .before .before .before .before .before .before .before .before .before .before .before .before .before .before in
     let a = s .args in
-    went-on (algebra (a .measure)) (lent (a .heads .now) (a .own .now) (a .strikes .now) (a .spans .now) (a .tails .now) (a .depths .now)) (cell (a .weights .now))
+    went-on (a .measure) (lent (a .heads .now) (a .own .now) (a .strikes .now) (a .spans .now) (a .tails .now) (a .depths .now)) (cell (a .weights .now))
     (cell (a .depths .now)) (a .e .0) (a .queue .now) _ _ _ _ (gone (r)) (further (q)) (vertex (q)) (p .wait .ensures)
 
 shared-slice-read-figure : tie.Need-shared-slice-read-figure
@@ -149,6 +149,11 @@ mul-h c =
     let p = c .before .before .before .before .before .before .before .before .before .before .before .before .before .before .before .before .before .before .before .before .before .before .before in
     omega (arith, edge-few (p .pre .0) (p .args .e .0) (p .pre .1 .numbered))
 
+shared-slice-read-h : tie.Need-shared-slice-read-h
+shared-slice-read-h c =
+    let p = c .before .before .before .before .before .before .before .before .before .before .before .before .before .before .before .before .before .before .before .before .before .before .before .before in
+    p .pre .1 .numbered
+
 lower-requires : tie.Need-lower-requires
 lower-requires c κs =
     let p =
@@ -163,11 +168,11 @@ returns-2 c =
     let s = r .before in
     let u = s .before .before .before .before .before .before .before .before .before .before .before .before .before .before .before .before .before in
     let a = u .args in
-    went-out (algebra (a .measure)) (lent (a .heads .now) (a .own .now) (a .strikes .now) (a .spans .now) (a .tails .now) (a .depths .now))
+    went-out (a .measure) (lent (a .heads .now) (a .own .now) (a .strikes .now) (a .spans .now) (a .tails .now) (a .depths .now))
     (cell (a .weights .now)) (cell (a .depths .now)) (a .e .0)
     (lines (a .first .now) (a .next .now) (a .at .now) (a .joined .now) (a .deepest .now)) _ _ _ (gone (s)) (finished (r))
     (c .before .before .lower .ensures ∙ ap (λ (z : ℕ). lowered (a .queue .now) (cell (a .heads .now) (a .e .0)) z) (p .pack .ensures)
-    ∙ ap (offered (a .queue .now) (cell (a .heads .now) (a .e .0))) (is-open (q)))
+    ∙ ap (offered (a .measure) (a .queue .now) (cell (a .heads .now) (a .e .0))) (is-open (q)))
 
 pub advance-spec : {M : Type 1} → statement M
 advance-spec =
@@ -202,7 +207,7 @@ advance-spec =
     add-depth
     pack-requires
     mul-h
-    (λ c. search needs)
+    shared-slice-read-h
     lower-requires
     (λ c. search needs)
     returns-2)

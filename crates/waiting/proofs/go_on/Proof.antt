@@ -9,7 +9,7 @@ use lib.ListN.{length}
 use Rattle.weights.specs.Measures.{algebra}
 use Rattle.columns.specs.Columns.{cell}
 use Rattle.waiting.specs.Lines.{Carried}
-use Rattle.waiting.proofs.Keeping.{unit-none, carried-more}
+use Rattle.waiting.proofs.Keeping.{unit-light, carried-more}
 
 abbrev Inv-loop : tie.InvT-loop
 Inv-loop measure tail weights depths at₀ joined₀ deepest₀ at joined deepest = Carried (algebra measure) (cell weights) (cell depths) tail at (joined .0) deepest
@@ -48,7 +48,7 @@ joining-requires c κs =
     let q = p .before in
     let l = q in
     let s = l .before .before .before .before .before in
-    omega (arith, l .loop .inv .light, unit-none (s .args .measure), s .pre .0 .light (cell (s .args .tail .now) (l .loop .at)), s .pre .0 .short, p .loop-test .taken)
+    omega (arith, l .loop .inv .light, unit-light (s .args .measure), s .pre .0 .light (cell (s .args .tail .now) (l .loop .at)), s .pre .0 .short, p .loop-test .taken)
 
 loop-again : tie.Need-loop-again Inv-loop μ-loop
 loop-again c =

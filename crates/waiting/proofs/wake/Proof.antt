@@ -4,7 +4,6 @@ use Rattle.waiting.proofs.wake.Tie as tie
 use mathlib.Core.Path.{refl}
 use native.Mathlib.Omega.{arith}
 use borrow.Author.Needs.{needs}
-use Rattle.weights.specs.Measures.{algebra}
 use Rattle.columns.specs.Lent.{lent}
 use Rattle.columns.specs.Columns.{cell}
 use Rattle.columns.proofs.Usable.{head-in}
@@ -27,7 +26,7 @@ returns c = let a = c .before .before .before .before .before .before .before .b
       moved =
           stays refl (λ z. absurd (c .if1 .taken z));
       heard =
-          heard-made (algebra (a .measure)) (lent (a .heads .now) (a .own .now) (a .strikes .now) (a .spans .now) (a .tails .now) (a .depths .now))
+          heard-made (a .measure) (lent (a .heads .now) (a .own .now) (a .strikes .now) (a .spans .now) (a .tails .now) (a .depths .now))
           (cell (a .weights .now)) (cell (a .depths .now)) (a .e .0) (a .queue .now) (c .if1 .taken);
     }
 
