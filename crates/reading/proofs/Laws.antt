@@ -9,6 +9,7 @@ use lib.ListN.{length, getD, drop, set, drop-of-length-le, length-append, length
 use lib.Seq.{drop-cons}
 use borrow.Author.Tests.{lt-ltb, le-ltb, eq-eqb, ne-eqb}
 use Rattle.weights.specs.declared.Measure.{Measure}
+use Rattle.weights.specs.declared.Measure.the-variants.{Cost, Days, Grade}
 use Rattle.weights.specs.declared.Vertex.{Vertex}
 use Rattle.weights.specs.declared.Weight.{Weight}
 use Rattle.weights.specs.declared.Mark.{Mark}
@@ -18,7 +19,7 @@ use Rattle.refusal.specs.declared.Reading.{Reading}
 use Rattle.refusal.specs.declared.Reading.the-variants as reading
 use Rattle.columns.specs.Acceptance.{mostVertices, mostEdges, mostListed, longestTail}
 use Rattle.text.specs.Machine.{Parse, Whole, begin, parse}
-use Rattle.text.specs.Render.{default, spoken, word, firstWord}
+use Rattle.text.specs.Render.{firstWord}
 use Rattle.columns.specs.Filled.{filled}
 use Rattle.columns.proofs.Filled.{filled-none, filled-set}
 use Rattle.cursor.specs.declared.Token.{Token}
@@ -32,7 +33,7 @@ use Rattle.reading.specs.declared.Tail.{Tail}
 use Rattle.reading.specs.declared.Tail.the-variants as tail
 use Rattle.reading.specs.Lines.{
   agreeing,
-  onWord,
+  onNamed,
   onCount,
   onCounted,
   Opening,
@@ -191,21 +192,24 @@ module _ (s : List ℕ) where
   first-opened h = rw (le-ltb _ _ h)
 
   module _ (start stop n : ℕ) (T : Token) (e : T ≡ token start stop (Number n)) where
-    pub count-silent : getD s stop 0 ≡ 10 → Opens n default (stop + 1) ≡ onCounted s T
-    count-silent q = (let z : Opens n default (stop + 1) ≡ onCount s stop (Number n) = rw (eq-eqb _ _ q) in z) ∙ sym (ap (onCounted s) e)
+    counted : {F : Opening} → F ≡ onCount s stop (Number n) → F ≡ onCounted s T
+    counted q = q ∙ sym (ap (onCounted s) e)
+
+    pub count-silent : getD s stop 0 ≡ 10 → Opens n Days (stop + 1) ≡ onCounted s T
+    count-silent q = counted (rw (eq-eqb _ _ q))
 
     module _ (q : getD s stop 0 ≡ 10 → ⊥) where
-      by-word : onWord n stop (agreeing (word ++ 10 ∷ []) (drop stop s)) ≡ onCounted s T
-      by-word = (let z : onWord n stop (agreeing (word ++ 10 ∷ []) (drop stop s)) ≡ onCount s stop (Number n) = rw (ne-eqb _ _ q) in z) ∙ sym (ap (onCounted s) e)
+      -- a byte that begins no word
+      pub count-unspaced : (getD s stop 0 ≡ 32 → ⊥) → Unopened stop ≡ onCounted s T
+      count-unspaced w = counted (rw (ne-eqb _ _ q, ne-eqb _ _ w))
 
-      pub count-named : 6 ≤ agreeing (word ++ 10 ∷ []) (drop stop s) → Opens n spoken (stop + 6) ≡ onCounted s T
-      unfolding word
-      count-named w = (let z : Opens n spoken (stop + 6) ≡ onWord n stop (agreeing (word ++ 10 ∷ []) (drop stop s)) = rw (le-ltb _ _ w) in z) ∙ by-word
+      -- the letter behind the space decides the word
+      module _ (w : getD s stop 0 ≡ 32) where
+        pub count-cost : getD s (stop + 1) 0 ≡ 99 → onNamed s n Cost stop ≡ onCounted s T
+        count-cost l = counted (rw (ne-eqb _ _ q, eq-eqb _ _ w, eq-eqb _ _ l))
 
-      pub count-unnamed : agreeing (word ++ 10 ∷ []) (drop stop s) < 6 → Unopened (stop + agreeing (word ++ 10 ∷ []) (drop stop s)) ≡ onCounted s T
-      unfolding word
-      count-unnamed w =
-          (let z : Unopened (stop + agreeing (word ++ 10 ∷ []) (drop stop s)) ≡ onWord n stop (agreeing (word ++ 10 ∷ []) (drop stop s)) = rw (lt-ltb _ _ w) in z) ∙ by-word
+        pub count-grade : (getD s (stop + 1) 0 ≡ 99 → ⊥) → onNamed s n Grade stop ≡ onCounted s T
+        count-grade l = counted (rw (ne-eqb _ _ q, eq-eqb _ _ w, ne-eqb _ _ l))
 
 -- what an answer says of the places: a stem that is refused, and one that is read; a first line likewise
 unstemmed : (l start : ℕ) (S : Stalk) (r : Refusal) → stem.Refused r ≡ stemOf l start S → (place : ℕ) × (S ≡ Bare place) × (r ≡ refusedAt l start place)

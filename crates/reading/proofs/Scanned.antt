@@ -9,12 +9,14 @@ use native.Mathlib.Omega.{arith}
 use lib.ListN.{length, getD, take, drop, drop-of-length-le, length-append, length-drop, List·getD-eq-default}
 use lib.Seq.{drop-cons, drop-drop, length-take-le}
 use lib.Dec.{ltb, eqb}
-use borrow.Author.Tests.{lt-ltb, le-ltb, ltb-true, ltb-false, eqb-true}
+use borrow.Author.Tests.{lt-ltb, le-ltb, ltb-true, ltb-false, eq-eqb, ne-eqb, eqb-true}
+use Rattle.weights.specs.declared.Measure.{Measure}
+use Rattle.weights.specs.declared.Measure.the-variants.{Cost, Days, Grade}
 use Rattle.weights.specs.Figures.{greatest, standing, struckMark}
 use Rattle.weights.specs.Choice.{pick}
 use Rattle.columns.specs.Acceptance.{mostVertices, mostEdges}
 use Rattle.text.specs.Tables.{edge, Table}
-use Rattle.text.specs.Render.{default, spoken, word, firstWord}
+use Rattle.text.specs.Render.{word, firstWord, measureText}
 use Rattle.text.specs.Machine.{
   Place,
   Vertices,
@@ -23,6 +25,7 @@ use Rattle.text.specs.Machine.{
   Listed,
   State,
   Spelling,
+  Naming,
   First,
   Within,
   Failed,
@@ -37,6 +40,7 @@ use Rattle.text.specs.Machine.{
   instead,
   after,
   spell,
+  named,
   ended,
   step,
   run,
@@ -49,6 +53,7 @@ use Rattle.text.specs.Machine.{
 }
 use Rattle.text.proofs.Digits.{pick-by}
 use Rattle.text.specs.Bytes.{isFailed, survived, failingAt, columnFrom, columnOf}
+use Rattle.text.proofs.Sound.{Spells, begin-reached, word-spells}
 use Rattle.text.proofs.Places.{run-failed, digit-stays}
 use Rattle.text.proofs.Bytes.{survived-inside}
 use Rattle.cursor.specs.declared.Found.{Found}
@@ -62,6 +67,7 @@ use Rattle.cursor.proofs.Counts.{byte-within}
 use Rattle.reading.specs.Lines.{
   agreeing,
   onWord,
+  onNamed,
   onCount,
   onCounted,
   Opening,
@@ -548,30 +554,21 @@ spell-passes w (v ∷ ws) p (b ∷ bs) a i =
 pub from-start : (k : ℕ) → 0 + k ≡ k
 from-start k = omega arith
 
--- no LF stands before the end of the two words
-in-first : (k : ℕ) → k < 6 → startFrom 0 0 (take k (112 ∷ 97 ∷ 114 ∷ 116 ∷ 115 ∷ 32 ∷ [])) ≡ 0
+-- no LF stands in a word before its last byte, and behind one that ends the first line a line starts
+in-word : (ws : List ℕ) (p : Place) → Spells ws p → (a i k : ℕ) → k < length ws → startFrom a i (take k ws) ≡ a
 unfolding startFrom
-in-first zero h = refl
-in-first (suc zero) h = refl
-in-first (suc (suc zero)) h = refl
-in-first (suc (suc (suc zero))) h = refl
-in-first (suc (suc (suc (suc zero)))) h = refl
-in-first (suc (suc (suc (suc (suc zero))))) h = refl
-in-first (suc (suc (suc (suc (suc (suc k)))))) h = absurd (omega arith)
+in-word [] p s a i k h = absurd s
+in-word (w ∷ []) p s a i zero h = refl
+in-word (w ∷ []) p s a i (suc k) h = absurd (omega arith)
+in-word (w ∷ v ∷ ws) p s a i zero h = refl
+in-word (w ∷ v ∷ ws) p s a i (suc k) h =
+    ap (λ (c : Bool). startFrom (pick c (i + 1) a) (i + 1) (take k (v ∷ ws))) (ne-eqb w 10 (s .0)) ∙ in-word (v ∷ ws) p (s .1) a (i + 1) k (omega arith)
 
-in-word : (i k : ℕ) → k < 6 → startFrom 0 i (take k (word ++ 10 ∷ [])) ≡ 0
-unfolding startFrom word
-in-word i zero h = refl
-in-word i (suc zero) h = refl
-in-word i (suc (suc zero)) h = refl
-in-word i (suc (suc (suc zero))) h = refl
-in-word i (suc (suc (suc (suc zero)))) h = refl
-in-word i (suc (suc (suc (suc (suc zero))))) h = refl
-in-word i (suc (suc (suc (suc (suc (suc k)))))) h = absurd (omega arith)
-
-behind-word : (i : ℕ) → startFrom 0 i (word ++ 10 ∷ []) ≡ i + 6
-unfolding startFrom word
-behind-word i = let q : i + 1 + 1 + 1 + 1 + 1 + 1 ≡ i + 6 = omega arith in q
+behind-word : (ws : List ℕ) (t : Table) → Spells ws (Head t) → (a i : ℕ) → startFrom a i ws ≡ i + length ws
+unfolding startFrom
+behind-word [] t s a i = absurd s
+behind-word (w ∷ []) t s a i = ap (λ (c : Bool). pick c (i + 1) a) (eq-eqb w 10 (s .0))
+behind-word (w ∷ v ∷ ws) t s a i = behind-word (v ∷ ws) t (s .1) (pick (eqb w 10) (i + 1) a) (i + 1) ∙ sym (one-behind i (length (v ∷ ws)))
 
 module _ (s : List ℕ) where
   abbrev pub FirstRuns : State → ℕ → Opening → Type 0
@@ -582,72 +579,79 @@ module _ (s : List ℕ) where
   first-on σ τ at next (Opens n m start) e r = e ∙ r
   first-on σ τ at next (Unopened place) e r = e ∙ r
 
+  -- a word that names a measure fails at the first byte that differs, or is passed
+  word-run : (n : ℕ) (m : Measure) (w : ℕ) (ws : List ℕ) (at : ℕ) → Spells (w ∷ ws) (Head (begun n m))
+      → FirstRuns (Spelling (w ∷ ws) (Head (begun n m))) at (onWord n m at (w ∷ ws) (agreeing (w ∷ ws) (drop at s)))
+  word-run n m w ws at S =
+      let p = Head (begun n m) in
+      let k = agreeing (w ∷ ws) (drop at s) in
+      let z = length (w ∷ ws) in
+      pick-by (FirstRuns (Spelling (w ∷ ws) p) at) (ltb k z)
+      (λ l. spell-stops w ws p (drop at s) 0 at (ltb-true _ _ l) ∙ ap (Stopped 1 (at + k)) (in-word (w ∷ ws) p S 0 at k (ltb-true _ _ l)))
+      (λ l. spell-passes w ws p (drop at s) 0 at (ltb-false _ _ l)
+      ∙ ap₂ (λ (bs : List ℕ) (j : ℕ). fateFrom (First p) bs j (at + z)) (drop-drop z at s) (behind-word (w ∷ ws) (begun n m) S 0 at))
+
   module _ (n next : ℕ) (d : 10 ≤ digitOf (getD s next 0)) where
-    -- behind the number of parts, the word or nothing
-    abbrev wordly : State
-    wordly = Spelling (word ++ 10 ∷ []) (Head (begun n spoken))
-
-    to-word : next < length s → eqb (getD s next 0) 10 ≡ false → fate s (Within Vertices n) 0 next ≡ fate s wordly 0 next
-    to-word h e =
-        let q : step (Within Vertices n) (getD s next 0) ≡ step wordly (getD s next 0) = number-ended s Vertices n next d ∙ (unfold ended step in rw e) in
-        let c = drop-cons s next 0 h in
-        ap (λ (bs : List ℕ). fateFrom (Within Vertices n) bs 0 next) c
-        ∙ fate-alike (Within Vertices n) (getD s next 0) (drop (suc next) s) 0 next wordly q
-        ∙ sym (ap (λ (bs : List ℕ). fateFrom wordly bs 0 next) c)
-
-    abbrev named : ℕ
-    named = agreeing (word ++ 10 ∷ []) (drop next s)
-
-    -- at the text's end no byte of the word stands
-    unnamed : length s ≤ next → named ≡ 0
-    unfolding word agreeing
-    unnamed h = ap (agreeing (word ++ 10 ∷ [])) (drop-of-length-le s h)
-
-    word-stops : eqb (getD s next 0) 10 ≡ false → named < 6 → fate s (Within Vertices n) 0 next ≡ Stopped 1 (next + named) 0
-    word-stops e l = go (ltb next (length s)) refl
-      where
-        inside : next < length s → fate s (Within Vertices n) 0 next ≡ Stopped 1 (next + named) 0
-        inside h = unfold word in
-            to-word h e ∙ spell-stops _ _ (Head (begun n spoken)) (drop next s) 0 next l
-            ∙ ap (Stopped 1 (next + named)) (in-word next named l)
-
-        unended : finish (Within Vertices n) ≡ Wrong 1
-        unended = unfold finish lineAt in refl
-
-        behind : length s ≤ next → fate s (Within Vertices n) 0 next ≡ Stopped 1 (next + named) 0
-        behind h =
-            let z = unnamed h in
-            let q : next ≡ next + named = omega arith in
-            fate-past (Within Vertices n) s 0 next h ∙ ap (λ (P : Parse). fateOf P next 0) unended ∙ ap (λ (k : ℕ). Stopped 1 k 0) q
-
-        go : (c : Bool) → ltb next (length s) ≡ c → fate s (Within Vertices n) 0 next ≡ Stopped 1 (next + named) 0
-        go true q = inside (ltb-true _ _ q)
-        go false q = behind (ltb-false _ _ q)
-
-    word-passes : eqb (getD s next 0) 10 ≡ false → 6 ≤ named → fate s (Within Vertices n) 0 next ≡ fate s (First (Head (begun n spoken))) (next + 6) (next + 6)
-    word-passes e l = go (ltb next (length s)) refl
-      where
-        inside : next < length s → fate s (Within Vertices n) 0 next ≡ fate s (First (Head (begun n spoken))) (next + 6) (next + 6)
-        inside h = unfold word in
-            to-word h e ∙ spell-passes _ _ (Head (begun n spoken)) (drop next s) 0 next l
-            ∙ ap₂ (λ (bs : List ℕ) (k : ℕ). fateFrom (First (Head (begun n spoken))) bs k (next + 6)) (drop-drop 6 next s) (behind-word next)
-
-        go : (c : Bool) → ltb next (length s) ≡ c → fate s (Within Vertices n) 0 next ≡ fate s (First (Head (begun n spoken))) (next + 6) (next + 6)
-        go true q = inside (ltb-true _ _ q)
-        go false q = absurd (let z = unnamed (ltb-false _ _ q) in omega arith)
-
-    word-run : eqb (getD s next 0) 10 ≡ false → FirstRuns (Within Vertices n) next (onWord n next named)
-    unfolding word
-    word-run e = pick-by (FirstRuns (Within Vertices n) next) (ltb named 6) (λ l. word-stops e (ltb-true _ _ l)) (λ l. word-passes e (ltb-false _ _ l))
-
-    silent-run : getD s next 0 ≡ 10 → fate s (Within Vertices n) 0 next ≡ fate s (First (Head (begun n default))) (next + 1) (next + 1)
+    silent-run : getD s next 0 ≡ 10 → fate s (Within Vertices n) 0 next ≡ fate s (First (Head (begun n Days))) (next + 1) (next + 1)
     silent-run e =
-        let q : ended Vertices n 10 ≡ First (Head (begun n default)) = unfold ended in refl in
-        fate-line (Within Vertices n) s 0 next (First (Head (begun n default))) (byte-within s next 10 e (omega arith))
+        let q : ended Vertices n 10 ≡ First (Head (begun n Days)) = unfold ended in refl in
+        fate-line (Within Vertices n) s 0 next (First (Head (begun n Days))) (byte-within s next 10 e (omega arith))
         (number-ended s Vertices n next d ∙ ap (ended Vertices n) e ∙ q) refl e
 
+    unspaced-run : eqb (getD s next 0) 10 ≡ false → eqb (getD s next 0) 32 ≡ false → fate s (Within Vertices n) 0 next ≡ Stopped 1 next 0
+    unspaced-run e f = wrong-both (Within Vertices n) s 0 next 1 (unfold finish lineAt in refl) (λ l. number-ended s Vertices n next d ∙ (unfold ended in rw (e, f)))
+
+    -- behind the space a word begins; where the letter there decides it, it is as if it had been spelled from the space on
+    module _ (e : getD s next 0 ≡ 32) where
+      spaced : next < length s
+      spaced = byte-within s next 32 e (omega arith)
+
+      module _ (m : Measure) (w : ℕ) (ws : List ℕ) (letter : step (Naming n) (getD s (next + 1) 0) ≡ step (Spelling (w ∷ ws) (Head (begun n m))) (getD s (next + 1) 0)) where
+        alike : fate s (Naming n) 0 (next + 1) ≡ fate s (Spelling (w ∷ ws) (Head (begun n m))) 0 (next + 1)
+        alike = go (ltb (next + 1) (length s)) refl
+          where
+            inside : next + 1 < length s → fate s (Naming n) 0 (next + 1) ≡ fate s (Spelling (w ∷ ws) (Head (begun n m))) 0 (next + 1)
+            inside h =
+                let c = drop-cons s (next + 1) 0 h in
+                ap (λ (bs : List ℕ). fateFrom (Naming n) bs 0 (next + 1)) c
+                ∙ fate-alike (Naming n) (getD s (next + 1) 0) (drop (suc (next + 1)) s) 0 (next + 1) (Spelling (w ∷ ws) (Head (begun n m))) letter
+                ∙ sym (ap (λ (bs : List ℕ). fateFrom (Spelling (w ∷ ws) (Head (begun n m))) bs 0 (next + 1)) c)
+
+            go : (c : Bool) → ltb (next + 1) (length s) ≡ c → fate s (Naming n) 0 (next + 1) ≡ fate s (Spelling (w ∷ ws) (Head (begun n m))) 0 (next + 1)
+            go true q = inside (ltb-true _ _ q)
+            go false q =
+                let l = ltb-false _ _ q in
+                let z : finish (Naming n) ≡ finish (Spelling (w ∷ ws) (Head (begun n m))) = unfold finish in refl in
+                fate-past (Naming n) s 0 (next + 1) l ∙ ap (λ (P : Parse). fateOf P (next + 1) 0) z ∙ sym (fate-past (Spelling (w ∷ ws) (Head (begun n m))) s 0 (next + 1) l)
+
+        spelled : fate s (Within Vertices n) 0 next ≡ fate s (Spelling (32 ∷ w ∷ ws) (Head (begun n m))) 0 next
+        spelled =
+            let p = Head (begun n m) in
+            let named-here : ended Vertices n 32 ≡ Naming n = unfold ended in refl in
+            let no-end = ap (λ (x : ℕ). eqb x 10) e in
+            fate-on (Within Vertices n) s 0 next (Naming n) spaced (number-ended s Vertices n next d ∙ ap (ended Vertices n) e ∙ named-here) refl no-end
+            ∙ alike
+            ∙ sym (fate-on (Spelling (32 ∷ w ∷ ws) p) s 0 next (Spelling (w ∷ ws) p) spaced (unfold step spell in rw e) refl no-end)
+
+      named-run : (m : Measure) (w : ℕ) (ws : List ℕ) → measureText m ≡ 32 ∷ w ∷ ws → Spells (measureText m) (Head (begun n m))
+          → step (Naming n) (getD s (next + 1) 0) ≡ step (Spelling (w ∷ ws) (Head (begun n m))) (getD s (next + 1) 0) → FirstRuns (Within Vertices n) next (onNamed s n m next)
+      named-run m w ws q S l =
+          let r = word-run n m 32 (w ∷ ws) next (subst (λ (z : List ℕ). Spells z (Head (begun n m))) q S) in
+          subst (λ (z : List ℕ). FirstRuns (Within Vertices n) next (onWord n m next z (agreeing z (drop next s)))) (sym q)
+          (first-on (Within Vertices n) (Spelling (32 ∷ w ∷ ws) (Head (begun n m))) next next (onWord n m next (32 ∷ w ∷ ws) (agreeing (32 ∷ w ∷ ws) (drop next s))) (spelled m w ws l) r)
+
+      cost-run : eqb (getD s (next + 1) 0) 99 ≡ true → FirstRuns (Within Vertices n) next (onNamed s n Cost next)
+      cost-run l = named-run Cost 99 (111 ∷ 115 ∷ 116 ∷ 10 ∷ []) (unfold measureText word in refl) (word-spells Cost n) (unfold step named in rw l)
+
+      grade-run : eqb (getD s (next + 1) 0) 99 ≡ false → FirstRuns (Within Vertices n) next (onNamed s n Grade next)
+      grade-run l = named-run Grade 103 (114 ∷ 97 ∷ 100 ∷ 101 ∷ 10 ∷ []) (unfold measureText word in refl) (word-spells Grade n) (unfold step named in rw l)
+
     count-run : FirstRuns (Within Vertices n) next (onCount s next (Number n))
-    count-run = pick-by (FirstRuns (Within Vertices n) next) (eqb (getD s next 0) 10) (λ e. silent-run (eqb-true _ _ e)) word-run
+    count-run =
+        pick-by (FirstRuns (Within Vertices n) next) (eqb (getD s next 0) 10) (λ e. silent-run (eqb-true _ _ e)) (λ f.
+        pick-by (FirstRuns (Within Vertices n) next) (eqb (getD s next 0) 32)
+        (λ e. pick-by (FirstRuns (Within Vertices n) next) (eqb (getD s (next + 1) 0) 99) (cost-run (eqb-true _ _ e)) (grade-run (eqb-true _ _ e)))
+        (unspaced-run f))
 
   counted-run : (at stop : ℕ) (F : Found) → NumberRuns s Vertices 0 (First Vertices) at stop F → FirstRuns (First Vertices) at (onCount s stop F)
   counted-run at stop (Number n) r = first-on (First Vertices) (Within Vertices n) at stop (onCount s stop (Number n)) (r .0) (count-run n stop (r .1))
@@ -659,7 +663,7 @@ module _ (s : List ℕ) where
       let K = agreeing firstWord s in
       let T = numberAt s 6 (mostVertices + 1) in
       pick-by (FirstRuns begin 0) (ltb K 6)
-      (λ l. spell-stops 112 (97 ∷ 114 ∷ 116 ∷ 115 ∷ 32 ∷ []) Vertices s 0 0 (ltb-true _ _ l) ∙ ap₂ (Stopped 1) (from-start K) (in-first K (ltb-true _ _ l)))
+      (λ l. spell-stops 112 (97 ∷ 114 ∷ 116 ∷ 115 ∷ 32 ∷ []) Vertices s 0 0 (ltb-true _ _ l) ∙ ap₂ (Stopped 1) (from-start K) (in-word firstWord Vertices (begin-reached .2) 0 0 K (ltb-true _ _ l)))
       (λ l. first-on begin (First Vertices) 0 6 (onCounted s T)
       (unfold startFrom in spell-passes 112 (97 ∷ 114 ∷ 116 ∷ 115 ∷ 32 ∷ []) Vertices s 0 0 (ltb-false _ _ l))
       (counted-run 6 (T .stop) (T .found) (unfold limit finish instead lineAt in number-run s Vertices 0 6 (λ g. refl) refl)))

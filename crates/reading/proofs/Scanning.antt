@@ -9,6 +9,7 @@ use lib.ListN.{length, getD, drop, length-append, length-drop}
 use lib.Dec.{ltb, eqb}
 use borrow.Author.Tests.{lt-ltb, le-ltb, ltb-false, eqb-true}
 use Rattle.weights.specs.declared.Measure.{Measure}
+use Rattle.weights.specs.declared.Measure.the-variants.{Cost, Grade}
 use Rattle.weights.specs.declared.Vertex.{Vertex}
 use Rattle.weights.specs.declared.Weight.{Weight}
 use Rattle.weights.specs.declared.Mark.{Mark}
@@ -16,7 +17,7 @@ use Rattle.weights.specs.Choice.{pick}
 use Rattle.refusal.specs.declared.Refusal.{Refusal}
 use Rattle.columns.specs.Acceptance.{mostVertices, mostEdges, mostListed, longestTail}
 use Rattle.text.specs.Tables.{Edge, Table, listedInAll}
-use Rattle.text.specs.Render.{spoken, word, firstWord}
+use Rattle.text.specs.Render.{measureText, firstWord}
 use Rattle.text.specs.Machine.{Head, First, begun, withEdge, nextLine, mayList, Whole, Wrong, begin}
 use Rattle.text.proofs.Digits.{pick-by}
 use Rattle.text.proofs.Rows.{total-snoc}
@@ -30,7 +31,7 @@ use Rattle.cursor.proofs.Counts.{byte-within, number-counts, weight-counts}
 use Rattle.reading.specs.declared.Line.the-variants as line
 use Rattle.reading.specs.Lines.{
   agreeing,
-  onWord,
+  onNamed,
   onCount,
   onCounted,
   Opening,
@@ -148,17 +149,21 @@ agrees-within (w ∷ ws) [] = omega arith
 agrees-within (w ∷ ws) (b ∷ s) = pick-by (λ (k : ℕ). k ≤ length (b ∷ s)) (eqb b w) (λ e. let l = agrees-within ws s in omega arith) (λ e. omega arith)
 
 module _ (s : List ℕ) where
-  word-counts : (n stop : ℕ) → FirstCounts s (onWord n stop (agreeing (word ++ 10 ∷ []) (drop stop s)))
-  unfolding word
-  word-counts n stop =
-      let k = agreeing (word ++ 10 ∷ []) (drop stop s) in
-      let l = agrees-within (word ++ 10 ∷ []) (drop stop s) in
-      let m = length-drop stop s in
-      pick-by (FirstCounts s) (ltb k 6) (λ _. tt) (λ f. let g = ltb-false k 6 f in omega arith)
+  word-counts : (n : ℕ) (m : Measure) (stop : ℕ) → stop ≤ length s → FirstCounts s (onNamed s n m stop)
+  word-counts n m stop h =
+      let w = measureText m in
+      let k = agreeing w (drop stop s) in
+      let l = agrees-within w (drop stop s) in
+      let d = length-drop stop s in
+      pick-by (FirstCounts s) (ltb k (length w)) (λ _. tt) (λ f. let g = ltb-false k (length w) f in omega arith)
 
   count-counts : (stop : ℕ) (F : Found) → FirstCounts s (onCount s stop F)
   count-counts stop (Number n) =
-      pick-by (FirstCounts s) (eqb (getD s stop 0) 10) (λ e. let l = byte-within s stop 10 (eqb-true _ _ e) (omega arith) in omega arith) (λ e. word-counts n stop)
+      pick-by (FirstCounts s) (eqb (getD s stop 0) 10) (λ e. let l = byte-within s stop 10 (eqb-true _ _ e) (omega arith) in omega arith)
+      (λ _. pick-by (FirstCounts s) (eqb (getD s stop 0) 32)
+      (λ e. let l = byte-within s stop 32 (eqb-true _ _ e) (omega arith) in
+      pick-by (FirstCounts s) (eqb (getD s (stop + 1) 0) 99) (λ _. word-counts n Cost stop (omega arith)) (λ _. word-counts n Grade stop (omega arith)))
+      (λ e. tt))
   count-counts stop NotANumber = tt
 
   first-count : FirstCounts s (firstLine s)

@@ -9,6 +9,7 @@ use Rattle.weights.specs.declared.Vertex.{Vertex}
 use Rattle.weights.specs.declared.Weight.{Weight}
 use Rattle.weights.specs.declared.Mark.{Mark}
 use Rattle.weights.specs.declared.Measure.{Measure}
+use Rattle.weights.specs.declared.Measure.the-variants.{Cost, Days, Grade}
 use Rattle.weights.specs.Choice.{pick}
 use Rattle.refusal.specs.declared.Refusal.{Refusal}
 use Rattle.refusal.specs.declared.Refusal.the-variants.{Text}
@@ -17,7 +18,7 @@ use Rattle.refusal.specs.declared.Reading.{Reading}
 use Rattle.refusal.specs.declared.Reading.the-variants as reading
 use Rattle.columns.specs.Acceptance.{mostVertices, mostEdges}
 use Rattle.text.specs.Tables.{Edge, edge, Table, listedInAll}
-use Rattle.text.specs.Render.{default, spoken, word, firstWord}
+use Rattle.text.specs.Render.{measureText, firstWord}
 use Rattle.text.specs.Machine.{begun, withEdge, nextLine, mayList, Parse, Whole, Wrong}
 use Rattle.text.specs.Bytes.{columnOf}
 use Rattle.columns.specs.Filled.{filled}
@@ -62,13 +63,18 @@ abbrev pub firstOf : Opening → FirstLine
 firstOf (Opens n m start) = first.Read n m start
 firstOf (Unopened place) = first.Refused (refusedAt 1 0 place)
 
--- k bytes of the word and LF stand behind the number of parts, which stopped there
-abbrev pub onWord : (n stop k : ℕ) → Opening
-onWord n stop k = pick (ltb k (length (word ++ 10 ∷ []))) (Unopened (stop + k)) (Opens n spoken (stop + length (word ++ 10 ∷ [])))
+-- k bytes of w, which names measure m, stand behind the number of parts, which stopped there
+abbrev pub onWord : (n : ℕ) → Measure → (stop : ℕ) → (w : List ℕ) (k : ℕ) → Opening
+onWord n m stop w k = pick (ltb k (length w)) (Unopened (stop + k)) (Opens n m (stop + length w))
 
--- behind the number of parts: LF, or the word and LF
+abbrev pub onNamed : List ℕ → (n : ℕ) → Measure → (stop : ℕ) → Opening
+onNamed s n m stop = onWord n m stop (measureText m) (agreeing (measureText m) (drop stop s))
+
+-- behind the number of parts: LF, or a space and the letter that decides the word
 abbrev pub onCount : List ℕ → (stop : ℕ) → Found → Opening
-onCount s stop (Number n) = pick (eqb (getD s stop 0) 10) (Opens n default (stop + 1)) (onWord n stop (agreeing (word ++ 10 ∷ []) (drop stop s)))
+onCount s stop (Number n) =
+    pick (eqb (getD s stop 0) 10) (Opens n Days (stop + 1))
+    (pick (eqb (getD s stop 0) 32) (pick (eqb (getD s (stop + 1) 0) 99) (onNamed s n Cost stop) (onNamed s n Grade stop)) (Unopened stop))
 onCount s stop NotANumber = Unopened stop
 
 abbrev pub onCounted : List ℕ → Token → Opening

@@ -12,9 +12,8 @@ use refusal::Reading;
 use refusal::Refusal;
 use refusal::TextColumn;
 use refusal::TextLine;
-use text::WORD;
-use text::default_measure;
-use text::named_measure;
+use text::COST;
+use text::GRADE;
 use weights::Mark;
 use weights::Measure;
 use weights::Vertex;
@@ -22,9 +21,9 @@ use weights::Weight;
 ghost use mathlib.Core.Path.{_≡_};
 ghost use mathlib.Core.List.{[]};
 ghost use Prim.Native.Nat.{_≤_, min};
-ghost use lib.ListN.{length};
+ghost use lib.ListN.{length, drop};
 ghost use Rattle.text.specs.Machine.{parse};
-ghost use Rattle.reading.specs.Lines.{agreeing, Opens, firstLine, firstOf, stemAt, stemOf, listedFrom, ReadsTail, lineWith, rowAt, ReadsLine, readingOf, refusedAt, InLine};
+ghost use Rattle.reading.specs.Lines.{agreeing, Opens, onWord, firstLine, firstOf, stemAt, stemOf, listedFrom, ReadsTail, lineWith, rowAt, ReadsLine, readingOf, refusedAt, InLine};
 
 // The first line: how many vertices there are, the measure, and the place of the next line; or the
 // refusal at the first byte that can't stand there.
@@ -78,7 +77,22 @@ fn agree(text: &[u8], word: &[u8]) -> usize
     i
 }
 
-// `parts N` means the default measure, and the word behind it names the other.
+// The end of a first line that names its measure: the word, with the space before it and the LF
+// behind it.
+fn named(text: &[u8], at: usize, n: u64, measure: Measure, word: &[u8]) -> FirstLine
+    requires { ⌜ at ≤ length (now text) ⌝ }
+    ensures { λ r. ⌜ r ≡ firstOf (onWord n measure at (now (word .entry)) (agreeing (now (word .entry)) (drop at (now (text .entry))))) ⌝ }
+{
+    let same = agree(&text[at..], word);
+    if same < word.len() {
+        let place = at + same;
+        return FirstLine::Refused(refused_at(TextLine(1), 0, place));
+    }
+    let start = at + word.len();
+    FirstLine::Read(n, measure, start)
+}
+
+// `parts N` means days; behind a space the first letter of a word decides which measure it names.
 pub fn first_line(text: &[u8]) -> FirstLine
     ensures { λ r. ⌜ r ≡ firstOf (firstLine (now (text .entry))) ⌝ }
 {
@@ -93,17 +107,19 @@ pub fn first_line(text: &[u8]) -> FirstLine
     let Found::Number(n) = found else {
         return FirstLine::Refused(refused_at(line, 0, next));
     };
-    if byte_at(text, next) == b'\n' {
+    let behind = byte_at(text, next);
+    if behind == b'\n' {
         let start = next + 1;
-        return FirstLine::Read(n, default_measure(), start);
+        return FirstLine::Read(n, Measure::Days, start);
     }
-    let named = agree(&text[next..], &WORD);
-    if named < WORD.len() {
-        let place = next + named;
-        return FirstLine::Refused(refused_at(line, 0, place));
+    if behind != b' ' {
+        return FirstLine::Refused(refused_at(line, 0, next));
     }
-    let start = next + WORD.len();
-    FirstLine::Read(n, named_measure(), start)
+    let letter = byte_at(text, next + 1);
+    if letter == b'c' {
+        return named(text, next, n, Measure::Cost, &COST);
+    }
+    named(text, next, n, Measure::Grade, &GRADE)
 }
 
 // The start of the text line that begins at a place.

@@ -10,7 +10,7 @@ use lib.Dec.{eqb}
 use Rattle.weights.specs.Choice.{pick}
 use Rattle.weights.proofs.Choice.{apart}
 use Rattle.text.specs.Render.{Permitted}
-use Rattle.text.specs.Machine.{State, Spelling, First, Within, Failed, step, run, Wrong, finish, begin, parse}
+use Rattle.text.specs.Machine.{State, Spelling, Naming, First, Within, Failed, step, run, Wrong, finish, begin, parse}
 use Rattle.text.specs.Permitted.{FirstWrong}
 use Rattle.text.specs.Prefixes.{Begins, NotFailed}
 use Rattle.text.specs.Bytes.{isFailed, survived, failingAt, lineFrom, lineAfter, columnAfter, columnOf, FirstByte}
@@ -82,6 +82,7 @@ survive σ (b ∷ bs) s r n = go (step σ b) refl (moved σ b s r) (λ m. surviv
         → Survives σ (b ∷ bs) (pick (isFailed (step σ b)) 0 (suc (survived (step σ b) bs)))
     go (Failed l) q v S = let z : isFailed (step σ b) ≡ true = ap isFailed q in rw z (stop l q (failed-of v))
     go (Spelling ws p) q v S = more (Spelling ws p) q v tt refl S
+    go (Naming n) q v S = more (Naming n) q v tt refl S
     go (First p) q v S = more (First p) q v tt refl S
     go (Within p x) q v S = more (Within p x) q v tt refl S
 

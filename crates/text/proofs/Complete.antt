@@ -8,7 +8,7 @@ use lib.ListN.{length, length-append}
 use lib.Seq.{append-snoc}
 use borrow.Author.Tests.{lt-ltb, eq-eqb}
 use Rattle.weights.specs.declared.Measure.{Measure}
-use Rattle.weights.specs.declared.Measure.the-variants.{Cost, Days}
+use Rattle.weights.specs.declared.Measure.the-variants.{Cost, Days, Grade}
 use Rattle.weights.specs.Figures.{greatest, struckMark, standing}
 use Rattle.weights.specs.Choice.{pick}
 use Rattle.columns.specs.Acceptance.{mostVertices, mostEdges, mostListed, allBelow}
@@ -35,6 +35,7 @@ use Rattle.text.specs.Machine.{
   instead,
   after,
   spell,
+  named,
   ended,
   step,
   run,
@@ -170,8 +171,9 @@ run-header n m h =
     opened = unfold firstWord in run-word 112 _ Vertices
 
     measured : (m : Measure) → run (Within Vertices n) (measureText m) ≡ First (Head (begun n m))
-    measured Cost = unfold run step spell measureText word digitOf ended in refl
-    measured Days = unfold run step spell measureText word digitOf ended in refl
+    measured Cost = unfold run step spell named measureText word digitOf ended in refl
+    measured Days = unfold run step measureText word digitOf ended in refl
+    measured Grade = unfold run step spell named measureText word digitOf ended in refl
 
 pub run-text : (t : Table) → WithinLimits t → run begin (tableText t) ≡ First (Head t)
 unfolding tableText

@@ -11,7 +11,8 @@ use lib.Dec.{ltb, eqb}
 use borrow.Author.Tests.{ltb-true, eqb-true, eq-eqb, ne-eqb}
 use Rattle.weights.specs.Choice.{pick}
 use Rattle.text.specs.Tables.{edge, Table}
-use Rattle.text.specs.Render.{spoken, word}
+use Rattle.weights.specs.declared.Measure.the-variants.{Cost, Grade}
+use Rattle.text.specs.Render.{letters}
 use Rattle.text.specs.Machine.{
   Place,
   Vertices,
@@ -20,6 +21,7 @@ use Rattle.text.specs.Machine.{
   Listed,
   State,
   Spelling,
+  Naming,
   First,
   Within,
   Failed,
@@ -32,6 +34,7 @@ use Rattle.text.specs.Machine.{
   instead,
   after,
   spell,
+  named,
   ended,
   step,
   run,
@@ -42,7 +45,7 @@ use Rattle.text.specs.Machine.{
   parse,
 }
 use Rattle.text.proofs.Digits.{pick-by}
-use Rattle.text.proofs.Sound.{LastOf, Spells, Reached, begin-reached, word-spells, step-reached, never}
+use Rattle.text.proofs.Sound.{LastOf, Spells, Reached, begin-reached, cost-spells, grade-spells, step-reached, never}
 use Rattle.text.specs.Places.{firstLines}
 
 -- k is the first line that breaks a rule: with it the lines so far are no text that is read, and with each line before it they are
@@ -55,6 +58,7 @@ pub record FirstUnread (s : List ℕ) (k : ℕ) : Type 0 where
 
 unfoldable pub lineOf : State → ℕ
 lineOf (Spelling ws p) = 1
+lineOf (Naming n) = 1
 lineOf (First p) = lineAt p
 lineOf (Within p v) = lineAt p
 lineOf (Failed l) = l
@@ -88,6 +92,12 @@ spell-moved σ [] p b q s = absurd s
 spell-moved σ (w ∷ []) p b q s = pick-by (Moved σ b) (eqb b w) (last-moved σ p w b q s) (λ f. fails q)
 spell-moved σ (w ∷ v ∷ ws) p b q s = pick-by (Moved σ b) (eqb b w) (λ e. stays (other b w e (s .0)) (sym q)) (λ f. fails q)
 
+named-moved : (n b : ℕ) → Moved (Naming n) b (named n b)
+unfolding named lineOf
+named-moved n b =
+    pick-by (Moved _ b) (eqb b 99) (λ _. spell-moved (Naming n) (letters Cost ++ 10 ∷ []) (Head (begun n Cost)) b refl (cost-spells n))
+    (λ _. spell-moved (Naming n) (letters Grade ++ 10 ∷ []) (Head (begun n Grade)) b refl (grade-spells n))
+
 grown-moved : (σ : State) (p : Place) (v b : ℕ) → lineAt p ≡ lineOf σ → ltb (digitOf b) 10 ≡ true → Moved σ b (grown p v)
 unfolding grown lineOf
 grown-moved σ p v b q e = pick-by (Moved σ b) (ltb v _) (λ f. stays (digit-stays b e) q) (λ f. fails (sym q))
@@ -101,7 +111,9 @@ after-moved σ t h o k xs b q =
 
 ended-moved : (p : Place) (v b : ℕ) → Moved (Within p v) b (ended p v b)
 unfolding ended lineOf lineAt
-ended-moved Vertices v b = pick-by (Moved _ b) (eqb b 10) (λ f. ends f refl) (λ n. spell-moved (Within Vertices v) (word ++ 10 ∷ []) (Head (begun v spoken)) b refl (word-spells v))
+ended-moved Vertices v b =
+    pick-by (Moved _ b) (eqb b 10) (λ f. ends f refl) (λ _.
+    pick-by (Moved _ b) (eqb b 32) (λ f. stays (other b 32 f (λ e. omega arith)) refl) (λ f. fails refl))
 ended-moved (Head t) v b = pick-by (Moved _ b) (eqb b 32) (λ f. stays (other b 32 f (λ e. omega arith)) refl) (λ f. fails refl)
 ended-moved (Own t h k) v b = after-moved (Within (Own t h k) v) t h v k [] b refl
 ended-moved (Listed t h o k xs) v b = after-moved (Within (Listed t h o k xs) v) t h o k (xs ++ v ∷ []) b refl
@@ -117,6 +129,7 @@ instead-moved (Listed t h o k xs) b = fails refl
 pub moved : (σ : State) (b : ℕ) (s : List ℕ) → Reached σ s → Moved σ b (step σ b)
 unfolding step lineOf
 moved (Spelling ws p) b s r = spell-moved (Spelling ws p) ws p b refl (r .2)
+moved (Naming n) b s r = named-moved n b
 moved (First p) b s r = pick-by (Moved _ b) (ltb (digitOf b) 10) (λ e. grown-moved (First p) p (digitOf b) b refl e) (λ f. instead-moved p b)
 moved (Within p v) b s r =
     pick-by (Moved _ b) (ltb (digitOf b) 10) (λ e.
@@ -134,6 +147,7 @@ run-failed l (b ∷ bs) = run-failed l bs
 pub wrong-at : (σ : State) (k : ℕ) → finish σ ≡ Wrong k → lineOf σ ≡ k
 unfolding finish lineOf lineAt
 wrong-at (Spelling ws p) k e = cc
+wrong-at (Naming n) k e = cc
 wrong-at (First Vertices) k e = cc
 wrong-at (First (Head t)) k e = absurd (never (sym e))
 wrong-at (First (Own t h x)) k e = cc

@@ -7,8 +7,9 @@ use native.Mathlib.Omega.{arith}
 use borrow.Author.Tests.{lt-ltb}
 use Rattle.weights.specs.Figures.{standing}
 use Rattle.text.specs.Tables.{edge, Table, listedInAll}
-use Rattle.text.specs.Render.{default}
-use Rattle.text.specs.Machine.{Place, Vertices, Head, Own, Listed, State, Spelling, First, Within, Failed, begun, withEdge, limit, digitOf, grown, after, ended, step, run, finish, begin, parse}
+use Rattle.weights.specs.declared.Measure.the-variants.{Cost, Days}
+use Rattle.text.specs.Render.{letters}
+use Rattle.text.specs.Machine.{Place, Vertices, Head, Own, Listed, State, Spelling, Naming, First, Within, Failed, begun, withEdge, limit, digitOf, grown, after, spell, named, ended, step, run, finish, begin, parse}
 use Rattle.text.proofs.Sound.{Spells, Reached, begin-reached, run-reached}
 use Rattle.text.proofs.Complete.{run-append, run-word}
 use Rattle.text.proofs.Places.{run-failed}
@@ -27,7 +28,7 @@ record Ends (σ : State) : Type 0 where
 
 first-ends : (p : Place) (s : List ℕ) → Reached (First p) s → Ends (First p)
 unfolding run step digitOf grown limit ended after listedInAll
-first-ends Vertices s r = record { rest = 48 ∷ 10 ∷ []; table = begun 0 default; there = refl }
+first-ends Vertices s r = record { rest = 48 ∷ 10 ∷ []; table = begun 0 Days; there = refl }
 first-ends (Head t) s r = record { rest = []; table = t; there = refl }
 first-ends (Own t h k) s r = record { rest = 48 ∷ 10 ∷ []; table = withEdge t (edge h 0 k []); there = refl }
 first-ends (Listed t h o k xs) s r =
@@ -44,8 +45,9 @@ unfolding run step digitOf ended after listedInAll
 ends (Spelling ws p) s r g =
     let e = first-ends p (s ++ ws) (sym (r .0), r .1) in
     record { rest = ws ++ e .rest; table = e .table; there = run-append (Spelling ws p) ws (e .rest) ∙ ap (λ (σ : State). run σ (e .rest)) (spelled ws p (r .2)) ∙ e .there }
+ends (Naming n) s r g = record { rest = letters Cost ++ 10 ∷ []; table = begun n Cost; there = unfold named spell in refl }
 ends (First p) s r g = first-ends p s r
-ends (Within Vertices v) s r g = record { rest = 10 ∷ []; table = begun v default; there = refl }
+ends (Within Vertices v) s r g = record { rest = 10 ∷ []; table = begun v Days; there = refl }
 ends (Within (Head t) v) s r g = record { rest = 32 ∷ 48 ∷ 10 ∷ []; table = withEdge t (edge v 0 standing []); there = unfold grown limit in refl }
 ends (Within (Own t h k) v) s r g = record { rest = 10 ∷ []; table = withEdge t (edge h v k []); there = refl }
 ends (Within (Listed t h o k xs) v) s r g = record { rest = 10 ∷ []; table = withEdge t (edge h o k (xs ++ v ∷ [])); there = refl }

@@ -10,10 +10,11 @@ use lib.Seq.{append-snoc}
 use lib.Dec.{ltb, eqb}
 use borrow.Author.Tests.{ltb-true, eqb-true}
 use Rattle.weights.specs.declared.Measure.{Measure}
+use Rattle.weights.specs.declared.Measure.the-variants.{Cost, Days, Grade}
 use Rattle.weights.specs.Figures.{greatest, standing, struckMark}
 use Rattle.columns.specs.Acceptance.{mostVertices, mostEdges, mostListed, allBelow}
 use Rattle.text.specs.Tables.{Edge, edge, Table, listedInAll}
-use Rattle.text.specs.Render.{digits, default, spoken, word, firstWord, measureText, header, markText, ownText, tailText, edgeText, edgesText, tableText}
+use Rattle.text.specs.Render.{digits, letters, word, firstWord, measureText, header, markText, ownText, tailText, edgeText, edgesText, tableText}
 use Rattle.text.specs.Machine.{
   Place,
   Vertices,
@@ -22,6 +23,7 @@ use Rattle.text.specs.Machine.{
   Listed,
   State,
   Spelling,
+  Naming,
   First,
   Within,
   Failed,
@@ -35,6 +37,7 @@ use Rattle.text.specs.Machine.{
   instead,
   after,
   spell,
+  named,
   ended,
   step,
   run,
@@ -122,6 +125,7 @@ Spells (w ∷ v ∷ ws) p = (w ≡ 10 → ⊥) × Spells (v ∷ ws) p
 -- the bytes s are read, and the state is sound
 abbrev pub Reached : State → List ℕ → Type 0
 Reached (Spelling ws p) s = (s ++ ws ≡ before p) × Sits p × Spells ws p
+Reached (Naming n) s = (s ≡ (firstWord ++ digits n) ++ 32 ∷ []) × (n ≤ mostVertices)
 Reached (First p) s = (before p ≡ s) × Sits p
 Reached (Within p v) s = (before p ++ digits v ≡ s) × Sits p × InPlace p v
 Reached (Failed l) s = Unit {0}
@@ -208,16 +212,35 @@ spell-reached (w ∷ v ∷ ws) p b s e g r =
     pick-by (λ (σ : State). Reached σ (s ++ b ∷ [])) (eqb b w)
     (λ f. (append-snoc s b (v ∷ ws) ∙ ap (λ (x : ℕ). s ++ x ∷ v ∷ ws) (eqb-true b w f) ∙ e, g, r .1)) (λ f. tt)
 
-pub word-spells : (n : ℕ) → Spells (word ++ 10 ∷ []) (Head (begun n spoken))
-unfolding word
-word-spells n = ((λ e. omega arith), ((λ e. omega arith), ((λ e. omega arith), ((λ e. omega arith), ((λ e. omega arith), (refl, refl))))))
+pub word-spells : (m : Measure) (n : ℕ) → Spells (measureText m) (Head (begun n m))
+unfolding measureText word
+word-spells Cost n = ((λ e. omega arith), ((λ e. omega arith), ((λ e. omega arith), ((λ e. omega arith), ((λ e. omega arith), (refl, refl))))))
+word-spells Days n = (refl, refl)
+word-spells Grade n = ((λ e. omega arith), ((λ e. omega arith), ((λ e. omega arith), ((λ e. omega arith), ((λ e. omega arith), ((λ e. omega arith), (refl, refl)))))))
+
+-- behind the space
+pub cost-spells : (n : ℕ) → Spells (letters Cost ++ 10 ∷ []) (Head (begun n Cost))
+unfolding measureText word
+cost-spells n = word-spells Cost n .1
+
+pub grade-spells : (n : ℕ) → Spells (letters Grade ++ 10 ∷ []) (Head (begun n Grade))
+unfolding measureText word
+grade-spells n = word-spells Grade n .1
+
+named-reached : (n b : ℕ) (s : List ℕ) → s ≡ (firstWord ++ digits n) ++ 32 ∷ [] → n ≤ mostVertices → Reached (named n b) (s ++ b ∷ [])
+unfolding named before measureText word
+named-reached n b s e h =
+    let to : (ws : List ℕ) → s ++ ws ≡ (firstWord ++ digits n) ++ 32 ∷ ws = λ ws. ap (λ (l : List ℕ). l ++ ws) e ∙ append-snoc (firstWord ++ digits n) 32 ws in
+    pick-by (λ (σ : State). Reached σ (s ++ b ∷ [])) (eqb b 99)
+    (λ _. spell-reached (letters Cost ++ 10 ∷ []) (Head (begun n Cost)) b s (to (letters Cost ++ 10 ∷ []) ∙ sym (text-begun n Cost)) (begun-fits n Cost h) (cost-spells n))
+    (λ _. spell-reached (letters Grade ++ 10 ∷ []) (Head (begun n Grade)) b s (to (letters Grade ++ 10 ∷ []) ∙ sym (text-begun n Grade)) (begun-fits n Grade h) (grade-spells n))
 
 ended-reached : (p : Place) (v b : ℕ) → Sits p → InPlace p v → Reached (ended p v b) ((before p ++ digits v) ++ b ∷ [])
-unfolding ended before markText measureText
+unfolding ended before markText measureText word
 ended-reached Vertices v b s h =
     pick-by (λ (σ : State). Reached σ ((firstWord ++ digits v) ++ b ∷ [])) (eqb b 10)
-    (λ e. (text-begun v default ∙ joined {l = firstWord ++ digits v} b 10 refl e, begun-fits v default h))
-    (λ f. spell-reached (word ++ 10 ∷ []) (Head (begun v spoken)) b (firstWord ++ digits v) (sym (text-begun v spoken)) (begun-fits v spoken h) (word-spells v))
+    (λ e. (text-begun v Days ∙ joined {l = firstWord ++ digits v} b 10 refl e, begun-fits v Days h))
+    (λ _. pick-by (λ (σ : State). Reached σ ((firstWord ++ digits v) ++ b ∷ [])) (eqb b 32) (λ e. (sym (joined {l = firstWord ++ digits v} b 32 refl e), h)) (λ f. tt))
 ended-reached (Head t) v b s h =
     pick-by (λ (σ : State). Reached σ ((tableText t ++ digits v) ++ b ∷ [])) (eqb b 32)
     (λ e. (append-nil _ ∙ joined {l = tableText t ++ digits v} b 32 refl e, head-sits t v 0 standing s (h .1) (h .0) (omega arith) (omega arith))) (λ f. tt)
@@ -246,6 +269,7 @@ grew-more p v b s e l pos =
 pub step-reached : (σ : State) (b : ℕ) (s : List ℕ) → Reached σ s → Reached (step σ b) (s ++ b ∷ [])
 unfolding step
 step-reached (Spelling ws p) b s r = spell-reached ws p b s (r .0) (r .1) (r .2)
+step-reached (Naming n) b s r = named-reached n b s (r .0) (r .1)
 step-reached (First p) b s r =
     pick-by (λ (σ : State). Reached σ (s ++ b ∷ [])) (ltb (digitOf b) 10)
     (λ e. grown-reached p (digitOf b) _ (r .1) (grew p b s (r .0) (ltb-true _ _ e)))
@@ -269,6 +293,7 @@ never {l} {t} e = let z : _≡_ {A = ℕ} 0 1 = cc in omega arith
 finished : (σ : State) (s : List ℕ) (t : Table) → Reached σ s → finish σ ≡ Whole t → WithinLimits t × (s ≡ tableText t)
 unfolding finish before
 finished (Spelling ws p) s t r e = absurd (never e)
+finished (Naming n) s t r e = absurd (never e)
 finished (First Vertices) s t r e = absurd (never e)
 finished (First (Head u)) s t r e = let q : u ≡ t = cc in subst (λ (w : Table). WithinLimits w × (s ≡ tableText w)) q (r .1, sym (r .0))
 finished (First (Own u h k)) s t r e = absurd (never e)

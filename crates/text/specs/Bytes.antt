@@ -8,11 +8,12 @@ use lib.ListN.{length, take}
 use lib.Dec.{eqb}
 use Rattle.weights.specs.Choice.{pick}
 use Rattle.text.specs.Render.{Permitted}
-use Rattle.text.specs.Machine.{State, Spelling, First, Within, Failed, step, begin}
+use Rattle.text.specs.Machine.{State, Spelling, Naming, First, Within, Failed, step, begin}
 use Rattle.text.specs.Prefixes.{Begins}
 
 abbrev pub isFailed : State → Bool
 isFailed (Spelling ws p) = false
+isFailed (Naming n) = false
 isFailed (First p) = false
 isFailed (Within p v) = false
 isFailed (Failed l) = true

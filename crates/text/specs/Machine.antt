@@ -6,11 +6,12 @@ use mathlib.Core.List.{List, [], _∷_, _++_}
 use lib.ListN.{length}
 use lib.Dec.{ltb, eqb}
 use Rattle.weights.specs.declared.Measure.{Measure}
+use Rattle.weights.specs.declared.Measure.the-variants.{Cost, Days, Grade}
 use Rattle.weights.specs.Figures.{greatest, standing, struckMark}
 use Rattle.weights.specs.Choice.{pick}
 use Rattle.columns.specs.Acceptance.{mostVertices, mostEdges, mostListed, longestTail}
 use Rattle.text.specs.Tables.{Edge, edge, Table, listedInAll}
-use Rattle.text.specs.Render.{default, spoken, word, firstWord}
+use Rattle.text.specs.Render.{letters, firstWord}
 
 -- the number that a reader stands before or in, with all that was read before it
 pub data Place : Type 0 where
@@ -22,6 +23,8 @@ pub data Place : Type 0 where
 pub data State : Type 0 where
   -- of a word these bytes are left, and then a number begins there
   Spelling : List ℕ → Place → State
+  -- behind the n of the first line and a space: the word of a measure begins here
+  Naming : (n : ℕ) → State
   -- a number begins here
   First : Place → State
   -- its digits so far make v
@@ -85,15 +88,20 @@ spell [] p b = Failed 1
 spell (w ∷ []) p b = pick (eqb b w) (First p) (Failed 1)
 spell (w ∷ v ∷ ws) p b = pick (eqb b w) (Spelling (v ∷ ws) p) (Failed 1)
 
+-- the first letter of a measure's word decides which it is
+unfoldable pub named : (n b : ℕ) → State
+named n b = pick (eqb b 99) (spell (letters Cost ++ 10 ∷ []) (Head (begun n Cost)) b) (spell (letters Grade ++ 10 ∷ []) (Head (begun n Grade)) b)
+
 -- the byte after a number
 unfoldable pub ended : Place → (v b : ℕ) → State
-ended Vertices n b = pick (eqb b 10) (First (Head (begun n default))) (spell (word ++ 10 ∷ []) (Head (begun n spoken)) b)
+ended Vertices n b = pick (eqb b 10) (First (Head (begun n Days))) (pick (eqb b 32) (Naming n) (Failed 1))
 ended (Head t) h b = pick (eqb b 32) (First (Own t h standing)) (Failed (nextLine t))
 ended (Own t h k) o b = after t h o k [] b
 ended (Listed t h o k xs) v b = after t h o k (xs ++ v ∷ []) b
 
 unfoldable pub step : State → ℕ → State
 step (Spelling ws p) b = spell ws p b
+step (Naming n) b = named n b
 step (First p) b = pick (ltb (digitOf b) 10) (grown p (digitOf b)) (instead p b)
 step (Within p v) b =
     pick (ltb (digitOf b) 10)
@@ -113,6 +121,7 @@ pub data Parse : Type 0 where
 -- a text may end where a line may begin
 unfoldable pub finish : State → Parse
 finish (Spelling ws p) = Wrong 1
+finish (Naming n) = Wrong 1
 finish (First Vertices) = Wrong 1
 finish (First (Head t)) = Whole t
 finish (First (Own t h k)) = Wrong (nextLine t)

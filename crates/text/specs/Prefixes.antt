@@ -3,7 +3,7 @@
 use Prim.Native.Nat.{ℕ}
 use mathlib.Core.List.{List, _++_}
 use Rattle.text.specs.Render.{Permitted}
-use Rattle.text.specs.Machine.{State, Spelling, First, Within, Failed}
+use Rattle.text.specs.Machine.{State, Spelling, Naming, First, Within, Failed}
 
 -- some permitted text begins with p
 pub record Begins (p : List ℕ) : Type 0 where
@@ -12,6 +12,7 @@ pub record Begins (p : List ℕ) : Type 0 where
 
 abbrev pub NotFailed : State → Type 0
 NotFailed (Spelling ws p) = Unit {0}
+NotFailed (Naming n) = Unit {0}
 NotFailed (First p) = Unit {0}
 NotFailed (Within p v) = Unit {0}
 NotFailed (Failed l) = ⊥

@@ -2,10 +2,9 @@
 use Prim.Native.Nat.{ℕ, zero, suc, _+_, _/_, _%_}
 use mathlib.Core.Path.{_≡_}
 use mathlib.Core.List.{List, [], _∷_, _++_}
-use mathlib.Core.Bool.{Bool, true, false}
 use lib.Dec.{ltb}
 use Rattle.weights.specs.declared.Measure.{Measure}
-use Rattle.weights.specs.declared.Measure.the-variants.{Cost, Days}
+use Rattle.weights.specs.declared.Measure.the-variants.{Cost, Days, Grade}
 use Rattle.weights.specs.Figures.{isStruckMark}
 use Rattle.weights.specs.Choice.{pick}
 use Rattle.refusal.specs.declared.Acceptance.the-variants.{Accepted}
@@ -25,27 +24,19 @@ digitsOn (suc k) n =
 unfoldable pub digits : ℕ → List ℕ
 digits n = digitsOn n n
 
--- The first line: `parts N`, or `parts N cost` -------------------------------------------------------------------------------------------
+-- The first line: `parts N`, `parts N cost` or `parts N grade` ---------------------------------------------------------------------------
 
--- the measure that no word names, and the word of the other, with the space before it: the two names that another default would change
-abbrev pub default : Measure
-default = Days
+-- the letters that name a measure: days has none
+abbrev pub letters : Measure → List ℕ
+letters Cost = 99 ∷ 111 ∷ 115 ∷ 116 ∷ []
+letters Days = []
+letters Grade = 103 ∷ 114 ∷ 97 ∷ 100 ∷ 101 ∷ []
 
-unfoldable pub word : List ℕ
-word = 32 ∷ 99 ∷ 111 ∷ 115 ∷ 116 ∷ []
-
-abbrev pub other : Measure → Measure
-other Cost = Days
-other Days = Cost
-
-abbrev pub spoken : Measure
-spoken = other default
-
-abbrev pub sameMeasure : Measure → Measure → Bool
-sameMeasure Cost Cost = true
-sameMeasure Cost Days = false
-sameMeasure Days Cost = false
-sameMeasure Days Days = true
+-- its word, with the space before it
+unfoldable pub word : Measure → List ℕ
+word Cost = 32 ∷ letters Cost
+word Days = []
+word Grade = 32 ∷ letters Grade
 
 -- `parts `
 unfoldable pub firstWord : List ℕ
@@ -53,7 +44,7 @@ firstWord = 112 ∷ 97 ∷ 114 ∷ 116 ∷ 115 ∷ 32 ∷ []
 
 -- the end of the first line
 unfoldable pub measureText : Measure → List ℕ
-measureText m = pick (sameMeasure m default) (10 ∷ []) (word ++ 10 ∷ [])
+measureText m = word m ++ 10 ∷ []
 
 unfoldable pub header : ℕ → Measure → List ℕ
 header n m = (firstWord ++ digits n) ++ measureText m

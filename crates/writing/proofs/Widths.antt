@@ -8,12 +8,12 @@ use native.Mathlib.Omega.{arith}
 use lib.ListN.{length, getD, take, length-append}
 use lib.Seq.{take-suc, take-all}
 use Rattle.weights.specs.declared.Measure.{Measure}
-use Rattle.weights.specs.declared.Measure.the-variants.{Cost, Days}
+use Rattle.weights.specs.declared.Measure.the-variants.{Cost, Days, Grade}
 use Rattle.weights.specs.Figures.{greatest, isStruckMark}
 use Rattle.columns.specs.Acceptance.{mostVertices}
 use Rattle.columns.proofs.Accepted.{below-at}
 use Rattle.text.specs.Tables.{Edge}
-use Rattle.text.specs.Render.{digits, default, sameMeasure, firstWord, word, measureText, header, markText, ownText, tailText, edgeText}
+use Rattle.text.specs.Render.{digits, firstWord, word, measureText, header, markText, ownText, tailText, edgeText}
 use Rattle.text.proofs.Digits.{pick-by, digits-one, digits-more, by-digits}
 use Rattle.text.specs.Rows.{EdgeFits}
 use Rattle.text.proofs.Sound.{tail-text-snoc}
@@ -88,19 +88,12 @@ tail-most vs f =
         let q : length (tailText (take (suc j) vs)) ≡ length (tailText (take (j + 1) vs)) = ap (λ (z : ℕ). length (tailText (take z vs))) (sym (add-one j)) in
         omega arith
 
--- the end of the first line, by whether the measure is the default
-pub default-end : (m : Measure) → sameMeasure m default ≡ true → measureText m ≡ 10 ∷ []
-unfolding measureText
-default-end m e = rw e
-
-pub named-end : (m : Measure) → sameMeasure m default ≡ false → measureText m ≡ word ++ 10 ∷ []
-unfolding measureText
-named-end m e = rw e
-
-pub measure-most : (m : Measure) → length (measureText m) ≤ 6
+-- the end of the first line
+pub measure-most : (m : Measure) → length (measureText m) ≤ 7
 unfolding measureText word
 measure-most Cost = omega arith
 measure-most Days = omega arith
+measure-most Grade = omega arith
 
 -- Lines --------------------------------------------------------------------------------------------------------------------------------------
 

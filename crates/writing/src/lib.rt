@@ -1,7 +1,8 @@
 // Measuring and writing the pieces of a text: a number, an own weight, a line, the first line. Each
 // piece is written from the start of the room that it is lent, and its width is returned.
-use text::WORD;
-use text::is_default;
+use text::COST;
+use text::DAYS;
+use text::GRADE;
 use weights::Mark;
 use weights::Measure;
 use weights::Vertex;
@@ -158,24 +159,26 @@ pub fn put_edge(room: &mut [u8], head: Vertex, own: Weight, mark: Mark, tail: &[
     at + width
 }
 
-// The end of the first line: nothing for the default measure, and the word for the other.
+// The end of the first line: the measure's word, and LF.
 fn measure_width(measure: Measure) -> usize
     ensures { λ r. ⌜ r ≡ length (measureText measure) ⌝ }
 {
-    if is_default(measure) {
-        return 1;
+    match measure {
+        Measure::Cost => COST.len(),
+        Measure::Days => DAYS.len(),
+        Measure::Grade => GRADE.len(),
     }
-    WORD.len()
 }
 
 fn put_measure(room: &mut [u8], measure: Measure) -> usize
     requires { ⌜ length (measureText measure) ≤ length (now room) ⌝ }
     ensures { λ r. ⌜ Written (measureText measure) (now (room .entry)) r (now (room .exit)) ⌝ }
 {
-    if is_default(measure) {
-        return put_bytes(room, b"\n");
+    match measure {
+        Measure::Cost => put_bytes(room, &COST),
+        Measure::Days => put_bytes(room, &DAYS),
+        Measure::Grade => put_bytes(room, &GRADE),
     }
-    put_bytes(room, &WORD)
 }
 
 pub fn header_width(n: u64, measure: Measure) -> usize

@@ -1,22 +1,20 @@
 -- `reading::first_line` meets its contract. Assumes nothing.
 use mathlib.Core.Path.{_≡_, sym, _∙_, ap, subst}
-use mathlib.Core.List.{List, _++_, [], _∷_}
+use mathlib.Core.List.{List}
 use Prim.Native.Nat.{ℕ, _+_, _≤_, _<_, max}
 use native.Mathlib.Omega.{arith}
 use borrow.Author.Needs.{needs}
-use lib.ListN.{length, getD, drop, length-drop}
-use Rattle.weights.specs.declared.Measure.{Measure}
+use lib.ListN.{length, getD}
 use Rattle.refusal.specs.declared.Refusal.{Refusal}
 use Rattle.columns.specs.Acceptance.{mostVertices}
-use Rattle.text.specs.Render.{word, firstWord}
-use Rattle.columns.proofs.Filled.{part-whole}
+use Rattle.text.specs.Render.{word, firstWord, measureText}
 use Rattle.cursor.specs.declared.Found.the-variants.{Number}
 use Rattle.cursor.specs.Cursor.{token, numberAt}
 use Rattle.cursor.proofs.Counts.{byte-within, number-counts, token-within}
 use Rattle.reading.specs.declared.FirstLine.the-variants as first
 use Rattle.reading.specs.Lines.{agreeing, Opening, Unopened, firstOf, onCount, onCounted, firstLine, refusedAt}
 use Rattle.reading.proofs.Scanning.{agrees-within}
-use Rattle.reading.proofs.Laws.{in-line, first-unopened, first-opened, count-silent, count-named, count-unnamed}
+use Rattle.reading.proofs.Laws.{in-line, first-unopened, first-opened, count-silent, count-unspaced, count-cost, count-grade}
 use Rattle.reading.proofs.first_line.Statement.{statement}
 use Rattle.reading.proofs.first_line.Tie as tie
 
@@ -85,60 +83,57 @@ add-start : tie.Need-add-start
 add-start c = let k = c .before .before in omega (arith, byte-within (text k) (behind k) 10 (ended c) (omega arith))
 
 returns-3 : tie.Need-returns-3
-returns-3 c =
-    let t = c .before in
-    let k = t .before .before in
-    ap (λ (m : Measure). first.Read (k .before .found .given .0 .0) m (behind k + 1)) (c .default-measure .ensures)
-    ∙ ap firstOf (count-silent _ _ _ _ _ (counted k) (ended t) ∙ opened (k .before .before .before .before))
-
-sub-agree : tie.Need-sub-agree
-sub-agree c = inside (c .before .before)
-
-part-agree-start : tie.Need-part-agree-start
-part-agree-start c = let h = inside (c .before .before) in search (needs, h)
-
--- the word, looked for in the part of the text behind the number
-named : (c : tie.After-agree2) → let k = c .before .before .before .before .before in c .agree2 .result ≡ agreeing (word ++ 10 ∷ []) (drop (behind k) (text k))
-unfolding word
-named c = let k = c .before .before .before .before .before in c .agree2 .ensures ∙ ap (agreeing (word ++ 10 ∷ [])) (part-whole (text k) (behind k))
-
--- what agrees stands in the text
-named-inside : (c : tie.After-agree2) → let k = c .before .before .before .before .before in behind k + c .agree2 .result ≤ length (text k)
-named-inside c =
-    let k = c .before .before .before .before .before in
-    let h = inside k in
-    let e = named c in
-    omega (arith, length-drop (behind k) (text k), agrees-within (word ++ 10 ∷ []) (drop (behind k) (text k)))
-
-add-place : tie.Need-add-place
-add-place c = omega (arith, named-inside (c .before))
+returns-3 c = let k = c .before .before in ap firstOf (count-silent _ _ _ _ _ (counted k) (ended c) ∙ opened (k .before .before .before .before))
 
 refused-at-requires-3 : tie.Need-refused-at-requires-3
 refused-at-requires-3 c κs =
-    let b = c .before .before .before .before .before .before .before .before .before .before .before .before .before .before in
-    let h = named-inside (c .before) in
+    let k = c .before .before .before in
+    let b = k .before .before .before .before .before .before .before .before in
+    let h = inside k in
     in-line (b .args .text .now) 0 _ (b .good .0 .1) (omega arith) (omega arith)
 
 returns-4 : tie.Need-returns-4
 returns-4 c =
     let t = c .before in
-    let e = t .before .before .before .before in
+    let e = t .before in
     let k = e .before .before in
-    let q = named (t .before) in
     refused _ _ _ (c .refused-at3 .ensures)
-    (ap (λ (j : ℕ). Unopened (behind k + j)) q
-    ∙ count-unnamed _ _ _ _ _ (counted k) (unended e) (subst (λ (j : ℕ). j < 6) q (t .if3 .taken)) ∙ opened (k .before .before .before .before))
+    (count-unspaced _ _ _ _ _ (counted k) (unended e) (λ z. t .if3 .taken (e .before .byte-at .ensures ∙ z)) ∙ opened (k .before .before .before .before))
 
-add-start-2 : tie.Need-add-start-2
-add-start-2 c = let h = c .if3 .left in omega (arith, named-inside (c .before))
+spaced : (c : tie.Else3) → let k = c .before .before .before in getD (text k) (behind k) 0 ≡ 32
+spaced c = sym (c .before .before .byte-at .ensures) ∙ c .if3 .left
 
+add-byte-at : tie.Need-add-byte-at
+add-byte-at c = let k = c .before .before .before in omega (arith, byte-within (text k) (behind k) 32 (spaced c) (omega arith))
+
+named-requires : tie.Need-named-requires
+named-requires c κs = let k = c .before .before .before .before .before .before in inside k
+
+-- the letter behind the space decides
 returns-5 : tie.Need-returns-5
+unfolding measureText word
 returns-5 c =
-    let t = c .before in
-    let e = t .before .before .before .before in
+    let t = c .before .before in
+    let l = t .before in
+    let x = l .before in
+    let e = x .before in
     let k = e .before .before in
-    ap (λ (m : Measure). first.Read (k .before .found .given .0 .0) m (behind k + 6)) (c .named-measure .ensures)
-    ∙ ap firstOf (count-named _ _ _ _ _ (counted k) (unended e) (subst (λ (j : ℕ). 6 ≤ j) (named (t .before)) (t .if3 .left)) ∙ opened (k .before .before .before .before))
+    c .named .ensures
+    ∙ ap firstOf (count-cost _ _ _ _ _ (counted k) (unended e) (spaced x) (sym (l .byte-at2 .ensures) ∙ t .if4 .taken) ∙ opened (k .before .before .before .before))
+
+named-requires-2 : tie.Need-named-requires-2
+named-requires-2 c κs = let k = c .before .before .before .before .before .before in inside k
+
+returns-6 : tie.Need-returns-6
+unfolding measureText word
+returns-6 c =
+    let t = c .before .before in
+    let l = t .before in
+    let x = l .before in
+    let e = x .before in
+    let k = e .before .before in
+    c .named2 .ensures
+    ∙ ap firstOf (count-grade _ _ _ _ _ (counted k) (unended e) (spaced x) (λ z. t .if4 .left (l .byte-at2 .ensures ∙ z)) ∙ opened (k .before .before .before .before))
 
 pub first-line-spec : {M : Type 1} → statement M
 first-line-spec =
@@ -156,16 +151,14 @@ first-line-spec =
     returns-2
     (λ c κs. search needs)
     add-start
-    (λ c κs. search needs)
     returns-3
-    sub-agree
-    part-agree-start
-    (λ c. search needs)
-    (λ c. search needs)
-    (λ c κs. search needs)
-    add-place
     refused-at-requires-3
     returns-4
-    add-start-2
+    add-byte-at
     (λ c κs. search needs)
-    returns-5)
+    (λ c. search needs)
+    named-requires
+    returns-5
+    (λ c. search needs)
+    named-requires-2
+    returns-6)

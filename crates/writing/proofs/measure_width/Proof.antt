@@ -1,21 +1,20 @@
--- `writing::measure_width` meets its contract. Assumes nothing.
-use mathlib.Core.Path.{sym, _∙_, ap}
+-- `writing::measure_width` meets its contract, measure by measure. Assumes nothing.
 use borrow.Author.Needs.{needs}
-use lib.ListN.{length}
-use Rattle.text.specs.Render.{word}
-use Rattle.writing.proofs.Widths.{default-end, named-end}
+use Rattle.text.specs.Render.{word, measureText}
 use Rattle.writing.proofs.measure_width.Statement.{statement}
 use Rattle.writing.proofs.measure_width.Tie as tie
 
-is-default-requires : tie.Need-is-default-requires
-is-default-requires c κs = search needs
-
 returns : tie.Need-returns
-returns c = ap length (sym (default-end _ (sym (c .before .is-default .ensures) ∙ c .if1 .taken)))
+unfolding measureText word
+returns c = rw (c .enum-told .given .1)
 
 returns-2 : tie.Need-returns-2
-unfolding word
-returns-2 c = ap length (sym (named-end _ (sym (c .before .is-default .ensures) ∙ c .if1 .left)))
+unfolding measureText word
+returns-2 c = rw (c .enum-told2 .given .1)
+
+returns-3 : tie.Need-returns-3
+unfolding measureText word
+returns-3 c = rw (c .enum-told3 .given .1)
 
 pub measure-width-spec : {M : Type 1} → statement M
-measure-width-spec = tie.close (tie.spec is-default-requires returns returns-2)
+measure-width-spec = tie.close (tie.spec (λ c. search needs) (λ c. search needs) (λ c. search needs) returns returns-2 returns-3)
