@@ -8,7 +8,7 @@ use native.Mathlib.Omega.{arith}
 use lib.ListN.{length, drop}
 use borrow.Author.Tests.{ltb-true}
 use Rattle.weights.specs.declared.Measure.{Measure}
-use Rattle.weights.specs.declared.Measure.the-variants.{Cost, Days}
+use Rattle.weights.specs.declared.Measure.the-variants.{Cost, Days, Grade}
 use Rattle.weights.specs.declared.Label.{Label}
 use Rattle.weights.specs.Measures.{algebra}
 use Rattle.weights.proofs.Laws.{lawful}
@@ -32,8 +32,8 @@ use Rattle.columns.proofs.Same.{entries-true}
 use Rattle.settle.specs.Settling.{entriesOf}
 use Rattle.settle.proofs.Demands.{answers-fixpoint}
 use Rattle.bill.specs.Billing.{billOf, partAcceptance, billAcceptance, outcome, billed}
-use Rattle.bill.specs.Listing.{amount}
-use Rattle.bill.proofs.Listing.{listing-nodes, listing-uses}
+use Rattle.bill.specs.Listing.{amount, leastOwn}
+use Rattle.bill.proofs.Listing.{listing-nodes, listing-uses, listing-least}
 use Rattle.bill.specs.Bills.{BillWorth, IsBill, Printed}
 
 -- a part whose bill can be asked for
@@ -65,6 +65,8 @@ bill-worth : (m : Measure) (c : Columns) {ls : ℕ → Label} {v : ℕ} {es : Li
 bill-worth Cost c fix lists t =
     ap (amount (ownAt c)) (lists (t .tree) (t .follows)) ∙ sym (cost-total (ownAt c) (t .tree)) ∙ supports (lawful Cost) fix (t .tree) (t .follows) .weighs
 bill-worth Days c fix lists t = λ u f. subst (Greatest (amount (ownAt c)) u) (supports (lawful Days) fix u f .weighs) (days-along (ownAt c) u)
+bill-worth Grade c fix lists t =
+    ap (leastOwn (ownAt c)) (lists (t .tree) (t .follows)) ∙ sym (listing-least (ownAt c) (t .tree)) ∙ supports (lawful Grade) fix (t .tree) (t .follows) .weighs
 
 module _ {m : Measure} {c : Columns} {a : Entries} {v : ℕ} (p : AcceptedPart m c a v) where
   bill-lists : (t : Derivation (hypergraph c) v) → Follows (labels (a .labels)) t → billOf c (a .labels) v ≡ listing t

@@ -1,8 +1,8 @@
 -- Counts of a make-up: its nodes, and how often a line stands in it. And what own figures along a list of lines come to. The paper's "Make-ups, figures, depth"
--- (Cost, Days), said of bills. Assumes nothing: these are definitions.
-use mathlib.Core.List.{List}
-use Prim.Native.Nat.{ℕ, _+_}
-use Rattle.weights.specs.Figures.{capped}
+-- (Cost, Days) and document 02's 2026-10 (grade), said of bills. Assumes nothing: these are definitions.
+use mathlib.Core.List.{List, [], _∷_}
+use Prim.Native.Nat.{ℕ, _+_, min, max}
+use Rattle.weights.specs.Figures.{greatest, capped}
 use Rattle.provenance.specs.Hypergraph.{Hypergraph, Derivation, Derivations, node, none, more}
 use Rattle.provenance.specs.Counting.{once, total}
 
@@ -28,3 +28,8 @@ module _ {H : Hypergraph} where
 -- what the own figures along a list of lines come to: their sum, capped
 abbrev pub amount : (own : ℕ → ℕ) → List ℕ → ℕ
 amount own es = capped (total own es)
+
+-- the least of them; of none, the greatest own figure
+unfoldable pub leastOwn : (own : ℕ → ℕ) → List ℕ → ℕ
+leastOwn own [] = greatest
+leastOwn own (e ∷ es) = min (own e) (leastOwn own es)

@@ -10,12 +10,12 @@ use lib.Seq.{append-snoc, drop-cons, drop-drop, drop-append-seam, getD-drop}
 use lib.Dec.{ltb, eqb}
 use borrow.Author.Tests.{lt-ltb, le-ltb, ltb-true, ltb-false, eqb-true, eq-eqb, ne-eqb}
 use Rattle.weights.specs.declared.Measure.{Measure}
-use Rattle.weights.specs.declared.Measure.the-variants.{Cost, Days}
+use Rattle.weights.specs.declared.Measure.the-variants.{Cost, Days, Grade}
 use Rattle.weights.specs.declared.Mark.{Mark}
 use Rattle.weights.specs.Figures.{greatest, standing, struckMark}
 use Rattle.weights.specs.Choice.{pick}
 use Rattle.columns.specs.Acceptance.{mostVertices}
-use Rattle.text.specs.Render.{digits, default, spoken, word, firstWord, measureText, header, markText, ownText}
+use Rattle.text.specs.Render.{digits, word, firstWord, measureText, header, markText, ownText}
 use Rattle.text.specs.Machine.{digitOf}
 use Rattle.text.proofs.Digits.{pick-by, digits-one, digits-more, by-digits, digit-byte, byte-digit}
 use Rattle.cursor.specs.declared.Found.{Found}
@@ -28,7 +28,7 @@ use Rattle.cursor.specs.declared.Separator.{Separator}
 use Rattle.cursor.specs.declared.Separator.the-variants.{Space, LineEnd, Neither}
 use Rattle.cursor.specs.Cursor.{token, digitsFrom, numberOf, numberAt, asWeight, weightToken, markedFrom, weightAt, separatorAt}
 use Rattle.cursor.proofs.Counts.{byte-within, number-counts}
-use Rattle.reading.specs.Lines.{agreeing, Opening, Opens, Unopened, onCount, onCounted, firstLine}
+use Rattle.reading.specs.Lines.{agreeing, Opening, Opens, Unopened, onNamed, onCount, onCounted, firstLine}
 
 -- Bytes ------------------------------------------------------------------------------------------------------------------------------------
 
@@ -43,6 +43,9 @@ byte-of : (s rest : List ℕ) (at : ℕ) → drop at s ≡ rest → getD s at 0 
 byte-of s rest at e =
     let q : at ≡ at + 0 = omega arith in
     ap (λ (k : ℕ). getD s k 0) q ∙ sym (getD-drop at s 0 0) ∙ ap (λ (l : List ℕ). getD l 0 0) e
+
+next-byte : (s rest : List ℕ) (at : ℕ) → drop at s ≡ rest → getD s (at + 1) 0 ≡ getD rest 1 0
+next-byte s rest at e = sym (getD-drop at s 1 0) ∙ ap (λ (l : List ℕ). getD l 1 0) e
 
 -- Separators -------------------------------------------------------------------------------------------------------------------------------
 
@@ -249,20 +252,23 @@ module _ (s : List ℕ) where
       ∙ ap (λ (l : List ℕ). firstWord ++ (digits n ++ l)) c
       ∙ sym (append-assoc (firstWord ++ digits n) (measureText m) (drop start s) ∙ append-assoc firstWord (digits n) (measureText m ++ drop start s))
 
-  -- behind the number of parts: LF, or the word and LF
-  named-text : (next : ℕ) → length (word ++ 10 ∷ []) ≤ agreeing (word ++ 10 ∷ []) (drop next s) → drop next s ≡ measureText spoken ++ drop (next + length (word ++ 10 ∷ [])) s
-  unfolding measureText
-  named-text next e = starts-text (word ++ 10 ∷ []) (drop next s) e ∙ ap (λ (l : List ℕ). (word ++ 10 ∷ []) ++ l) (drop-drop (length (word ++ 10 ∷ [])) next s)
+  -- behind the number of parts: LF, or a measure's word and LF
+  named-text : (n next : ℕ) (m : Measure) → n ≤ mostVertices → s ≡ firstWord ++ drop (length firstWord) s → drop (length firstWord) s ≡ digits n ++ drop next s → FirstText (onNamed s n m next)
+  named-text n next m l a b =
+      let w = measureText m in
+      pick-by FirstText (ltb (agreeing w (drop next s)) (length w)) (λ f. tt)
+      (λ f. (l, joined n next (next + length w) m a b (starts-text w (drop next s) (ltb-false _ _ f) ∙ ap (λ (t : List ℕ). w ++ t) (drop-drop (length w) next s))))
 
   count-text : (start next : ℕ) (F : Found) → numberAt s (length firstWord) (mostVertices + 1) ≡ token start next F → s ≡ firstWord ++ drop (length firstWord) s → FirstText (onCount s next F)
   count-text start next (Number n) e a =
-      let l = number-counts s (length firstWord) (mostVertices + 1) start next n e .0 in
+      let k = number-counts s (length firstWord) (mostVertices + 1) start next n e .0 in
+      let l : n ≤ mostVertices = omega arith in
       let b = number-text s (length firstWord) (mostVertices + 1) start next n e in
-      let W = agreeing (word ++ 10 ∷ []) (drop next s) in
       pick-by FirstText (eqb (getD s next 0) 10)
-      (λ q. (omega arith, joined n next (next + 1) default a b (unfold measureText in here s next 10 (eqb-true _ _ q) (omega arith))))
-      (λ q. pick-by FirstText (ltb W (length (word ++ 10 ∷ []))) (λ w. tt)
-      (λ w. (omega arith, joined n next (next + length (word ++ 10 ∷ [])) spoken a b (named-text next (ltb-false _ _ w)))))
+      (λ q. (l, joined n next (next + 1) Days a b (unfold measureText word in here s next 10 (eqb-true _ _ q) (omega arith))))
+      (λ _. pick-by FirstText (eqb (getD s next 0) 32)
+      (λ _. pick-by FirstText (eqb (getD s (next + 1) 0) 99) (λ _. named-text n next Cost l a b) (λ _. named-text n next Grade l a b))
+      (λ _. tt))
   count-text start next NotANumber e a = tt
 
   first-text-of : FirstText (firstLine s)
@@ -280,13 +286,18 @@ measure-stops : (m : Measure) (rest : List ℕ) → Stops (measureText m ++ rest
 unfolding measureText word digitOf
 measure-stops Cost rest = omega arith
 measure-stops Days rest = omega arith
+measure-stops Grade rest = omega arith
 
 count-found : (s rest : List ℕ) (n next : ℕ) (m : Measure) → drop next s ≡ measureText m ++ rest → onCount s next (Number n) ≡ Opens n m (next + length (measureText m))
-unfolding measureText
-count-found s rest n next Days e = rw (byte-of s (10 ∷ rest) next e)
+count-found s rest n next Days e = (unfold measureText word in rw (byte-of s (10 ∷ rest) next e))
 count-found s rest n next Cost e =
-    let b : getD s next 0 ≡ 32 = byte-of s ((word ++ 10 ∷ []) ++ rest) next e ∙ (unfold word in refl) in
-    rw (b, whole-word (word ++ 10 ∷ []) (drop next s) rest e)
+    let b : getD s next 0 ≡ 32 = byte-of s (measureText Cost ++ rest) next e ∙ (unfold measureText word in refl) in
+    let c : getD s (next + 1) 0 ≡ 99 = next-byte s (measureText Cost ++ rest) next e ∙ (unfold measureText word in refl) in
+    rw (b, c, whole-word (measureText Cost) (drop next s) rest e)
+count-found s rest n next Grade e =
+    let b : getD s next 0 ≡ 32 = byte-of s (measureText Grade ++ rest) next e ∙ (unfold measureText word in refl) in
+    let c : getD s (next + 1) 0 ≡ 103 = next-byte s (measureText Grade ++ rest) next e ∙ (unfold measureText word in refl) in
+    rw (b, c, whole-word (measureText Grade) (drop next s) rest e)
 
 pub first-found : (rest : List ℕ) (n : ℕ) (m : Measure) → n ≤ mostVertices → firstLine (header n m ++ rest) ≡ Opens n m (length (header n m))
 unfolding firstLine header

@@ -9,7 +9,7 @@ use lib.ListN.{length, set}
 use lib.Seq.{set-set, set-getD}
 use borrow.Author.Tests.{lt-ltb, le-leb}
 use Rattle.weights.specs.declared.Measure.{Measure}
-use Rattle.weights.specs.declared.Measure.the-variants.{Cost, Days}
+use Rattle.weights.specs.declared.Measure.the-variants.{Cost, Days, Grade}
 use Rattle.weights.specs.declared.State.the-variants as state
 use Rattle.weights.specs.declared.Label.{Label}
 use Rattle.weights.specs.Figures.{greatest, over, isStruckMark}
@@ -23,7 +23,7 @@ use Rattle.provenance.specs.Means.{Follows}
 use Rattle.columns.specs.Columns.{Entries, Columns, columns, ownAt, strikeAt, withOwn}
 use Rattle.provenance.proofs.Existence.{label-within}
 use Rattle.provenance.specs.Counting.{count, Raised}
-use Rattle.provenance.proofs.Sensitivity.{same-made, cost-rise, days-rise}
+use Rattle.provenance.proofs.Sensitivity.{same-made, cost-rise, days-rise, grade-rise}
 use Rattle.provenance.specs.Sensitivity.{MadeWithin}
 use Rattle.tables.specs.Table.{hypergraph}
 use Rattle.columns.specs.Acceptance.{acceptance}
@@ -78,6 +78,7 @@ rise-of : (m : Measure) {H : Hypergraph} {own own′ : ℕ → ℕ} {ls ls′ : 
     → Rise m d (ls v .weight .0) (ls′ v .weight .0) (count e (listing t)) (count e (listing t′))
 rise-of Cost fix fix′ r v k k′ t f t′ f′ = cost-rise fix fix′ (within Cost fix v k) (within Cost fix′ v k′) t t′ f f′ r
 rise-of Days fix fix′ r v k k′ t f t′ f′ = days-rise r fix fix′ v (within Days fix v k) (within Days fix′ v k′)
+rise-of Grade fix fix′ r v k k′ t f t′ f′ = grade-rise r fix fix′ v (within Grade fix v k .made)
 
 module _ (m : Measure) (c : Columns) (e d : ℕ) (p : Pair c (withOwn c e (ownAt c e + d)) e d) where
   abbrev new : Columns

@@ -1,14 +1,14 @@
 -- Demand 3, one statement about every two accepted tables that agree in n, in the measure and in all columns but one own figure, raised by d on a line that is
 -- unstruck in both: repricing that line carries the answers of either table to the other's; the same parts are unmade; and in cost every part that is made in both
--- rises by at least d × (how often the line stands in its new bill) and at most d × (how often in its old bill), in days by 0 to d. Assumes nothing: these are
--- definitions.
+-- rises by at least d × (how often the line stands in its new bill) and at most d × (how often in its old bill), in days and in grade by 0 to d. Assumes nothing:
+-- these are definitions.
 use mathlib.Core.Path.{_≡_}
 use mathlib.Core.Bool.{false}
 use mathlib.Core.Logic.{_↔_}
 use Prim.Native.Nat.{ℕ, _+_, _<_}
 use lib.ListN.{length}
 use Rattle.weights.specs.declared.Measure.{Measure}
-use Rattle.weights.specs.declared.Measure.the-variants.{Cost, Days}
+use Rattle.weights.specs.declared.Measure.the-variants.{Cost, Days, Grade}
 use Rattle.weights.specs.declared.State.{State}
 use Rattle.weights.specs.declared.State.the-variants.{Made, Unmade}
 use Rattle.weights.specs.declared.Label.{Label}
@@ -46,6 +46,7 @@ pub record Pair (c c′ : Columns) (e d : ℕ) : Type 0 where
 abbrev pub Rise : Measure → (d w w′ old new : ℕ) → Type 0
 Rise Cost d w w′ old new = CostRise d w w′ old new
 Rise Days d w w′ old new = DaysRise d w w′
+Rise Grade d w w′ old new = DaysRise d w w′
 
 -- no tree in it: settling either table and then repricing the line to the other's figure leaves what settling the other gives, and the same parts are unmade
 pub record Carries (m : Measure) (c c′ : Columns) (e : ℕ) : Type 0 where

@@ -5,9 +5,9 @@ use Prim.Native.Nat.{ℕ, _≤_}
 use native.Mathlib.Omega.{arith}
 use lib.ListN.{List·getD-eq-default}
 use Rattle.weights.specs.declared.Measure.{Measure}
-use Rattle.weights.specs.declared.Measure.the-variants.{Cost, Days}
+use Rattle.weights.specs.declared.Measure.the-variants.{Cost, Days, Grade}
 use Rattle.weights.specs.Measures.{algebra}
-use Rattle.weights.proofs.Laws.{lawful, cost-lawful, days-lawful}
+use Rattle.weights.proofs.Laws.{lawful, cost-lawful, days-lawful, grade-lawful}
 use Rattle.weights.specs.declared.Label.{Label}
 use Rattle.refusal.specs.declared.Acceptance.{Acceptance}
 use Rattle.refusal.specs.declared.Acceptance.the-variants.{Accepted, Refused}
@@ -22,7 +22,7 @@ use Rattle.provenance.proofs.Meaning.{meaning}
 use Rattle.columns.specs.Columns.{Sized, Entries, SizedEntries, Columns, cell, ownAt}
 use Rattle.provenance.specs.BestFirst.{labels}
 use Rattle.provenance.proofs.Existence.{exists, exists-sized, exists-shallow}
-use Rattle.provenance.proofs.Semirings.{cost-computes, days-weighs}
+use Rattle.provenance.proofs.Semirings.{cost-computes, days-weighs, grade-computes}
 use Rattle.provenance.proofs.Provenance.{provenance}
 use Rattle.provenance.proofs.BestWeight.{best-weight}
 use Rattle.tables.specs.Table.{hypergraph}
@@ -51,6 +51,7 @@ module _ (m : Measure) (c : Columns) (p : acceptance c ≡ Accepted) where
   fixpoint-worth : (k : Measure) {ls : ℕ → Label} → Fixpoint (algebra k) (hypergraph c) (ownAt c) ls → (v : ℕ) → Worth k c (ls v) v
   fixpoint-worth Cost fix v = provenance cost-computes (hypergraph c) (ownAt c) cost-lawful (well-formed c p) fix v
   fixpoint-worth Days fix v = best-weight days-weighs (hypergraph c) (ownAt c) days-lawful (well-formed c p) fix v
+  fixpoint-worth Grade fix v = provenance grade-computes (hypergraph c) (ownAt c) grade-lawful (well-formed c p) fix v
 
   pub answers-means : (v : ℕ) → Means (algebra m) (hypergraph c) (ownAt c) (labels (answersOf m c) v) v
   answers-means v = meaning (lawful m) answers-fixpoint v

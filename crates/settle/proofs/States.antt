@@ -1,20 +1,22 @@
--- A part is unmade exactly if it has no make-up, and over exactly if it has one and the plain sum of every one is above the ceiling, in either measure. Assumes
--- nothing.
+-- A part is unmade exactly if it has no make-up, and over exactly if it has one and the plain sum of every one is above the ceiling, in every measure. In grade none
+-- is. Assumes nothing.
 use mathlib.Core.Path.{_≡_, ap}
-use mathlib.Core.Logic.{_↔_}
+use mathlib.Core.Logic.{_↔_, _≢_}
 use Prim.Native.Nat.{ℕ, _≤_, _<_}
 use native.Mathlib.Omega.{arith}
+use native.Mathlib.Decide.{decLe}
 use Rattle.weights.specs.declared.Measure.{Measure}
-use Rattle.weights.specs.declared.Measure.the-variants.{Cost, Days}
+use Rattle.weights.specs.declared.Measure.the-variants.{Cost, Days, Grade}
 use Rattle.weights.specs.declared.State.the-variants.{Made, Over, Unmade}
 use Rattle.weights.specs.declared.Label.{Label}
-use Rattle.weights.specs.Figures.{over, capped}
+use Rattle.weights.specs.Figures.{greatest, ceiling, over, capped}
 use Rattle.weights.specs.Labels.{unmade, labelState}
-use Rattle.weights.proofs.Laws.{at-most}
-use Rattle.weights.specs.Measures.{Algebra, algebra}
+use Rattle.weights.proofs.Laws.{at-most, below-greatest, grade-lawful}
+use Rattle.weights.proofs.Weighing.{weigh-within}
+use Rattle.weights.specs.Measures.{Algebra, grade, algebra}
 use Rattle.weights.proofs.States.{unmade-state, over-state, made-state}
 use Rattle.refusal.specs.declared.Acceptance.the-variants.{Accepted}
-use Rattle.provenance.specs.Hypergraph.{Hypergraph, Derivation, node, weight, depth}
+use Rattle.provenance.specs.Hypergraph.{Hypergraph, Derivation, node, weight, weights, depth}
 use Rattle.provenance.specs.Means.{Means, Derivable, underivable, derivable}
 use Rattle.columns.specs.Columns.{Entries, Columns, ownAt}
 use Rattle.provenance.specs.BestFirst.{labels}
@@ -39,15 +41,29 @@ module _ {A : Algebra} {H : Hypergraph} {own : ℕ → ℕ} {l : Label} {v : ℕ
   made-deep (underivable q n) d = absurd (n d)
   made-deep (derivable k) d = omega (arith, deep (k .shown), k .deep)
 
--- the figure of a make-up is its plain sum, capped, and that of a label at most that
+-- a make-up's grade is at most the greatest own figure
+pub grade-most : {H : Hypergraph} (own : ℕ → ℕ) {v : ℕ} (t : Derivation H v) → weight grade own t ≤ greatest
+unfolding weight
+grade-most own (node e s h ds) = below-greatest (weigh-within grade-lawful (own e) (weights grade own ds))
+
+-- the figure of a make-up is its plain sum, capped, and a label is not over where a make-up's sum is at most the ceiling
 module _ {H : Hypergraph} (own : ℕ → ℕ) {v : ℕ} where
   weight-uncapped : (m : Measure) (t : Derivation H v) → weight (algebra m) own t ≡ capped (uncapped m own t)
   weight-uncapped Cost t = cost-total own t
   weight-uncapped Days t = days-total own t
+  weight-uncapped Grade t = omega (arith, grade-most own t)
 
-  least-sum : (m : Measure) {l : Label} → Derivable (algebra m) H own l v → (t : Derivation H v) → l .weight .0 ≤ capped (uncapped m own t)
-  least-sum Cost k t = omega (arith, at-most (k .best t), cost-total own t)
-  least-sum Days k t = omega (arith, at-most (k .best t), days-total own t)
+  not-over : (m : Measure) {l : Label} → Derivable (algebra m) H own l v → (t : Derivation H v) → uncapped m own t ≤ ceiling → l .weight .0 ≢ over
+  not-over Cost k t h e = omega (arith, at-most (k .best t), cost-total own t)
+  not-over Days k t h e = omega (arith, at-most (k .best t), days-total own t)
+  not-over Grade k t h e = omega (arith, k .weighs, grade-most own (k .shown))
+
+  over-dear : (m : Measure) {l : Label} → Derivable (algebra m) H own l v → l .weight .0 ≡ over → (t : Derivation H v) → ceiling < uncapped m own t
+  over-dear m k e t = go (decLe (uncapped m own t) ceiling)
+    where
+      go : Dec (uncapped m own t ≤ ceiling) → ceiling < uncapped m own t
+      go (yes h) = absurd (not-over m k t h e)
+      go (no n) = omega arith
 
 module _ (m : Measure) (c : Columns) (l : Label) (v : ℕ) where
   abbrev w : ℕ
@@ -79,11 +95,11 @@ module _ (m : Measure) (c : Columns) (l : Label) (v : ℕ) where
 
   means-made : Meant → Affordable m c v → labelState l ≡ Made
   means-made (underivable q n) b = absurd (n (b .shown))
-  means-made (derivable k) b = let h = least-sum (ownAt c) m k (b .shown) in made-state w d .1 (shown-deep k, λ e. omega (arith, b .low))
+  means-made (derivable k) b = made-state w d .1 (shown-deep k, not-over (ownAt c) m k (b .shown) (b .low))
 
   over-means : Meant → labelState l ≡ Over → Dear m c v
   over-means (underivable q n) e = absurd (omega (arith, over-state w d .0 e .0, blank-depth q))
-  over-means (derivable k) e = let o = over-state w d .0 e .1 in record { shown = k .shown; dear = λ t. omega (arith, o, least-sum (ownAt c) m k t) }
+  over-means (derivable k) e = record { shown = k .shown; dear = over-dear (ownAt c) m k (over-state w d .0 e .1) }
 
   means-over : Meant → Dear m c v → labelState l ≡ Over
   means-over (underivable q n) b = absurd (n (b .shown))
