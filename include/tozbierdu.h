@@ -41,10 +41,12 @@
 extern "C" {
 #endif
 
-/* Measures: a line's own figure plus the sum of its parts' figures, or the own figure plus the greatest
- * of them. A sum above the ceiling is over. */
+/* Measures: a line's own figure plus the sum of its parts' figures; the own figure plus the greatest of
+ * them; or, with the greatest as the best, the least of them all. A sum above the ceiling is over; in
+ * grade nothing is. */
 #define TOZBIERDU_COST UINT64_C(0)
 #define TOZBIERDU_DAYS UINT64_C(1)
+#define TOZBIERDU_GRADE UINT64_C(2)
 
 /* The greatest own figure, of struck lines too. */
 #define TOZBIERDU_GREATEST UINT64_C(1000000000)

@@ -9,7 +9,7 @@ use lib.ListN.{length, take}
 use lib.Dec.{eqb}
 use borrow.Author.Tests.{eqb-true}
 use Rattle.weights.specs.declared.Measure.{Measure}
-use Rattle.weights.specs.declared.Measure.the-variants.{Cost, Days}
+use Rattle.weights.specs.declared.Measure.the-variants.{Cost, Days, Grade}
 use Rattle.weights.specs.Choice.{pick}
 use Rattle.weights.proofs.Choice.{apart}
 use Rattle.weights.specs.Labels.{aheadOf}
@@ -82,12 +82,14 @@ answered (answer.Refused s) {r} e = let q : s ≡ r = cc in ap answer.Refused q
 
 -- a measure's number is refused by 16
 measure-number : (k : ℕ) {s : Refusal} → measureOf k ≡ choice.Refused s → numberOf s ≡ 16
-measure-number k = go (eqb k 0) (eqb k 1)
+measure-number k = go (eqb k 0) (eqb k 1) (eqb k 2)
   where
-    go : (a b : Bool) {s : Refusal} → pick a (choice.Measure Cost) (pick b (choice.Measure Days) (choice.Refused MeasureNumber)) ≡ choice.Refused s → numberOf s ≡ 16
-    go true b e = let z : _≡_ {A = ℕ} 0 1 = cc in absurd (omega arith)
-    go false true e = let z : _≡_ {A = ℕ} 0 1 = cc in absurd (omega arith)
-    go false false {s} e = let q : MeasureNumber ≡ s = cc in ap numberOf (sym q)
+    go : (a b d : Bool) {s : Refusal}
+        → pick a (choice.Measure Cost) (pick b (choice.Measure Days) (pick d (choice.Measure Grade) (choice.Refused MeasureNumber))) ≡ choice.Refused s → numberOf s ≡ 16
+    go true b d e = let z : _≡_ {A = ℕ} 0 1 = cc in absurd (omega arith)
+    go false true d e = let z : _≡_ {A = ℕ} 0 1 = cc in absurd (omega arith)
+    go false false true e = let z : _≡_ {A = ℕ} 0 1 = cc in absurd (omega arith)
+    go false false false {s} e = let q : MeasureNumber ≡ s = cc in ap numberOf (sym q)
 
 -- so a call whose other refusals are in the list, and 16, has none but those
 measured : (ns : List ℕ) (f : MeasureChoice → Extent) → among 16 ns ≡ true → ((s : Refusal) → f (choice.Refused s) ≡ Refused s)
@@ -204,7 +206,7 @@ settle-shown n s = record {
 }
 
 settle-all : All SettleReturns settleList
-settle-all = All.more (record { measure = 2; columns = single; answers = nothing; refused = record { refusal = MeasureNumber; returned = refl; number = refl } }) (all-map settle-shown shown)
+settle-all = All.more (record { measure = 3; columns = single; answers = nothing; refused = record { refusal = MeasureNumber; returned = refl; number = refl } }) (all-map settle-shown shown)
 
 -- "Refusals: 16, 1 to 7 and 21"
 pub settle-numbers : (n : ℕ) → SettleReturns n ↔ Among n settleList
@@ -239,7 +241,7 @@ reprice-late =
 
 reprice-all : All RepriceReturns repriceList
 reprice-all =
-    All.more (record { measure = 2; columns = single; answers = nothing; edge = 0; weight = 0; refused = record { refusal = MeasureNumber; returned = refl; number = refl } })
+    All.more (record { measure = 3; columns = single; answers = nothing; edge = 0; weight = 0; refused = record { refusal = MeasureNumber; returned = refl; number = refl } })
     (all-append (all-map reprice-shown shown) reprice-late)
 
 -- "Refusals: 16, 1 to 7 and 21, 9, 10, 8"
@@ -276,7 +278,7 @@ bill-late =
 
 bill-all : All BillReturns billList
 bill-all =
-    All.more (record { measure = 2; columns = single; answers = nothing; vertex = 0; room = []; refused = record { refusal = MeasureNumber; returned = refl; number = refl } })
+    All.more (record { measure = 3; columns = single; answers = nothing; vertex = 0; room = []; refused = record { refusal = MeasureNumber; returned = refl; number = refl } })
     (all-append (all-map bill-shown shown) bill-late)
 
 -- "Refusals: 16, 1 to 7 and 21, 11, 8, 12, 13"

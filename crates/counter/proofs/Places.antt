@@ -6,7 +6,7 @@ use Prim.Native.Nat.{ℕ, _≤_}
 use native.Mathlib.Omega.{arith}
 use lib.Dec.{eqb}
 use Rattle.weights.specs.declared.Measure.{Measure}
-use Rattle.weights.specs.declared.Measure.the-variants.{Cost, Days}
+use Rattle.weights.specs.declared.Measure.the-variants.{Cost, Days, Grade}
 use Rattle.weights.specs.Choice.{pick}
 use Rattle.refusal.specs.declared.Refusal.{Refusal}
 use Rattle.refusal.specs.declared.Refusal.the-variants.{MeasureNumber}
@@ -61,9 +61,11 @@ bill-place m c a v places {s} p = go (bill-refused-exactly m c a v places s .0 p
     go (WrongBill.room l h f d n) = omega arith
 
 pub measure-place : (k : ℕ) {s : Refusal} → measureOf k ≡ choice.Refused s → placeOf s ≤ lastPlace
-measure-place k = go (eqb k 0) (eqb k 1)
+measure-place k = go (eqb k 0) (eqb k 1) (eqb k 2)
   where
-    go : (a b : Bool) {s : Refusal} → pick a (choice.Measure Cost) (pick b (choice.Measure Days) (choice.Refused MeasureNumber)) ≡ choice.Refused s → placeOf s ≤ lastPlace
-    go true b e = let z : _≡_ {A = ℕ} 0 1 = cc in absurd (omega arith)
-    go false true e = let z : _≡_ {A = ℕ} 0 1 = cc in absurd (omega arith)
-    go false false {s} e = let q : MeasureNumber ≡ s = cc in subst (λ (u : Refusal). placeOf u ≤ lastPlace) q (omega arith)
+    go : (a b d : Bool) {s : Refusal}
+        → pick a (choice.Measure Cost) (pick b (choice.Measure Days) (pick d (choice.Measure Grade) (choice.Refused MeasureNumber))) ≡ choice.Refused s → placeOf s ≤ lastPlace
+    go true b d e = let z : _≡_ {A = ℕ} 0 1 = cc in absurd (omega arith)
+    go false true d e = let z : _≡_ {A = ℕ} 0 1 = cc in absurd (omega arith)
+    go false false true e = let z : _≡_ {A = ℕ} 0 1 = cc in absurd (omega arith)
+    go false false false {s} e = let q : MeasureNumber ≡ s = cc in subst (λ (u : Refusal). placeOf u ≤ lastPlace) q (omega arith)

@@ -1,7 +1,7 @@
 -- Every case of the paper's list holds: "Proved examples, gathered into one list that a single theorem about the definitions covers". Assumes nothing.
 use native.Mathlib.Omega.{arith}
 use mathlib.Core.Path.{refl}
-use Rattle.weights.specs.declared.Measure.the-variants.{Cost}
+use Rattle.weights.specs.declared.Measure.the-variants.{Cost, Grade}
 use Rattle.weights.specs.Measures.{fold, weigh}
 use Rattle.weights.specs.Labels.{aheadOf}
 use Rattle.provenance.specs.Labelling.{each, greatestDepth, noneZero, offerOf}
@@ -31,6 +31,13 @@ worked-pair = record { accepted = refl; accepted′ = refl; raised = refl; numbe
 worked-bounds : Demand3Billed Cost worked (withOwn worked 1 500) 1 200
 worked-bounds = demand-3-billed Cost worked (withOwn worked 1 500) 1 200 worked-pair
 
+grade-pair : Pair worked (withOwn worked 4 400) 4 400
+unfolding acceptance edgesAcceptance edgeAcceptance allBelow
+grade-pair = record { accepted = refl; accepted′ = refl; raised = refl; numbered = omega arith; unstruck = refl }
+
+grade-bounds : Demand3Billed Grade worked (withOwn worked 4 400) 4 400
+grade-bounds = demand-3-billed Grade worked (withOwn worked 4 400) 4 400 grade-pair
+
 pub every-case-holds : AllHold cases
 unfolding cases AllHold states settled billed repriced stricken restored answersOf entriesOf below piecesAt piece total billOf partAcceptance billAcceptance repriceAcceptance strikeAcceptance lineAcceptance restoreAcceptance struckAcceptance numberedAcceptance sameAnswers sameEntries equal lentAcceptance acceptance edgesAcceptance edgeAcceptance allBelow best-first turns turn next opening offerOf noneZero aheadOf weigh fold each greatestDepth bill bills count
 every-case-holds = (
@@ -57,7 +64,19 @@ every-case-holds = (
                       refl,
                       (
                         refl,
-                        tt,
+                        (
+                          record { outcome = refl; told = refl },
+                          (
+                            refl,
+                            (
+                              refl,
+                              (
+                                record { pair = grade-pair; before = refl; after = refl; old-count = refl; new-count = refl; bounds = grade-bounds .rises 3 refl refl },
+                                tt,
+                              ),
+                            ),
+                          ),
+                        ),
                       ),
                     ),
                   ),

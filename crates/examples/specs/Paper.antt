@@ -1,7 +1,7 @@
 -- The paper's examples P1 to P10 ("A table priced whole"; P10 in the columns of document 02, 2026-02) as one list, each by the call that it is about. Assumes nothing: these are definitions.
 use Prim.Native.Nat.{ℕ}
 use mathlib.Core.List.{List, [], _∷_}
-use Rattle.weights.specs.declared.Measure.the-variants.{Cost, Days}
+use Rattle.weights.specs.declared.Measure.the-variants.{Cost, Days, Grade}
 use Rattle.weights.specs.declared.State.the-variants.{Made, Over, Unmade}
 use Rattle.columns.specs.Columns.{Entries, Columns, columns, entries, withStrike}
 use Rattle.columns.specs.Worked.{worked}
@@ -58,4 +58,10 @@ cases =
     -- and restored: it stands at 1200, the figure that it kept, and the answers are those of P1
     ∷ restores Cost (withStrike worked 0 1) five 0 (0 ∷ 0 ∷ 0 ∷ 0 ∷ 0 ∷ 0 ∷ [])
     (entries (1200 ∷ 300 ∷ 2000 ∷ 2600 ∷ 0 ∷ []) (1 ∷ 1 ∷ 2 ∷ 3 ∷ 0 ∷ []) (0 ∷ 1 ∷ 2 ∷ 4 ∷ 0 ∷ []) (1 ∷ 1 ∷ 2 ∷ 4 ∷ 0 ∷ []))
+    -- in grade (document 02, 2026-10): part 2 takes the bought line, part 3 is as good as its line's own figure
+    ∷ settles Grade worked five (entries (1200 ∷ 300 ∷ 2100 ∷ 0 ∷ 0 ∷ []) (1 ∷ 1 ∷ 1 ∷ 2 ∷ 0 ∷ []) (0 ∷ 1 ∷ 3 ∷ 4 ∷ 0 ∷ []) (1 ∷ 1 ∷ 1 ∷ 3 ∷ 0 ∷ [])) (Made ∷ Made ∷ Made ∷ Made ∷ Unmade ∷ [])
+    -- line 4 raised from 0 to 250 lifts part 3 to 250, and to 400 lifts it to 300, the grade of part 1
+    ∷ reprices Grade worked five 4 250 (1200 ∷ 300 ∷ 500 ∷ 2100 ∷ 250 ∷ 10 ∷ []) (entries (1200 ∷ 300 ∷ 2100 ∷ 250 ∷ 0 ∷ []) (1 ∷ 1 ∷ 1 ∷ 2 ∷ 0 ∷ []) (0 ∷ 1 ∷ 3 ∷ 4 ∷ 0 ∷ []) (1 ∷ 1 ∷ 1 ∷ 3 ∷ 0 ∷ []))
+    ∷ reprices Grade worked five 4 400 (1200 ∷ 300 ∷ 500 ∷ 2100 ∷ 400 ∷ 10 ∷ []) (entries (1200 ∷ 300 ∷ 2100 ∷ 300 ∷ 0 ∷ []) (1 ∷ 1 ∷ 1 ∷ 2 ∷ 0 ∷ []) (0 ∷ 1 ∷ 3 ∷ 4 ∷ 0 ∷ []) (1 ∷ 1 ∷ 1 ∷ 3 ∷ 0 ∷ []))
+    ∷ raises Grade worked 4 400 3 0 300 1 1
     ∷ []

@@ -4,7 +4,7 @@ use mathlib.Core.List.{List, [], _∷_}
 use lib.ListN.{length}
 use lib.Dec.{eqb}
 use Rattle.weights.specs.declared.Measure as measures
-use Rattle.weights.specs.declared.Measure.the-variants.{Cost, Days}
+use Rattle.weights.specs.declared.Measure.the-variants.{Cost, Days, Grade}
 use Rattle.weights.specs.declared.State.{State}
 use Rattle.weights.specs.declared.State.the-variants.{Made, Over, Unmade}
 use Rattle.weights.specs.declared.Entry.{Entry}
@@ -68,6 +68,7 @@ entryWritten e room = pick (eqb (length room) 4) (e .weight .0 ∷ e .depth ∷ 
 abbrev pub measureNumber : measures.Measure → ℕ
 measureNumber Cost = 0
 measureNumber Days = 1
+measureNumber Grade = 2
 
 abbrev pub headerWritten : Header → List ℕ → List ℕ
 headerWritten h room = pick (eqb (length room) 4) (h .vertices ∷ measureNumber (h .measure) ∷ h .edges ∷ h .listed ∷ []) room

@@ -223,6 +223,7 @@ fn measure_number(measure: Measure) -> u64
     match measure {
         Measure::Cost => 0,
         Measure::Days => 1,
+        Measure::Grade => 2,
     }
 }
 

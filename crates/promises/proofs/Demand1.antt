@@ -13,7 +13,7 @@ use native.Mathlib.Omega.{arith}
 use lib.ListN.{length, set, take, drop}
 use borrow.Author.Tests.{ne-eqb}
 use Rattle.weights.specs.declared.Measure.{Measure}
-use Rattle.weights.specs.declared.Measure.the-variants.{Cost, Days}
+use Rattle.weights.specs.declared.Measure.the-variants.{Cost, Days, Grade}
 use Rattle.weights.specs.Figures.{struckMark}
 use Rattle.weights.specs.Labels.{unmade, entryOf}
 use Rattle.refusal.specs.declared.Refusal.{Refusal}
@@ -160,9 +160,10 @@ codes = codes-differ
 
 -- The counter programs in C: settle, reprice and bill ---------------------------------------------------------------------------------------------------------------
 
--- "16: measure number from C not 0 (cost) or 1 (days)", tried before all others
-pub measure-numbers : (measureOf 0 ≡ choice.Measure Cost) × (measureOf 1 ≡ choice.Measure Days) × ((k : ℕ) → 1 < k → measureOf k ≡ choice.Refused MeasureNumber)
-measure-numbers = (refl, refl, λ k h. rw (ne-eqb k 0 (λ q. absurd (omega arith)), ne-eqb k 1 (λ q. absurd (omega arith))) refl)
+-- "16: measure number from C not 0 (cost) or 1 (days)", or by document 02, 2026-10, 2 (grade), tried before all others
+pub measure-numbers : (measureOf 0 ≡ choice.Measure Cost) × (measureOf 1 ≡ choice.Measure Days) × (measureOf 2 ≡ choice.Measure Grade)
+    × ((k : ℕ) → 2 < k → measureOf k ≡ choice.Refused MeasureNumber)
+measure-numbers = (refl, refl, refl, λ k h. rw (ne-eqb k 0 (λ q. absurd (omega arith)), ne-eqb k 1 (λ q. absurd (omega arith)), ne-eqb k 2 (λ q. absurd (omega arith))) refl)
 
 -- "It gets one unsigned 64-bit number: on acceptance 0, for a bill its length; on a refusal the refusal's number times 4,294,967,296, plus the place"
 module _ (m : Measure) (c : Columns) (a : Entries) where

@@ -6,7 +6,7 @@ use mathlib.Core.List.{List}
 use Prim.Native.Nat.{ℕ, _≤_}
 use native.Mathlib.Omega.{arith}
 use Rattle.weights.specs.declared.Measure.{Measure}
-use Rattle.weights.specs.declared.Measure.the-variants.{Cost, Days}
+use Rattle.weights.specs.declared.Measure.the-variants.{Cost, Days, Grade}
 use Rattle.weights.specs.declared.Label.{Label}
 use Rattle.weights.specs.Measures.{algebra}
 use Rattle.weights.specs.Labels.{unmade}
@@ -30,11 +30,11 @@ use Rattle.settle.specs.Checking.{checked}
 use Rattle.settle.specs.Demands.{Worth}
 use Rattle.settle.specs.Defined.{AllMean}
 use Rattle.settle.specs.States.{StateMeans}
-use Rattle.settle.specs.Worth.{CostMeans, DaysMeans}
+use Rattle.settle.specs.Worth.{CostMeans, DaysMeans, GradeMeans}
 use Rattle.settle.proofs.Demands.{entries-mean, entries-sized, settled-left, settled-result, demand-2, yes-only}
 use Rattle.settle.proofs.Exactly.{demand-entry, yes-exactly, no-exactly}
 use Rattle.settle.proofs.States.{made-deep, settled-state}
-use Rattle.settle.proofs.Worth.{cost-provenance, days-best-weight}
+use Rattle.settle.proofs.Worth.{cost-provenance, days-best-weight, grade-provenance}
 use Rattle.settle.proofs.Gaps.{gaps-settled, gaps-checked}
 
 -- What settling leaves -----------------------------------------------------------------------------------------------------------------------------------------------
@@ -90,8 +90,8 @@ module _ (m : Measure) (c : Columns) (a : Entries) (h : settled m c a .result �
       go (underivable e n) = e
       go (derivable x) = absurd (omega (arith, made-deep (entry-means v) (x .shown)))
 
-  -- The source: in cost the figure is Definition 5's provenance, the sum over all derivations of the product over leaves; in days it is Definition 10's best weight, the
-  -- sum over all derivations of their weights; both up to the ceiling, and unmade is the empty sum
+  -- The source: in cost and grade the figure is Definition 5's provenance, the sum over all derivations of the product over leaves; in days it is Definition 10's best
+  -- weight, the sum over all derivations of their weights; cost and days up to the ceiling, and unmade is the empty sum
   pub entry-worth : (v : ℕ) → Worth m c (labels (settled m c a .left .labels) v) v
   entry-worth v = demand-2 m c a h v .worth
 
@@ -101,6 +101,10 @@ cost-worth = cost-provenance
 
 pub days-worth : (c : Columns) (a : Entries) → settled Days c a .result ≡ Accepted → (v : ℕ) → DaysMeans c (labels (settled Days c a .left .labels) v) v
 days-worth = days-best-weight
+
+-- of grade in the semiring of grades
+pub grade-worth : (c : Columns) (a : Entries) → settled Grade c a .result ≡ Accepted → (v : ℕ) → GradeMeans c (labels (settled Grade c a .left .labels) v) v
+grade-worth = grade-provenance
 
 -- The answer check ---------------------------------------------------------------------------------------------------------------------------------------------------
 

@@ -4,7 +4,7 @@ use mathlib.Core.Path.{_≡_}
 use mathlib.Core.Logic.{_↔_}
 use Prim.Native.Nat.{ℕ, _+_, _*_, _≤_}
 use Rattle.weights.specs.declared.Measure.{Measure}
-use Rattle.weights.specs.declared.Measure.the-variants.{Cost, Days}
+use Rattle.weights.specs.declared.Measure.the-variants.{Cost, Days, Grade}
 use Rattle.weights.specs.declared.State.the-variants.{Made, Unmade}
 use Rattle.refusal.specs.declared.Acceptance.the-variants.{Accepted}
 use Rattle.columns.specs.Columns.{Entries, Columns, ownAt, withOwn}
@@ -53,6 +53,13 @@ module _ (c c′ : Columns) (e d : ℕ) (p : Pair c c′ e d) where
       let new = labelsOf Days c′ v .weight .0 in
       (old ≤ new) × (new ≤ old + d)
   days-rises v s s′ = let r = demand-3-billed Days c c′ e d p .rises v s s′ in (r .least, r .most)
+
+  -- and in grade
+  pub grade-rises : (v : ℕ) → stateIn Grade c v ≡ Made → stateIn Grade c′ v ≡ Made →
+      let old = labelsOf Grade c v .weight .0 in
+      let new = labelsOf Grade c′ v .weight .0 in
+      (old ≤ new) × (new ≤ old + d)
+  grade-rises v s s′ = let r = demand-3-billed Grade c c′ e d p .rises v s s′ in (r .least, r .most)
 
 -- the worked table and that of P3 are such a pair
 pub worked-tables : Pair worked (withOwn worked 1 500) 1 200

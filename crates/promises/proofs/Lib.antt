@@ -13,3 +13,4 @@ pub mod Request06
 pub mod Request07
 pub mod Request08
 pub mod Request09
+pub mod Request10

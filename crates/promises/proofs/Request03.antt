@@ -15,7 +15,7 @@ use Rattle.columns.specs.Worked.{worked}
 use Rattle.columns.specs.Right.{RightTable}
 use Rattle.columns.proofs.Exactly.{accepted-exactly}
 use Rattle.semiring.specs.Semiring.{Extended, finite, extend, product}
-use Rattle.semiring.proofs.Semiring.{bottleneck}
+use Rattle.semiring.proofs.Chain.{bottleneck}
 use Rattle.provenance.specs.Hypergraph.{Hypergraph, Stands, Derivation, Derivations, node, weight, weights}
 use Rattle.provenance.specs.Labelling.{greatestDepth as greatestOf}
 use Rattle.provenance.specs.Means.{Follows}
@@ -50,7 +50,7 @@ module _ {H : Hypergraph} (own : ℕ → ℕ) {v : ℕ} where
   days-come-to = days-along own
 
 -- "The meaning of days, in demand 2 too, now rests on Definition 7's weight function": a line's is its own figure added to the product, which is the greatest, of the weights
--- of its parts in the bottleneck semiring; and a part's figure is its best weight, up to the ceiling, in either measure; in days that is what demand 2 says
+-- of its parts in the bottleneck semiring; and a part's figure is its best weight, up to the ceiling, in every measure; in days that is what demand 2 says
 pub days-weight-function : (own : ℕ) (xs : List Extended) → days-weighs .function own xs ≡ extend _+_ (finite own) (product bottleneck xs)
 days-weight-function own xs = refl
 

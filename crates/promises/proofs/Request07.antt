@@ -9,7 +9,7 @@ use Rattle.refusal.specs.declared.Reading.the-variants as reading
 use Rattle.text.specs.Tables.{Table, listedInAll}
 use Rattle.text.specs.Render.{digits, word, firstWord, measureText, header, Permitted}
 use Rattle.text.specs.Worked.{costText}
-use Rattle.text.specs.Machine.{limit, lineAt, digitOf, grown, instead, after, spell, ended, step, run, Whole, finish, parse}
+use Rattle.text.specs.Machine.{limit, lineAt, digitOf, grown, instead, after, spell, named, ended, step, run, Whole, finish, parse}
 use Rattle.text.specs.Bytes.{survived, columnFrom, columnOf, FirstByte}
 use Rattle.text.proofs.Permitted.{wrong-unpermitted}
 use Rattle.text.proofs.Bytes.{wrong-byte}
@@ -35,38 +35,38 @@ five m = record { vertices = 5; measure = m; edges = [] }
 
 -- "`parts 5` shall mean days": as the machine reads it, and what the call returns
 pub five-in-days : parse fiveUnnamed ≡ Whole (five Days)
-unfolding word firstWord listedInAll limit lineAt digitOf grown instead after spell ended step run finish parse
+unfolding firstWord listedInAll limit lineAt digitOf grown instead after spell named ended step run finish parse
 five-in-days = refl
 
 pub days-returned : readTable fiveUnnamed [] [] [] [] [] .answer ≡ reading.Table (record { vertices = 5; measure = Days; edges = 0; listed = 0 })
-unfolding word firstWord listedInAll limit lineAt digitOf grown instead after spell ended step run finish parse roomFor readInto
+unfolding firstWord listedInAll limit lineAt digitOf grown instead after spell named ended step run finish parse roomFor readInto
 days-returned = refl
 
 -- "`parts 5 cost` means cost"
 pub five-in-cost : parse fiveCost ≡ Whole (five Cost)
-unfolding word firstWord listedInAll limit lineAt digitOf grown instead after spell ended step run finish parse
+unfolding firstWord listedInAll limit lineAt digitOf grown instead after spell named ended step run finish parse
 five-in-cost = refl
 
 pub cost-returned : readTable fiveCost [] [] [] [] [] .answer ≡ reading.Table (record { vertices = 5; measure = Cost; edges = 0; listed = 0 })
-unfolding word firstWord listedInAll limit lineAt digitOf grown instead after spell ended step run finish parse roomFor readInto
+unfolding firstWord listedInAll limit lineAt digitOf grown instead after spell named ended step run finish parse roomFor readInto
 cost-returned = refl
 
 -- "and `parts 5 days` is refused": "14 also for `days` written out", at its `d`
 pub days-unnamed : ¬ Permitted fiveDays
-unfolding word firstWord limit lineAt digitOf grown spell ended step run finish parse
+unfolding firstWord limit lineAt digitOf grown spell named ended step run finish parse
 days-unnamed = wrong-unpermitted fiveDays 1 refl
 
 pub days-refused-at : FirstByte fiveDays 1 9
-unfolding columnOf columnFrom survived word firstWord limit lineAt digitOf grown spell ended step run finish parse
+unfolding columnOf columnFrom survived firstWord limit lineAt digitOf grown spell named ended step run finish parse
 days-refused-at = wrong-byte fiveDays 1 refl
 
 pub days-refused : readTable fiveDays [] [] [] [] [] .answer ≡ reading.Refused (Text (record { 0 = 1 }) (record { 0 = 9 }))
-unfolding columnOf columnFrom survived word firstWord limit lineAt digitOf grown spell ended step run finish parse readInto
+unfolding columnOf columnFrom survived firstWord limit lineAt digitOf grown spell named ended step run finish parse readInto
 days-refused = refl
 
 -- "The writer … must change with it": the first line of n parts, in days and in cost
 pub days-written : (n : ℕ) → header n Days ≡ (firstWord ++ digits n) ++ 10 ∷ []
-unfolding header measureText
+unfolding header measureText word
 days-written n = refl
 
 pub cost-written : (n : ℕ) → header n Cost ≡ (firstWord ++ digits n) ++ 32 ∷ 99 ∷ 111 ∷ 115 ∷ 116 ∷ 10 ∷ []
@@ -77,4 +77,4 @@ cost-written n = refl
 pub example-prints : report costText ≡ costList
 example-prints = worked-cost
 
--- "Reading and writing are again shown to undo each other": `read-after-write` and `write-after-read` (roundtrip/proofs/RoundTrip), of either measure
+-- "Reading and writing are again shown to undo each other": `read-after-write` and `write-after-read` (roundtrip/proofs/RoundTrip), of every measure

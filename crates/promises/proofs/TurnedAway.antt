@@ -30,7 +30,7 @@ use Rattle.bill.specs.Billing.{billOf, partAcceptance, billAcceptance, billed}
 use Rattle.text.specs.Tables.{listedInAll}
 use Rattle.text.specs.Render.{word, firstWord, Permitted}
 use Rattle.text.specs.Worked.{costText}
-use Rattle.text.specs.Machine.{limit, lineAt, digitOf, grown, instead, after, spell, ended, step, run, finish, parse}
+use Rattle.text.specs.Machine.{limit, lineAt, digitOf, grown, instead, after, spell, named, ended, step, run, finish, parse}
 use Rattle.text.specs.Bytes.{survived, columnFrom, columnOf}
 use Rattle.text.proofs.Permitted.{wrong-unpermitted}
 use Rattle.readtable.specs.Read.{roomFor, readInto, readTable}
@@ -116,22 +116,22 @@ unfolding run finish parse survived columnFrom columnOf readInto
 refusal-14 = refl
 
 -- "`parts 5 days` is refused" (document 02, 2026-07)
-pub default-unnamed : ¬ Permitted (112 ∷ 97 ∷ 114 ∷ 116 ∷ 115 ∷ 32 ∷ 53 ∷ 32 ∷ 100 ∷ 97 ∷ 121 ∷ 115 ∷ 10 ∷ [])
-unfolding word firstWord limit lineAt digitOf grown spell ended step run finish parse
-default-unnamed = wrong-unpermitted _ 1 refl
+pub days-unnamed : ¬ Permitted (112 ∷ 97 ∷ 114 ∷ 116 ∷ 115 ∷ 32 ∷ 53 ∷ 32 ∷ 100 ∷ 97 ∷ 121 ∷ 115 ∷ 10 ∷ [])
+unfolding firstWord limit lineAt digitOf grown spell named ended step run finish parse
+days-unnamed = wrong-unpermitted _ 1 refl
 
 -- "the number 1000000001 is refused": `parts 1`, then `0 1000000001`
 pub mark-unnumbered : ¬ Permitted (112 ∷ 97 ∷ 114 ∷ 116 ∷ 115 ∷ 32 ∷ 49 ∷ 10 ∷ 48 ∷ 32 ∷ 49 ∷ 48 ∷ 48 ∷ 48 ∷ 48 ∷ 48 ∷ 48 ∷ 48 ∷ 48 ∷ 49 ∷ 10 ∷ [])
-unfolding word firstWord limit lineAt digitOf grown instead after spell ended step run finish parse
+unfolding firstWord limit lineAt digitOf grown instead after spell named ended step run finish parse
 mark-unnumbered = wrong-unpermitted _ 2 refl
 
 -- "6 lines, 5 heads": the worked text
 pub refusal-15 : let z = replicate {A = ℕ} 6 0 in readTable costText (replicate 5 0) z z (replicate 12 0) z .answer ≡ reading.Refused TextRoom
-unfolding costText word firstWord listedInAll limit lineAt digitOf grown instead after spell ended step run finish parse roomFor readInto
+unfolding costText firstWord listedInAll limit lineAt digitOf grown instead after spell named ended step run finish parse roomFor readInto
 refusal-15 = refl
 
--- "2"
-pub refusal-16 : measureOf 2 ≡ choice.Refused MeasureNumber
+-- "16 from 3 upward" (document 02, 2026-10)
+pub refusal-16 : measureOf 3 ≡ choice.Refused MeasureNumber
 refusal-16 = refl
 
 -- "65,536 bytes", whatever they are: "The program: 17 first"
@@ -150,5 +150,5 @@ refusal-21 = refl
 
 -- "a bare `-` is refused": `parts 1`, then `0 -`
 pub bare-dash : ¬ Permitted (112 ∷ 97 ∷ 114 ∷ 116 ∷ 115 ∷ 32 ∷ 49 ∷ 10 ∷ 48 ∷ 32 ∷ 45 ∷ 10 ∷ [])
-unfolding word firstWord limit lineAt digitOf grown instead after spell ended step run finish parse
+unfolding firstWord limit lineAt digitOf grown instead after spell named ended step run finish parse
 bare-dash = wrong-unpermitted _ 2 refl

@@ -85,7 +85,7 @@ width-13 v h = width-below 12 v h
 -- The answers of a table -----------------------------------------------------------------------------------------------------------------------
 
 module _ (c : Columns) where
-  -- in either measure a make-up's figure is at most "over"
+  -- in every measure a make-up's figure is at most "over"
   weight-most : (m : Measure) {v : ℕ} (d : Derivation (hypergraph c) v) → weight (algebra m) (ownAt c) d ≤ over
   unfolding weight
   weight-most m (node e s h ds) = below-over m (weigh-within (lawful m) (ownAt c e) (weights (algebra m) (ownAt c) ds))

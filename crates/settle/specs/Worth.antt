@@ -9,7 +9,7 @@ use Rattle.semiring.specs.Datalog.{Provenance, BestWeight}
 use Rattle.weights.specs.declared.Label.{Label}
 use Rattle.weights.specs.declared.State.the-variants.{Over}
 use Rattle.weights.specs.Figures.{greatest, ceiling, over}
-use Rattle.weights.specs.Labels.{entryOf}
+use Rattle.weights.specs.Labels.{labelState}
 use Rattle.weights.specs.Measures.{grade}
 use Rattle.provenance.specs.Hypergraph.{Derivation, weight}
 use Rattle.provenance.specs.Labelling.{Made}
@@ -61,4 +61,4 @@ pub record GreatestGrade (c : Columns) (l : Label) (v : ℕ) : Type 0 where
 -- "nothing goes over"
 pub record NeverOver (l : Label) : Type 0 where
   pub low : l .weight .0 ≤ greatest
-  pub state : entryOf l .state ≢ Over
+  pub state : labelState l ≢ Over
