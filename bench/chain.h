@@ -17,7 +17,7 @@ static uint64_t check(struct view *t, uint64_t measure, uint64_t n, TABLE_COLUMN
     uint64_t result;
 
     (void)figures, (void)depths, (void)lines, (void)pieces;
-    if (measure > TOZBIERDU_DAYS)
+    if (measure > TOZBIERDU_GRADE)
         return REFUSED(TOZBIERDU_REFUSED_MEASURE, 0);
     if (n > TOZBIERDU_MOST_PARTS)
         return REFUSED(TOZBIERDU_REFUSED_PARTS, 0);

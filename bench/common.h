@@ -48,15 +48,21 @@ static inline uint64_t first_refusal(const struct view *t)
     return 0;
 }
 
-/* A label in one number, ordered as labels are: by figure, then depth (11 bits), then line (12 bits). */
-static inline uint64_t key(uint64_t figure, uint64_t depth, uint64_t line)
+/* A figure's place in the measure's order, and the figure of a place: in grade the greatest is first. */
+static inline uint64_t rank(uint64_t measure, uint64_t figure)
 {
-    return figure << 23 | depth << 12 | line;
+    return measure == TOZBIERDU_GRADE ? (UINT64_C(1) << 40) - 1 - figure : figure;
 }
 
-static inline uint64_t figure_of(uint64_t key)
+/* A label in one number, ordered as labels are: by figure, then depth (11 bits), then line (12 bits). */
+static inline uint64_t key(uint64_t measure, uint64_t figure, uint64_t depth, uint64_t line)
 {
-    return key >> 23;
+    return rank(measure, figure) << 23 | depth << 12 | line;
+}
+
+static inline uint64_t figure_of(uint64_t measure, uint64_t key)
+{
+    return rank(measure, key >> 23);
 }
 
 static inline uint64_t depth_of(uint64_t key)
@@ -76,12 +82,25 @@ static inline uint64_t line_of(uint64_t key)
  * own figure and 16 others stay below 2^45. */
 static inline uint64_t join(uint64_t measure, uint64_t a, uint64_t b)
 {
+    if (measure == TOZBIERDU_GRADE)
+        return lesser(a, b);
     return measure == TOZBIERDU_DAYS ? greater(a, b) : a + b;
+}
+
+/* What no part joins to. */
+static inline uint64_t unit(uint64_t measure)
+{
+    return measure == TOZBIERDU_GRADE ? TOZBIERDU_GREATEST : 0;
 }
 
 static inline uint64_t capped(uint64_t figure)
 {
     return lesser(figure, TOZBIERDU_OVER);
+}
+
+static inline uint64_t finish(uint64_t measure, uint64_t own, uint64_t joined)
+{
+    return measure == TOZBIERDU_GRADE ? lesser(own, joined) : capped(own + joined);
 }
 
 /*

@@ -1,8 +1,8 @@
 /*
  * The library's calls beside the same written by hand in C, in one process: medians of many runs, in
  * microseconds; a row has a table's kind, its parts, and for each call the figures of the library, of
- * plain C and of the strongest C. Results are compared first. Arguments: [cost | days], or `once` KIND
- * N, which makes each call once and compares, for a tool that counts instructions.
+ * plain C and of the strongest C. Results are compared first. Arguments: [cost | days | grade], or `once` KIND
+ * N MEASURE, which makes each call once and compares, for a tool that counts instructions.
  */
 #include <stdio.h>
 #include <stdlib.h>
@@ -173,7 +173,14 @@ static void row(uint64_t measure, int kind, uint64_t n)
     fflush(stdout);
 }
 
-static int once(const char *kind, uint64_t n)
+static uint64_t measure_of(const char *word)
+{
+    if (strcmp(word, "grade") == 0)
+        return TOZBIERDU_GRADE;
+    return strcmp(word, "days") == 0 ? TOZBIERDU_DAYS : TOZBIERDU_COST;
+}
+
+static int once(const char *kind, uint64_t n, uint64_t measure)
 {
     static struct job jobs[MAKERS];
     int k, which, i;
@@ -183,7 +190,7 @@ static int once(const char *kind, uint64_t n)
     if (k == KINDS)
         return 2;
     for (i = 0; i < MAKERS; i++)
-        make_table(&jobs[i].t, k, n);
+        make_table(&jobs[i].t, k, n), jobs[i].measure = measure;
     for (which = 0; which < CALLS; which++) {
         if (!agree_on(which, jobs))
             disagreed(k, n);
@@ -196,12 +203,12 @@ static int once(const char *kind, uint64_t n)
 int main(int count, char **given)
 {
     static const uint64_t sizes[] = { 16, 64, 256, 1024 };
-    uint64_t measure = count > 1 && strcmp(given[1], "days") == 0 ? TOZBIERDU_DAYS : TOZBIERDU_COST;
+    uint64_t measure = measure_of(count > 1 ? given[1] : "cost");
     int kind;
     size_t i;
 
-    if (count == 4 && strcmp(given[1], "once") == 0)
-        return once(given[2], strtoull(given[3], NULL, 10));
+    if (count == 5 && strcmp(given[1], "once") == 0)
+        return once(given[2], strtoull(given[3], NULL, 10), measure_of(given[4]));
     for (kind = 0; kind < KINDS; kind++)
         for (i = 0; i < sizeof sizes / sizeof *sizes; i++)
             row(measure, kind, sizes[i]);

@@ -80,7 +80,7 @@ static inline void wait_at(struct search *s, const struct view *t, uint64_t line
 }
 
 /* Each line that is not struck waits for the first part that it needs; if it needs none it is queued. */
-static void start(struct search *s, const struct view *t)
+static void start(struct search *s, const struct view *t, uint64_t measure)
 {
     uint64_t line;
 
@@ -91,9 +91,9 @@ static void start(struct search *s, const struct view *t)
         if (t->strikes[line] == TOZBIERDU_STRIKE)
             continue;
         if (t->spans[2 * line + 1] == 0)
-            lower(&s->queue, t->heads[line], key(own, 1, line));
+            lower(&s->queue, t->heads[line], key(measure, own, 1, line));
         else
-            wait_at(s, t, line, t->spans[2 * line], 0, 0);
+            wait_at(s, t, line, t->spans[2 * line], unit(measure), 0);
     }
 }
 
@@ -113,7 +113,7 @@ static void go_on(struct search *s, const struct view *t, uint64_t measure, uint
         joined = join(measure, joined, figures[part]);
         deepest = greater(deepest, depths[part]);
     }
-    lower(&s->queue, t->heads[line], key(capped(t->own[line] + joined), deepest + 1, line));
+    lower(&s->queue, t->heads[line], key(measure, finish(measure, t->own[line], joined), deepest + 1, line));
 }
 
 /* What waited for a part goes on, but for lines whose own head is made already. */
@@ -142,10 +142,10 @@ static void fill(struct view t, uint64_t measure, uint64_t *figures, uint64_t *d
     memset(depths, 0, t.n * sizeof *depths);
     memset(lines, 0, t.n * sizeof *lines);
     memset(pieces, 0, t.n * sizeof *pieces);
-    start(&s, &t);
+    start(&s, &t, measure);
     while ((best = least_of(s.queue.blocks, BLOCKS)) != NO_KEY) {
         uint64_t part = t.heads[line_of(best)];
-        figures[part] = figure_of(best);
+        figures[part] = figure_of(measure, best);
         depths[part] = depth_of(best);
         lines[part] = line_of(best);
         pieces[part] = pieces_by(&t, line_of(best), pieces);
@@ -158,7 +158,7 @@ static void fill(struct view t, uint64_t measure, uint64_t *figures, uint64_t *d
 static inline uint64_t offer(const struct view *t, uint64_t measure, uint64_t line,
                              const uint64_t *figures, const uint64_t *depths)
 {
-    uint64_t own = t->own[line], joined = 0, deepest = 0;
+    uint64_t own = t->own[line], joined = unit(measure), deepest = 0;
     uint64_t at = t->spans[2 * line], end = at + t->spans[2 * line + 1];
 
     if (t->strikes[line] == TOZBIERDU_STRIKE)
@@ -170,7 +170,7 @@ static inline uint64_t offer(const struct view *t, uint64_t measure, uint64_t li
         joined = join(measure, joined, figures[part]);
         deepest = greater(deepest, depths[part]);
     }
-    return key(capped(own + joined), deepest + 1, line);
+    return key(measure, finish(measure, own, joined), deepest + 1, line);
 }
 
 /*
@@ -185,7 +185,7 @@ static int part_right(const struct view *t, uint64_t measure, uint64_t part, con
     if (depth == 0)
         return figure == 0 && line == 0;
     return figure <= TOZBIERDU_OVER && depth <= t->n && line < t->lines && t->heads[line] == part
-        && offer(t, measure, line, figures, depths) == key(figure, depth, line);
+        && offer(t, measure, line, figures, depths) == key(measure, figure, depth, line);
 }
 
 /* No line gives its head less than the label; a head that is unmade is given none. */
@@ -196,7 +196,7 @@ static int line_right(const struct view *t, uint64_t measure, uint64_t line, con
 
     if (depths[head] == 0)
         return given == NO_KEY;
-    return given >= key(figures[head], depths[head], lines[head]);
+    return given >= key(measure, figures[head], depths[head], lines[head]);
 }
 
 static int right(struct view t, uint64_t measure, const uint64_t *figures, const uint64_t *depths,

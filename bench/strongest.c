@@ -126,7 +126,7 @@ struct search {
 };
 
 /* Each line that is not struck waits for the first part that it needs; if it needs none it is queued. */
-static inline void start(struct search *s, struct view t)
+FOR_MEASURE void start(struct search *s, struct view t, uint64_t measure)
 {
     uint64_t line;
 
@@ -138,10 +138,10 @@ static inline void start(struct search *s, struct view t)
             continue;
         if (size == 0) {
             uint64_t *leaf = &s->queue.keys[s->queue.leaves + t.heads[line]];
-            *leaf = lesser(*leaf, key(own, 1, line));
+            *leaf = lesser(*leaf, key(measure, own, 1, line));
         } else {
             uint16_t *first = &s->first[t.tails[offset]];
-            s->waiters[line] = (struct waiter){ 0, 0, offset, offset + size, *first };
+            s->waiters[line] = (struct waiter){ unit(measure), 0, offset, offset + size, *first };
             *first = line;
         }
     }
@@ -166,7 +166,7 @@ FOR_MEASURE void go_on(struct search *s, struct view t, uint64_t measure, const 
         joined = join(measure, joined, figures[part]);
         deepest = greater(deepest, depths[part]);
     }
-    lower(&s->queue, t.heads[line], key(capped(t.own[line] + joined), deepest + 1, line));
+    lower(&s->queue, t.heads[line], key(measure, finish(measure, t.own[line], joined), deepest + 1, line));
 }
 
 FOR_MEASURE void best_first(struct view t, uint64_t measure, uint64_t *restrict figures,
@@ -177,9 +177,9 @@ FOR_MEASURE void best_first(struct view t, uint64_t measure, uint64_t *restrict 
     uint64_t best, line, next, part;
 
     memset(depths, 0, t.n * sizeof *depths);
-    start(&s, t);
+    start(&s, t, measure);
     while ((best = s.queue.keys[1]) != NO_KEY) {
-        uint64_t figure = figure_of(best), depth = depth_of(best);
+        uint64_t figure = figure_of(measure, best), depth = depth_of(best);
         line = line_of(best);
         part = t.heads[line];
         figures[part] = figure;
@@ -206,6 +206,8 @@ static void fill(struct view t, uint64_t measure, uint64_t *figures, uint64_t *d
         return;
     if (measure == TOZBIERDU_DAYS)
         best_first(t, TOZBIERDU_DAYS, figures, depths, lines, pieces);
+    else if (measure == TOZBIERDU_GRADE)
+        best_first(t, TOZBIERDU_GRADE, figures, depths, lines, pieces);
     else
         best_first(t, TOZBIERDU_COST, figures, depths, lines, pieces);
 }
@@ -214,7 +216,7 @@ static void fill(struct view t, uint64_t measure, uint64_t *figures, uint64_t *d
 FOR_MEASURE int gives(struct view t, uint64_t measure, uint64_t line, const uint64_t *figures,
                       const uint64_t *depths, uint64_t *given)
 {
-    uint64_t own = t.own[line], joined = 0, deepest = 0;
+    uint64_t own = t.own[line], joined = unit(measure), deepest = 0;
     uint64_t at = t.spans[2 * line], end = at + t.spans[2 * line + 1];
 
     if (t.strikes[line] == TOZBIERDU_STRIKE)
@@ -226,13 +228,13 @@ FOR_MEASURE int gives(struct view t, uint64_t measure, uint64_t line, const uint
         joined = join(measure, joined, figures[part]);
         deepest = greater(deepest, depths[part]);
     }
-    *given = key(capped(own + joined), deepest + 1, line);
+    *given = key(measure, finish(measure, own, joined), deepest + 1, line);
     return 1;
 }
 
 /* The lent answers as keys; the count of the made parts, or more than n if one can't be an answer. */
-static inline uint64_t pack(struct view t, const uint64_t *figures, const uint64_t *depths,
-                            const uint64_t *lines, uint64_t *labels)
+FOR_MEASURE uint64_t pack(struct view t, uint64_t measure, const uint64_t *figures, const uint64_t *depths,
+                          const uint64_t *lines, uint64_t *labels)
 {
     uint64_t part, made = 0;
 
@@ -244,7 +246,7 @@ static inline uint64_t pack(struct view t, const uint64_t *figures, const uint64
         } else {
             if (figures[part] > TOZBIERDU_OVER || depths[part] > t.n || lines[part] >= t.lines)
                 return t.n + 1;
-            labels[part] = key(figures[part], depths[part], lines[part]);
+            labels[part] = key(measure, figures[part], depths[part], lines[part]);
             made++;
         }
     return made;
@@ -254,13 +256,13 @@ static inline uint64_t pack(struct view t, const uint64_t *figures, const uint64
 FOR_MEASURE int all_right(struct view t, uint64_t measure, const uint64_t *figures, const uint64_t *depths,
                           const uint64_t *lines)
 {
-    uint64_t labels[TOZBIERDU_MOST_PARTS], left = pack(t, figures, depths, lines, labels), line, given;
+    uint64_t labels[TOZBIERDU_MOST_PARTS], left = pack(t, measure, figures, depths, lines, labels), line, given;
 
     if (left > t.n)
         return 0;
     for (line = 0; line < t.lines; line++) {
         uint64_t label = labels[t.heads[line]];
-        if (key(t.own[line], 0, 0) > label)
+        if (key(measure, t.own[line], 0, 0) > label)
             continue; /* its own figure alone is too much */
         if (!gives(t, measure, line, figures, depths, &given) || given > label)
             continue;
@@ -276,6 +278,8 @@ static int right(struct view t, uint64_t measure, const uint64_t *figures, const
 {
     if (measure == TOZBIERDU_DAYS)
         return all_right(t, TOZBIERDU_DAYS, figures, depths, lines) && pieces_right(&t, depths, lines, pieces);
+    if (measure == TOZBIERDU_GRADE)
+        return all_right(t, TOZBIERDU_GRADE, figures, depths, lines) && pieces_right(&t, depths, lines, pieces);
     return all_right(t, TOZBIERDU_COST, figures, depths, lines) && pieces_right(&t, depths, lines, pieces);
 }
 

@@ -38,7 +38,7 @@ const fn flaw(name: &'static str, step: u64, number: u64, at: At, make: fn(&mut 
 }
 
 const FLAWS: &[Flaw] = &[
-    flaw("measure", 0, 16, At::Nought, |g| g.measure = 2),
+    flaw("measure", 0, 16, At::Nought, |g| g.measure = 3),
     flaw("parts", 1, 1, At::Nought, |g| g.table.n = 1_025),
     flaw("lines past heads", 2, 2, At::Nought, |g| g.table.heads.truncate(g.lines as usize - 1)),
     flaw("lines past own", 2, 2, At::Nought, |g| g.table.own.truncate(g.lines as usize - 1)),

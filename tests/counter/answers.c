@@ -23,6 +23,24 @@ static void test_worked_days(void)
     check(holds(t, FIGURES, figures) && holds(t, LINES, lines) && holds(t, PIECES, pieces), "answers");
 }
 
+/* In grade, and line 4 raised to 250 and to 400: part 3 is as good as its weakest part. */
+static void test_worked_grade(void)
+{
+    static const uint64_t figures[] = { 1200, 300, 2100, 0, 0 }, depths[] = { 1, 1, 1, 2, 0 },
+        lines[] = { 0, 1, 3, 4, 0 }, listed[] = { 4, 3, 1, 1 };
+    struct table *t = priced(TOZBIERDU_GRADE);
+
+    check(holds(t, FIGURES, figures) && holds(t, DEPTHS, depths) && holds(t, LINES, lines), "answers");
+    bill_is(t, 3, 4, listed);
+    t->line = 4;
+    t->figure = 250;
+    expect(REPRICE, "line 4 to 250", run(REPRICE, t), 0, 0);
+    check(t->at[FIGURES][3] == 250, "raised to the own figure");
+    t->figure = 400;
+    expect(REPRICE, "line 4 to 400", run(REPRICE, t), 0, 0);
+    check(t->at[FIGURES][3] == 300, "raised to the weakest part");
+}
+
 static void test_worked_repriced(void)
 {
     static const uint64_t own[] = { 1200, 500, 500, 2100, 0, 10 }, depths[] = { 1, 1, 1, 2, 0 },
@@ -147,7 +165,7 @@ static struct table *chance(void)
         if (below(10) == 0)
             t->at[STRIKES][t->count[STRIKES] - 1] = TOZBIERDU_STRIKE;
     }
-    t->measure = below(2);
+    t->measure = below(3);
     return t;
 }
 
@@ -172,8 +190,8 @@ static void rises(struct table *old, struct table *new, uint64_t part, uint64_t 
     if (old->at[DEPTHS][part] == 0)
         return;
     check(new->at[FIGURES][part] >= old->at[FIGURES][part], "no part falls");
-    if (old->measure == TOZBIERDU_DAYS) {
-        check(rise <= d, "in days, by at most d");
+    if (old->measure != TOZBIERDU_COST) {
+        check(rise <= d, "in days and in grade, by at most d");
         return;
     }
     check(rise >= d * count_in_bill(new, part, e), "at least d times the count in the new bill");
@@ -225,6 +243,7 @@ static void test_demand_3(void)
 const struct test answer_tests[] = {
     { "worked_cost", test_worked_cost, 0 },
     { "worked_days", test_worked_days, 0 },
+    { "worked_grade", test_worked_grade, 0 },
     { "worked_repriced", test_worked_repriced, 0 },
     { "worked_struck", test_worked_struck, 0 },
     { "ceiling", test_ceiling, 0 },

@@ -200,10 +200,10 @@ static void test_refusal_13(void)
     expect(BILL, "a bill of 6 in 6 places", run(BILL, t), 0, 6);
 }
 
-/* Every measure's number but 0 and 1 is refused, before everything else. */
+/* Every measure's number but 0, 1 and 2 is refused, before everything else. */
 static void test_refusal_16(void)
 {
-    static const uint64_t numbers[] = { 2, 3, 255, 256, 257, UINT64_C(1) << 31, UINT64_C(1) << 32,
+    static const uint64_t numbers[] = { 3, 4, 255, 256, 257, 258, UINT64_C(1) << 31, UINT64_C(1) << 32,
         (UINT64_C(1) << 32) + 1, UINT64_C(1) << 63, UINT64_MAX - 1, UINT64_MAX };
     size_t i;
 

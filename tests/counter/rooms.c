@@ -21,8 +21,8 @@ static void test_no_places(void)
     expect(REPRICE, "nothing", result, 9, 0);
     result = bill(0, 0, NONE, NONE, NONE, NONE, NONE, NONE, NONE, NONE, NONE, 0, NONE);
     expect(BILL, "nothing", result, 11, 0);
-    result = settle(2, 0, NONE, NONE, NONE, NONE, NONE, NONE, NONE, NONE, NONE);
-    expect(SETTLE, "nothing, measure 2", result, 16, 0);
+    result = settle(3, 0, NONE, NONE, NONE, NONE, NONE, NONE, NONE, NONE, NONE);
+    expect(SETTLE, "nothing, measure 3", result, 16, 0);
     result = settle(0, 0, zeros, 1, NONE, NONE, NONE, NONE, NONE, NONE, NONE, NONE);
     expect(SETTLE, "a head and no figure", result, 2, 0);
     result = settle(0, 0, zeros, 1, zeros, 1, NONE, zeros, 2, NONE, NONE, NONE, NONE, NONE);
@@ -59,8 +59,8 @@ static void test_long_rooms(void)
         t->part = 3;
         expect(BILL, "wrong answers", run(BILL, t), 8, 0);
         t->at[DEPTHS][0]--;
-        t->measure = 2;
-        expect(BILL, "measure 2", run(BILL, t), 16, 0);
+        t->measure = 3;
+        expect(BILL, "measure 3", run(BILL, t), 16, 0);
         t->measure = 0;
     }
 }

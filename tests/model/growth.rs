@@ -144,7 +144,7 @@ impl Growth {
     }
 
     pub fn result(&self) -> u64 {
-        if self.measure > 1 {
+        if !MEASURES.contains(&self.measure) {
             return refusal(16, 0);
         }
         let counts = self.counts_result();

@@ -10,7 +10,8 @@ pub mod trees;
 
 pub const COST: u64 = 0;
 pub const DAYS: u64 = 1;
-pub const MEASURES: [u64; 2] = [COST, DAYS];
+pub const GRADE: u64 = 2;
+pub const MEASURES: [u64; 3] = [COST, DAYS, GRADE];
 
 pub const MOST_VERTICES: u64 = 1_024;
 pub const MOST_EDGES: usize = 4_096;

@@ -4,8 +4,8 @@
 use crate::model::text::parse;
 
 /// From whatever place of a permitted text on, one of these ends it: behind an LF, a number, a space
-/// or a dash, or a head; within the first words; within the word of the first line.
-const ENDINGS: [&str; 14] = [
+/// or a dash, or a head; within the first words; within the word of a measure.
+const ENDINGS: [&str; 18] = [
     "",
     "\n",
     "0\n",
@@ -20,6 +20,10 @@ const ENDINGS: [&str; 14] = [
     "ost\n",
     "st\n",
     "t\n",
+    "rade\n",
+    "ade\n",
+    "de\n",
+    "e\n",
 ];
 
 pub fn begins(beginning: &[u8]) -> bool {

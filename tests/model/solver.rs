@@ -52,12 +52,14 @@ fn pieces_of(table: &Table, labels: &Labelling, vertex: u64, known: &mut [Option
 
 /// A hyperedge's weight from those of its tail; none while one of them has none.
 pub fn weight_by(measure: u64, table: &Table, edge: usize, weights: &[Option<u64>]) -> Option<u64> {
-    let mut joined = 0;
+    let own = u128::from(table.own[edge]);
+    let (mut joined, mut weakest) = (0, own);
     for &vertex in table.tail(edge) {
         let weight = u128::from(weights[vertex as usize]?);
         joined = if measure == COST { joined + weight } else { joined.max(weight) };
+        weakest = weakest.min(weight);
     }
-    let total = u128::from(table.own[edge]) + joined;
+    let total = if measure == GRADE { weakest } else { own + joined };
     let ceiling = u128::from(CEILING);
     Some(if total > ceiling { OVER } else { total as u64 })
 }
@@ -71,15 +73,25 @@ fn lower(known: &mut Option<u64>, found: Option<u64>) -> bool {
     less
 }
 
-/// After as many rounds as there are vertices nothing changes: a least derivation needs no vertex
+/// The same of a number that is greater.
+fn higher(known: &mut Option<u64>, found: Option<u64>) -> bool {
+    let more = found > *known;
+    if more {
+        *known = found;
+    }
+    more
+}
+
+/// After as many rounds as there are vertices nothing changes: a best derivation needs no vertex
 /// twice on a path.
 fn best_weights(measure: u64, table: &Table) -> Vec<Option<u64>> {
+    let better = if measure == GRADE { higher } else { lower };
     let mut best: Vec<Option<u64>> = vec![None; table.n as usize];
     loop {
         let mut changed = false;
         for edge in (0..table.edges()).filter(|&edge| table.is_live(edge)) {
             let weight = weight_by(measure, table, edge, &best);
-            changed |= lower(&mut best[table.heads[edge] as usize], weight);
+            changed |= better(&mut best[table.heads[edge] as usize], weight);
         }
         if !changed {
             return best;

@@ -38,6 +38,7 @@ fn first_line(line: &[u8]) -> Option<(u64, u64)> {
     match words(line)[..] {
         [b"parts", n] => Some((number(n, MOST_VERTICES)?, DAYS)),
         [b"parts", n, b"cost"] => Some((number(n, MOST_VERTICES)?, COST)),
+        [b"parts", n, b"grade"] => Some((number(n, MOST_VERTICES)?, GRADE)),
         _ => None,
     }
 }
@@ -68,8 +69,8 @@ fn number(word: &[u8], most: u64) -> Option<u64> {
 
 /// The text of an accepted table.
 pub fn written(measure: u64, table: &Table) -> Vec<u8> {
-    let cost = if measure == COST { " cost" } else { "" };
-    let mut text = format!("parts {}{cost}\n", table.n);
+    let word = [" cost", "", " grade"][measure as usize];
+    let mut text = format!("parts {}{word}\n", table.n);
     for edge in 0..table.edges() {
         let dash = if table.is_live(edge) { "" } else { "-" };
         let own = format!("{dash}{}", table.own[edge]);

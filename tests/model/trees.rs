@@ -83,8 +83,12 @@ fn choices(tail: &[u64], known: &[Vec<Rc<Derivation>>]) -> Vec<Vec<Rc<Derivation
 
 fn derive(measure: u64, table: &Table, root: usize, children: Vec<Rc<Derivation>>) -> Derivation {
     let weights = children.iter().map(|child| child.weight);
-    let joined: u64 = if measure == COST { weights.sum() } else { weights.max().unwrap_or(0) };
-    let weight = table.own[root] + joined;
+    let own = table.own[root];
+    let weight = match measure {
+        COST => own + weights.sum::<u64>(),
+        DAYS => own + weights.max().unwrap_or(0),
+        _ => weights.chain([own]).min().unwrap_or(own),
+    };
     let weight = if weight > CEILING { OVER } else { weight };
     let deepest = children.iter().map(|child| child.depth).max();
     Derivation { root, weight, depth: 1 + deepest.unwrap_or(0), children }
@@ -99,8 +103,15 @@ fn is_thrifty(table: &Table, best: &[Option<u64>], derivation: &Derivation) -> b
 
 fn labelling(measure: u64, table: &Table) -> Labelling {
     let known = enumerate(measure, table);
-    let least = |all: &Vec<Rc<Derivation>>| all.iter().map(|one| one.weight).min();
-    let best: Vec<Option<u64>> = known.iter().map(least).collect();
+    let of_all = |all: &Vec<Rc<Derivation>>| {
+        let weights = all.iter().map(|one| one.weight);
+        if measure == GRADE {
+            weights.max()
+        } else {
+            weights.min()
+        }
+    };
+    let best: Vec<Option<u64>> = known.iter().map(of_all).collect();
     let mut labels = Vec::new();
     for (vertex, all) in known.iter().enumerate() {
         let thrifty = all.iter().filter(|one| is_thrifty(table, &best, one));
@@ -150,8 +161,7 @@ fn random(trial: &Trial) -> Outcome {
         while derivations(&table) > MOST_DERIVATIONS {
             table = tables::random(rng, &shape);
         }
-        agree(COST, &table, rng)?;
-        agree(DAYS, &table, rng)
+        MEASURES.into_iter().try_for_each(|measure| agree(measure, &table, rng))
     })
 }
 
@@ -159,8 +169,7 @@ fn random(trial: &Trial) -> Outcome {
 fn ceiling(trial: &Trial) -> Outcome {
     trial.cases(trial.count / 4, |rng| {
         let table = tables::ceiling(rng);
-        agree(COST, &table, rng)?;
-        agree(DAYS, &table, rng)
+        MEASURES.into_iter().try_for_each(|measure| agree(measure, &table, rng))
     })
 }
 
@@ -208,8 +217,7 @@ fn all_small(trial: &Trial) -> Outcome {
     for edges in 0..=3 {
         for number in 0..kinds.len().pow(edges) {
             let table = small_table(&kinds, edges, number);
-            agree(COST, &table, &mut rng)?;
-            agree(DAYS, &table, &mut rng)?;
+            MEASURES.into_iter().try_for_each(|measure| agree(measure, &table, &mut rng))?;
             cases += 1;
         }
     }

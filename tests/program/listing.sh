@@ -1,6 +1,6 @@
 # What the listing program prints.
 
-# The paper's table, in cost and in days -----------------------------------------------------------------------------------------------
+# The paper's table, in cost, in days and in grade -----------------------------------------------------------------------------------------------
 
 worked='parts 5 cost
 0 1200
@@ -26,6 +26,16 @@ part state figure depth line pieces
 2 made 1700 2 2 2
 3 made 1700 3 4 4
 4 unmade 0 0 0 0
+END
+
+sed '1s/.*/parts 5 grade/' "$work/worked" >"$work/grade"
+prints 'the worked table in grade' "$work/grade" <<'END'
+part state figure depth line
+0 made 1200 1 0
+1 made 300 1 1
+2 made 2100 1 3
+3 made 0 2 4
+4 unmade 0 0 0
 END
 
 sed '2s/.*/0 -1200/' "$work/worked" >"$work/struck"
@@ -92,6 +102,11 @@ refuses 'a longer word than cost' 1 13 'parts 5 costs\n'
 refuses 'cost behind two spaces' 1 9 'parts 5  cost\n'
 refuses 'cost behind a tab' 1 8 'parts 5\tcost\n'
 refuses 'cost and a CR' 1 13 'parts 5 cost\r\n'
+refuses 'another letter than of grade' 1 12 'parts 5 grape\n'
+refuses 'a longer word than grade' 1 14 'parts 5 grades\n'
+refuses 'a beginning of grade at the end' 1 10 'parts 5 g'
+refuses 'grade with a capital' 1 9 'parts 5 Grade\n'
+refuses 'two words' 1 14 'parts 5 grade cost\n'
 refuses 'cost without its LF' 1 13 'parts 5 cost'
 refuses 'a head that is no part, in text line 2' 2 1 'parts 1\n1 0\n'
 refuses 'a leading zero in text line 3' 3 4 'parts 2\n0 5\n1 05\n1 9\n'

@@ -59,7 +59,11 @@ fn alike(call: &Call, vertex: u64, listed: &[u64]) -> Verdict {
         }
     }
     let own = listed.iter().map(|&edge| call.table.own[edge as usize]);
-    let weight = if call.measure == COST { own.sum() } else { longest(call, vertex) };
+    let weight = match call.measure {
+        COST => own.sum(),
+        DAYS => longest(call, vertex),
+        _ => own.min().unwrap_or(0),
+    };
     expect("the listed weight", weight.min(OVER), call.answers.label(vertex).weight)
 }
 

@@ -29,6 +29,7 @@ pub const TESTS: &[Test] = &[
     Test { name: "raising/all-of-two-vertices", run: all_small },
     Test { name: "raising/all-kinds", run: |trial| all_kinds(trial, COST, &KINDS) },
     Test { name: "raising/all-kinds-in-days", run: |trial| all_kinds(trial, DAYS, &DAYS_KINDS) },
+    Test { name: "raising/all-kinds-in-grade", run: |trial| all_kinds(trial, GRADE, &DAYS_KINDS) },
 ];
 
 /// Two accepted tables that agree but for the own weight of a live hyperedge, which is `d` lower in

@@ -25,6 +25,7 @@ pub const TESTS: &[Test] = &[
     Test { name: "settle/ceiling", run: |trial| made(trial, trial.count, tables::ceiling) },
     Test { name: "settle/high", run: |trial| made(trial, trial.count / 20, tables::high) },
     Test { name: "settle/days-ceiling", run: days_ceiling },
+    Test { name: "settle/grades", run: grades },
     Test { name: "settle/towers", run: |trial| made(trial, trial.count, tables::tower) },
     Test { name: "settle/chains", run: |trial| made(trial, trial.count / 20, short_or_long_chain) },
     Test { name: "settle/large", run: |trial| made(trial, trial.count / 50, large) },
@@ -80,12 +81,11 @@ fn shaped(trial: &Trial, shape: &Shape) -> Outcome {
     made(trial, trial.count, |rng| tables::random(rng, shape))
 }
 
-/// Each table in both measures.
+/// Each table in every measure.
 fn made(trial: &Trial, cases: u64, make: impl Fn(&mut Rng) -> Table) -> Outcome {
     trial.cases(cases, |rng| {
         let table = make(rng);
-        agree(COST, &table, rng)?;
-        agree(DAYS, &table, rng)
+        MEASURES.into_iter().try_for_each(|measure| agree(measure, &table, rng))
     })
 }
 
@@ -105,6 +105,31 @@ fn days_ceiling(trial: &Trial) -> Outcome {
         settles_to(DAYS, &table, &wanted, &mut trial.rng())?;
     }
     Ok(2)
+}
+
+/// Tables of grades that tell little: many 0, 0 and the greatest alone, and one grade alone, so that
+/// depth and hyperedge decide. And a circle of grade 0 beside a source of grade 0, which is no circle.
+fn grades(trial: &Trial) -> Outcome {
+    let owns: [fn(&mut Rng) -> u64; 4] = [
+        |rng| rng.pick(&[0, 0, 0, 0, 1, 5, GREATEST]),
+        |rng| rng.pick(&[0, GREATEST]),
+        |_| 0,
+        |_| GREATEST,
+    ];
+    for (edges, wanted) in [
+        (vec![(0, 0, vec![1]), (1, 0, vec![0])], [(0, 0, 0), (0, 0, 0)]),
+        (vec![(0, 0, vec![1]), (1, 0, vec![0]), (1, 0, vec![])], [(0, 2, 0), (0, 1, 2)]),
+    ] {
+        let label = |&(weight, depth, edge)| Label { weight, depth, edge };
+        let wanted = Labelling::of(&wanted.iter().map(label).collect::<Vec<_>>());
+        let table = Table::of(2, &edges);
+        same("the solver", &solve(GRADE, &table), &wanted)?;
+        settles_to(GRADE, &table, &wanted, &mut trial.rng())?;
+    }
+    trial.cases(trial.count, |rng| {
+        let shape = Shape { own: rng.pick(&owns), ..rng.pick(&tables::SHAPES) };
+        agree(GRADE, &tables::random(rng, &shape), rng)
+    })
 }
 
 pub fn short_or_long_chain(rng: &mut Rng) -> Table {

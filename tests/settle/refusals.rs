@@ -84,7 +84,7 @@ pub fn small_examples() -> Vec<(Call, u64, u64)> {
         (&|call| call.table.spans[..4].copy_from_slice(&[0, 2, 1, 1]), 5, 1),
         (&|call| call.table.tails[4] = 9, 6, 4),
         (&|call| call.answers.depths.truncate(4), 7, 0),
-        (&|call| call.measure = 2, 16, 0),
+        (&|call| call.measure = 3, 16, 0),
     ];
     cases.map(|(edit, number, place)| (with(edit), number, place)).to_vec()
 }

@@ -69,7 +69,7 @@ pub fn faults() -> Vec<Fault> {
     let outside = [N, N + 1, 1 << 32, (1 << 32) + 1, 1 << 63, u64::MAX];
     let above = [GREATEST + 1, GREATEST + 2, 1 << 32, (1 << 32) + 1, 1 << 63, u64::MAX];
     let mut all = Vec::new();
-    all.extend([2, 3, 1 << 32, (1 << 32) + 1, 1 << 63, u64::MAX].map(Fault::Measure));
+    all.extend([3, 4, 1 << 32, (1 << 32) + 1, 1 << 63, u64::MAX].map(Fault::Measure));
     all.extend([1_025, 1_026, 1 << 32, (1 << 32) + N, 1 << 63, u64::MAX].map(Fault::Vertices));
     all.extend((0..COLUMN_WAYS).map(Fault::Columns));
     for edge in WITH_TAIL {

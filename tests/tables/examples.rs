@@ -76,6 +76,11 @@ pub fn changes() -> [(Change, Example); 2] {
     [(Change::Reprice(1, 500), p3()), (Change::Strike(0), p10())]
 }
 
+/// The worked table in grade, part 3 of this grade.
+fn grades(third: u64) -> [(u64, u64, u64); 5] {
+    [ZERO, ONE, (2_100, 1, 3), (third, 2, 4), NONE]
+}
+
 pub fn examples() -> Vec<Example> {
     let tens = [(GREATEST, 1, 0, 1), (10 * GREATEST, 2, 1, 10), (100 * GREATEST, 3, 2, 100)];
     let [first, second, third] = tens;
@@ -94,5 +99,9 @@ pub fn examples() -> Vec<Example> {
         example("P9", COST, shorter.clone(), &[(5, 1, 0, 1), (5, 1, 2, 1)]),
         example("P9 in days", DAYS, shorter, &[(5, 1, 0, 1), (5, 1, 2, 1)]),
         p10(),
+        example("worked in grade", GRADE, worked(), &grades(0)),
+        example("line 4 at 250 in grade", GRADE, worked_with(4, 250), &grades(250)),
+        example("line 4 at 400 in grade", GRADE, worked_with(4, 400), &grades(300)),
+        example("P6 in grade", GRADE, circle(), &[NONE, NONE]),
     ]
 }

@@ -72,11 +72,13 @@ fn stated(trial: &Trial) -> Outcome {
     let cases = [
         (WORKED.to_string(), COST, worked()),
         (WORKED.replace("parts 5 cost", "parts 5"), DAYS, worked()),
+        (WORKED.replace("cost", "grade"), GRADE, worked()),
         (WORKED.replace("0 1200", "0 -1200"), COST, struck(0)),
         (WORKED.replace("2 500 0 1", "2 -500 0 1"), COST, struck(2)),
         (WORKED.replace("3 0 2", "3 -0 2"), COST, struck(4)),
         ("parts 0 cost\n".to_string(), COST, none(0)),
         ("parts 0\n".to_string(), DAYS, none(0)),
+        ("parts 0 grade\n".to_string(), GRADE, none(0)),
         ("parts 1024 cost\n".to_string(), COST, none(1_024)),
         ("parts 1000\n".to_string(), DAYS, none(1_000)),
         ("parts 2 cost\n0 0 1\n1 0 0\n".to_string(), COST, circle()),
@@ -108,12 +110,11 @@ fn shaped(trial: &Trial, shape: &Shape) -> Outcome {
     made(trial, trial.count, |rng| tables::random(rng, shape))
 }
 
-/// Each table in both measures.
+/// Each table in every measure.
 fn made(trial: &Trial, cases: u64, make: impl Fn(&mut Rng) -> Table) -> Outcome {
     trial.cases(cases, |rng| {
         let table = make(rng);
-        round_trip(COST, &table, rng)?;
-        round_trip(DAYS, &table, rng)
+        MEASURES.into_iter().try_for_each(|measure| round_trip(measure, &table, rng))
     })
 }
 

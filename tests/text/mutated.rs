@@ -160,13 +160,15 @@ const WORDS: &[&str] = &[
     "parts",
     "cost",
     "days",
+    "grade",
 ];
 
 /// Words at random, mostly with single spaces between.
 fn of_words(trial: &Trial) -> Outcome {
     let mut tried = Tried::default();
     trial.cases(5 * trial.count.max(200), |rng| {
-        let mut text = rng.pick(&["parts 3\n", "parts 3 cost\n", "parts 11\n"]).to_string();
+        let mut text =
+            rng.pick(&["parts 3\n", "parts 3 cost\n", "parts 3 grade\n", "parts 11\n"]).to_string();
         for _ in 0..rng.below(8) {
             // The first words are right more often than not, so that long texts get far.
             let most = if rng.chance(90) { 4 } else { WORDS.len() };
