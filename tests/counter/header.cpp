@@ -7,7 +7,7 @@
 
 int main()
 {
-    const uint64_t result = settle(2, 0, nullptr, 0, nullptr, 0, nullptr, 0, nullptr, 0, nullptr, 0, nullptr, 0, nullptr, 0,
+    const uint64_t result = settle(3, 0, nullptr, 0, nullptr, 0, nullptr, 0, nullptr, 0, nullptr, 0, nullptr, 0, nullptr, 0,
                                    nullptr, 0, nullptr, 0);
     const bool right = tozbierdu_refused(result) && tozbierdu_number(result) == TOZBIERDU_REFUSED_MEASURE;
     return right && tozbierdu_place(result) == 0 ? 0 : 1;

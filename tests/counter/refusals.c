@@ -266,7 +266,7 @@ static void test_past_32_bits_calls(void)
 /* Faults are taken away one by one: the refusals come in their order. */
 static void test_order_of_the_table(void)
 {
-    struct table *t = worked(2);
+    struct table *t = worked(3);
 
     t->n = 1025;
     t->count[SPANS]--;
