@@ -40,7 +40,7 @@ static uint64_t check_lines(const struct view *t)
 static inline uint64_t offer(const struct view *t, uint64_t measure, uint64_t line,
                              const uint64_t *figures, const uint64_t *depths)
 {
-    uint64_t joined = 0, deepest = 0, at = t->spans[2 * line], end = at + t->spans[2 * line + 1];
+    uint64_t joined = unit(measure), deepest = 0, at = t->spans[2 * line], end = at + t->spans[2 * line + 1];
 
     if (t->strikes[line] == TOZBIERDU_STRIKE)
         return NO_KEY;
@@ -51,7 +51,7 @@ static inline uint64_t offer(const struct view *t, uint64_t measure, uint64_t li
         joined = join(measure, joined, figures[part]);
         deepest = greater(deepest, depths[part]);
     }
-    return key(capped(t->own[line] + joined), deepest + 1, line);
+    return key(measure, finish(measure, t->own[line], joined), deepest + 1, line);
 }
 
 static void walk(const struct view *t, uint64_t measure, uint64_t *figures, uint64_t *depths, uint64_t *lines,
@@ -69,7 +69,7 @@ static void walk(const struct view *t, uint64_t measure, uint64_t *figures, uint
         uint64_t best = NO_KEY;
         for (line = first[part]; line != NO_LINE; line = next[line])
             best = lesser(best, offer(t, measure, line, figures, depths));
-        figures[part] = best == NO_KEY ? 0 : figure_of(best);
+        figures[part] = best == NO_KEY ? 0 : figure_of(measure, best);
         depths[part] = best == NO_KEY ? 0 : depth_of(best);
         lines[part] = best == NO_KEY ? 0 : line_of(best);
         pieces[part] = best == NO_KEY ? 0 : pieces_by(t, line_of(best), pieces);
@@ -81,7 +81,7 @@ uint64_t plain_settle_ordered(uint64_t measure, uint64_t n, TABLE_COLUMNS, WRITT
     struct view t = { n, heads_count, tails_count, heads, own, strikes, spans, tails };
     uint64_t result;
 
-    if (measure > TOZBIERDU_DAYS)
+    if (measure > TOZBIERDU_GRADE)
         return REFUSED(TOZBIERDU_REFUSED_MEASURE, 0);
     if (n > TOZBIERDU_MOST_PARTS)
         return REFUSED(TOZBIERDU_REFUSED_PARTS, 0);

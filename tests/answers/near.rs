@@ -141,7 +141,10 @@ fn edge_before_depth(trial: &Trial) -> Outcome {
             let deepest = tail.map(|&vertex| right.depths[vertex as usize]).max().unwrap_or(0);
             let head = table.heads[edge] as usize;
             let weight = right.weights[head];
-            lent.set(head, Label { weight, depth: deepest + 1, edge: edge as u64, pieces: right.pieces[head] });
+            lent.set(
+                head,
+                Label { weight, depth: deepest + 1, edge: edge as u64, pieces: right.pieces[head] },
+            );
         }
         lent
     })

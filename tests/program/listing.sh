@@ -30,12 +30,12 @@ END
 
 sed '1s/.*/parts 5 grade/' "$work/worked" >"$work/grade"
 prints 'the worked table in grade' "$work/grade" <<'END'
-part state figure depth line
-0 made 1200 1 0
-1 made 300 1 1
-2 made 2100 1 3
-3 made 0 2 4
-4 unmade 0 0 0
+part state figure depth line pieces
+0 made 1200 1 0 1
+1 made 300 1 1 1
+2 made 2100 1 3 1
+3 made 0 2 4 3
+4 unmade 0 0 0 0
 END
 
 sed '2s/.*/0 -1200/' "$work/worked" >"$work/struck"

@@ -15,13 +15,13 @@ part state figure depth line pieces
 END
 
 price 'price prices grades' 0 '' examples/grades.parts <<'END'
-part state figure depth line
-0 made 900 1 0
-1 made 750 1 1
-2 made 750 2 2
-3 made 750 3 4
-4 made 0 1 6
-5 unmade 0 0 0
+part state figure depth line pieces
+0 made 900 1 0 1
+1 made 750 1 1 1
+2 made 750 2 2 2
+3 made 750 3 4 4
+4 made 0 1 6 1
+5 unmade 0 0 0 0
 END
 
 # Refusals: the file's name, what docs/REFUSALS.md says of the number, and the line made visible -----------------------------------------------

@@ -117,10 +117,10 @@ fn grades(trial: &Trial) -> Outcome {
         |_| GREATEST,
     ];
     for (edges, wanted) in [
-        (vec![(0, 0, vec![1]), (1, 0, vec![0])], [(0, 0, 0), (0, 0, 0)]),
-        (vec![(0, 0, vec![1]), (1, 0, vec![0]), (1, 0, vec![])], [(0, 2, 0), (0, 1, 2)]),
+        (vec![(0, 0, vec![1]), (1, 0, vec![0])], [(0, 0, 0, 0), (0, 0, 0, 0)]),
+        (vec![(0, 0, vec![1]), (1, 0, vec![0]), (1, 0, vec![])], [(0, 2, 0, 1), (0, 1, 2, 1)]),
     ] {
-        let label = |&(weight, depth, edge)| Label { weight, depth, edge };
+        let label = |&(weight, depth, edge, pieces)| Label { weight, depth, edge, pieces };
         let wanted = Labelling::of(&wanted.iter().map(label).collect::<Vec<_>>());
         let table = Table::of(2, &edges);
         same("the solver", &solve(GRADE, &table), &wanted)?;

@@ -77,8 +77,8 @@ pub fn changes() -> [(Change, Example); 2] {
 }
 
 /// The worked table in grade, part 3 of this grade.
-fn grades(third: u64) -> [(u64, u64, u64); 5] {
-    [ZERO, ONE, (2_100, 1, 3), (third, 2, 4), NONE]
+fn grades(third: u64) -> [(u64, u64, u64, u64); 5] {
+    [ZERO, ONE, (2_100, 1, 3, 1), (third, 2, 4, 3), NONE]
 }
 
 pub fn examples() -> Vec<Example> {

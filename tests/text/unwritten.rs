@@ -77,12 +77,13 @@ fn stated(trial: &Trial) -> Outcome {
         let mut table = worked();
         change(&mut table);
         refuses(COST, &table, refusal(number, place), &mut rng)?;
-        refuses(2, &table, refusal(16, 0), &mut rng)?;
+        refuses(3, &table, refusal(16, 0), &mut rng)?;
     }
-    refuses(2, &worked(), refusal(16, 0), &mut rng)?;
+    refuses(3, &worked(), refusal(16, 0), &mut rng)?;
     accepts(COST, &worked(), &mut rng)?;
     accepts(DAYS, &worked(), &mut rng)?;
-    Ok(2 * cases.len() as u64 + 3)
+    accepts(GRADE, &worked(), &mut rng)?;
+    Ok(2 * cases.len() as u64 + 4)
 }
 
 fn each(trial: &Trial) -> Outcome {

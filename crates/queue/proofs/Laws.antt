@@ -128,7 +128,8 @@ offered-key m q v u h k nothing g b = go (eqb v u)
 offered-key m q v u h k (found {l = l} f) g b = go (eqb v u) refl
   where
     go : (t : Bool) → eqb v u ≡ t → getD (lowered q v (packed m l)) u 0 ≡ min (getD q u 0) (pick t (packed m l) none)
-    go true e = let p : v ≡ u = eqb-true v u e in ap (λ (z : ℕ). getD (lowered q v (packed m l)) z 0) (sym p) ∙ lowered-same q v (packed m l) h (g .sized) ∙ ap (λ (z : ℕ). min (getD q z 0) (packed m l)) p
+    go true e = let p : v ≡ u = eqb-true v u e in
+        ap (λ (z : ℕ). getD (lowered q v (packed m l)) z 0) (sym p) ∙ lowered-same q v (packed m l) h (g .sized) ∙ ap (λ (z : ℕ). min (getD q z 0) (packed m l)) p
     go false e = omega (arith, lowered-other q v (packed m l) h u k (λ p. eqb-false v u e (sym p)))
 
 -- Labelling ----------------------------------------------------------------------------------------------------------------------------------------

@@ -62,8 +62,8 @@ rendered-grade : render Grade worked ≡ gradeText
 unfolding gradeText edgesFrom digitsOn digits word opened measureText header markText ownText tailText edgeText edgesText tableText
 rendered-grade = refl
 
-listed-grade : list (answersOf Grade worked) 5 ≡ gradeList
-unfolding gradeList fold weigh aheadOf each greatestDepth noneZero offerOf opening next turn turns best-first answersOf digitsOn digits names stateWord row rows list
+listed-grade : list (entriesOf Grade worked) 5 ≡ gradeList
+unfolding gradeList fold weigh aheadOf each greatestDepth noneZero offerOf opening next turn turns best-first answersOf entriesOf below piecesAt piece total bill bills digitsOn digits names stateWord row rows list
 listed-grade = refl
 
 pub worked-grade : report gradeText ≡ gradeList

@@ -9,7 +9,8 @@ use Rattle.weights.specs.Figures.{standing}
 use Rattle.text.specs.Tables.{edge, Table, listedInAll}
 use Rattle.weights.specs.declared.Measure.the-variants.{Cost, Days}
 use Rattle.text.specs.Render.{letters}
-use Rattle.text.specs.Machine.{Place, Vertices, Head, Own, Listed, State, Spelling, Naming, First, Within, Failed, begun, withEdge, limit, digitOf, grown, after, spell, named, ended, step, run, finish, begin, parse}
+use Rattle.text.specs.Machine.{Place, Vertices, Head, Own, Listed, State, Spelling, Naming, First, Within, Failed, begun, withEdge}
+use Rattle.text.specs.Machine.{limit, digitOf, grown, after, spell, named, ended, step, run, finish, begin, parse}
 use Rattle.text.proofs.Sound.{Spells, Reached, begin-reached, run-reached}
 use Rattle.text.proofs.Complete.{run-append, run-word}
 use Rattle.text.proofs.Places.{run-failed}

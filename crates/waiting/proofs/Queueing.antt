@@ -52,7 +52,9 @@ none-zero-on {w} {d} {w′} {d′} x (v ∷ vs) p = go (eqb (d v) 0) refl p (non
 module _ (m : Measure) (c : Columns) (w d : ℕ → ℕ) {s : Lines} where
   -- a hyperedge that waits for an unmade vertex offers nothing
   shut : {v e : ℕ} → d v ≡ 0 → Waiter (algebra m) c w d s v e → keyOn m c w d e ≡ none
-  shut {v} {e} z k = ap (keyOf m) (open-unmade (algebra m) (hypergraph c) (cell (c .own)) w d (cell (tailAt c e) (cell (s .at) e)) e (ap d (k .here) ∙ z) (member-at (tailAt c e) (cell (s .at) e) (k .before)))
+  shut {v} {e} z k =
+      let i = cell (s .at) e in
+      ap (keyOf m) (open-unmade (algebra m) (hypergraph c) (cell (c .own)) w d (cell (tailAt c e) i) e (ap d (k .here) ∙ z) (member-at (tailAt c e) i (k .before)))
 
   module _ (heads : (e : ℕ) → e < length (c .heads) → headAt c e < keys)
       (fits : (e : ℕ) → e < length (c .heads) → Fitting (opening (algebra m) (hypergraph c) (cell (c .own)) w d e)) {q : List ℕ}

@@ -137,7 +137,8 @@ module _ (m : Measure) (c : Columns) (w d : ℕ → ℕ) (e : ℕ) where
   pub heard-made : (q : List ℕ) → d (headAt c e) ≢ 0 → q ≡ offered m q (headAt c e) offer
   heard-made q n = ap (offered m q (headAt c e)) (sym (open-made (algebra m) (hypergraph c) (cell (c .own)) w d e n))
 
-  pub went-on : {s s′ : Lines} (q : List ℕ) (v i j g : ℕ) → Gone (algebra m) w d (tailAt c e) i j g → i < length (tailAt c e) → cell (tailAt c e) i ≡ v → s′ ≡ pushed s v e i j g → Went m c w d e s s′ q q
+  pub went-on : {s s′ : Lines} (q : List ℕ) (v i j g : ℕ) → Gone (algebra m) w d (tailAt c e) i j g → i < length (tailAt c e) → cell (tailAt c e) i ≡ v
+      → s′ ≡ pushed s v e i j g → Went m c w d e s s′ q q
   went-on {s} q v i j g p l y x = record {
     moved = waits i j g l (p .stopped l) (p .passed) (x ∙ ap (λ (z : ℕ). pushed s z e i j g) (sym y));
     heard = heard-nothing q i l (p .stopped l);

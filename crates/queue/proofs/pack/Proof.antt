@@ -9,16 +9,22 @@ rank-requires : tie.Need-rank-requires
 rank-requires c κs = search needs
 
 mul-result : tie.Need-mul-result
-mul-result c = let a = c .before .before .before in omega (arith, c .rank .ensures, rank-below (a .args .measure) (a .args .l .weight .0) (a .pre .weight))
+mul-result c =
+    let a = c .before .before .before in
+    omega (arith, c .rank .ensures, rank-below (a .args .measure) (a .args .l .weight .0) (a .pre .weight))
 
 mul-result-2 : tie.Need-mul-result-2
 mul-result-2 c = search needs
 
 add-result : tie.Need-add-result
-add-result c = let a = c .before .before .before .before in omega (arith, c .before .rank .ensures, rank-below (a .args .measure) (a .args .l .weight .0) (a .pre .weight), a .pre .depth)
+add-result c =
+    let a = c .before .before .before .before in
+    omega (arith, c .before .rank .ensures, rank-below (a .args .measure) (a .args .l .weight .0) (a .pre .weight), a .pre .depth)
 
 add-result-2 : tie.Need-add-result-2
-add-result-2 c = let a = c .before .before .before .before .before in omega (arith, c .before .before .rank .ensures, rank-below (a .args .measure) (a .args .l .weight .0) (a .pre .weight), a .pre .depth, a .pre .edge)
+add-result-2 c =
+    let a = c .before .before .before .before .before in
+    omega (arith, c .before .before .rank .ensures, rank-below (a .args .measure) (a .args .l .weight .0) (a .pre .weight), a .pre .depth, a .pre .edge)
 
 returns : tie.Need-returns
 returns c = search needs
