@@ -6,7 +6,9 @@ use native.Mathlib.Nat.{mul-add, mul-zero, mul-one}
 use native.Mathlib.Omega.{arith}
 use native.Mathlib.Decide.{ℕ-discrete}
 use borrow.Author.Tests.{eq-eqb, ne-eqb}
-use Rattle.provenance.specs.Counting.{once, count, sum-below, charge, total, Raised}
+use lib.IntN.{ℤ, pos, subℕ, _+ℤ_, _*ℤ_}
+use Rattle.provenance.specs.Counting.{once, count, sum-below, charge, total, Raised, changeOf, sumℤ, billChange}
+use Rattle.provenance.proofs.Integers.{sub-more, sub-sum, sub-scale}
 
 -- every number of a list is below n
 pub data AllBelow (n : ℕ) : List ℕ → Type 0 where
@@ -86,3 +88,20 @@ module _ {own own′ : ℕ → ℕ} {e d : ℕ} (r : Raised own own′ e d) wher
   unfolding total count
   raised-total [] = omega (arith, mul-zero d)
   raised-total (x ∷ es) = omega (arith, raised-once x, raised-total es, mul-add d (once e x) (count e es))
+
+-- a bill changes by what it costs now, less what it cost
+pub bill-change : (own own′ : ℕ → ℕ) (n : ℕ) (es : List ℕ) → billChange own own′ n es ≡ subℕ (charge own′ n es) (charge own n es)
+unfolding billChange charge sumℤ sum-below
+bill-change own own′ n es = go n
+  where
+    go : (n : ℕ) → sumℤ (λ e. changeOf own own′ e *ℤ pos (count e es)) n ≡ subℕ (sum-below (λ e. own′ e * count e es) n) (sum-below (λ e. own e * count e es) n)
+    go zero = sym (sub-more 0 0 0 refl)
+    go (suc n) =
+        ap₂ _+ℤ_ (go n) (sub-scale (own′ n) (own n) (count n es))
+        ∙ sub-sum (sum-below (λ e. own′ e * count e es) n) (sum-below (λ e. own e * count e es) n) (own′ n * count n es) (own n * count n es)
+
+-- where one line was raised by d, by d for each time that it has the line
+pub raised-change : {own own′ : ℕ → ℕ} {e d n : ℕ} {es : List ℕ} → Raised own own′ e d → AllBelow n es → billChange own own′ n es ≡ pos (d * count e es)
+raised-change {own} {own′} {e} {d} {n} {es} r b =
+    bill-change own own′ n es
+    ∙ sub-more (charge own′ n es) (charge own n es) (d * count e es) (omega (arith, total-charge own′ b, raised-total r es, total-charge own b))

@@ -1,5 +1,6 @@
 pub mod BestFirst
 pub mod BestWeight
+pub mod Integers
 pub mod Counting
 pub mod Exact
 pub mod Existence

@@ -1,12 +1,14 @@
 -- Sensitivity: what becomes of the labels where own figures change. The same parts are unmade. In cost each part within the ceiling keeps to the bounds that its two
 -- bills set, the sums over all lines of figure × count; for one line raised by d, it rises by at least d × its count in the new bill and at most d × its count
 -- in the old. In days it rises by 0 to d, since a line stands at most once on a downward path, and in grade, since the least of some figures does. Demand 3. Assumes nothing.
-use mathlib.Core.Path.{_≡_, refl, _∙_, ap}
+use mathlib.Core.Path.{_≡_, refl, sym, _∙_, ap, subst}
 use mathlib.Core.List.{List, [], _∷_}
 use Prim.Native.Nat.{ℕ, _+_, _*_, _≤_}
 use native.Mathlib.Omega.{arith}
 use native.Mathlib.Nat.{mul-zero, mul-one}
 use native.Mathlib.Decide.{ℕ-discrete}
+use lib.IntN.{ℤ, pos, subℕ}
+use lib.Signed.{_≤ℤ_}
 use Rattle.weights.specs.declared.Label.{Label}
 use Rattle.weights.specs.Figures.{capped}
 use Rattle.weights.specs.Measures.{Algebra, cost, days, grade, fold, weigh}
@@ -24,8 +26,9 @@ use Rattle.provenance.proofs.Exact.{weight-capped}
 use Rattle.provenance.specs.Paths.{Greatest}
 use Rattle.provenance.proofs.Paths.{line-once, days-path}
 use Rattle.provenance.specs.Counting.{count, charge, total, Raised}
-use Rattle.provenance.proofs.Counting.{total-charge, total-append, AllBelow, below-append, raised-more, raised-most, raised-total}
-use Rattle.provenance.specs.Sensitivity.{MadeWithin, Exchange, CostRise, DaysRise}
+use Rattle.provenance.proofs.Counting.{total-charge, total-append, AllBelow, below-append, raised-more, raised-most, raised-total, bill-change, raised-change}
+use Rattle.provenance.proofs.Integers.{sub-order, above-number, below-number}
+use Rattle.provenance.specs.Sensitivity.{MadeWithin, Exchange, CostChange, CostRise, DaysRise}
 
 -- whether a part is made does not look at figures
 pub same-made : {A : Algebra} {H : Hypergraph} {own own′ : ℕ → ℕ} {ls ls′ : ℕ → Label} → Lawful A → Fixpoint A H own ls → Fixpoint A H own′ ls′ → (v : ℕ) → Made (ls v) → Made (ls′ v)
@@ -83,15 +86,33 @@ module _ {H : Hypergraph} {own own′ : ℕ → ℕ} {ls ls′ : ℕ → Label} 
     most = omega (arith, bill-least fix′ t, total-charge own′ (listing-below t));
   }
 
-  -- the case of one line: its raise, times its count in either bill, is what separates the charges
+  -- the change of a part keeps to what the lines' changes come to in its two bills
+  pub cost-change : CostChange own own′ (H .edges) (ls v .weight .0) (ls′ v .weight .0) (listing t) (listing t′)
+  cost-change =
+      let w = ls v .weight .0 in
+      let w′ = ls′ v .weight .0 in
+      let n = H .edges in
+      let x = exchange in
+      record {
+        least = subst (λ (z : ℤ). z ≤ℤ subℕ w′ w) (sym (bill-change own own′ n (listing t′)))
+            (sub-order (charge own′ n (listing t′)) (charge own n (listing t′)) w′ w .1 (omega (arith, x .new, x .least)));
+        most = subst (λ (z : ℤ). subℕ w′ w ≤ℤ z) (sym (bill-change own own′ n (listing t)))
+            (sub-order w′ w (charge own′ n (listing t)) (charge own n (listing t)) .1 (omega (arith, x .old, x .most)));
+      }
+
+  -- the case of one line: the change of either bill is its raise, times its count there
   pub cost-rise : {e d : ℕ} → Raised own own′ e d → CostRise d (ls v .weight .0) (ls′ v .weight .0) (count e (listing t)) (count e (listing t′))
-  cost-rise {e} {d} r = record {
-    least = omega (arith, exchange .new, exchange .least, raised-charge t′);
-    most = omega (arith, exchange .old, exchange .most, raised-charge t);
-  }
-    where
-      raised-charge : (u : Derivation H v) → charge own′ (H .edges) (listing u) ≡ charge own (H .edges) (listing u) + d * count e (listing u)
-      raised-charge u = omega (arith, raised-total r (listing u), total-charge own (listing-below u), total-charge own′ (listing-below u))
+  cost-rise {e} {d} r =
+      let w = ls v .weight .0 in
+      let w′ = ls′ v .weight .0 in
+      let new = d * count e (listing t′) in
+      let old = d * count e (listing t) in
+      let least : pos new ≤ℤ subℕ w′ w = subst (λ (z : ℤ). z ≤ℤ subℕ w′ w) (raised-change r (listing-below t′)) (cost-change .least) in
+      let most : subℕ w′ w ≤ℤ pos old = subst (λ (z : ℤ). subℕ w′ w ≤ℤ z) (raised-change r (listing-below t)) (cost-change .most) in
+      record {
+        least = omega (arith, above-number new w′ w .0 least);
+        most = omega (arith, below-number w′ w old .0 most);
+      }
 
 -- a worse own figure makes no weight better
 module _ {A : Algebra} (L : Lawful A) {H : Hypergraph} (own own′ : ℕ → ℕ) (worse : (e : ℕ) → NoWorse (A .leq) (own e) (own′ e)) where

@@ -4,6 +4,7 @@ use mathlib.Core.Logic.{_≢_}
 use mathlib.Core.List.{List, [], _∷_}
 use Prim.Native.Nat.{ℕ, zero, suc, _+_, _*_}
 use lib.Dec.{eqb}
+use lib.IntN.{ℤ, pos, subℕ, _+ℤ_, _*ℤ_}
 use Rattle.weights.specs.Choice.{pick}
 
 -- 1 where x is e, else 0
@@ -33,3 +34,16 @@ total own (e ∷ es) = own e + total own es
 pub record Raised (own own′ : ℕ → ℕ) (e d : ℕ) : Type 0 where
   pub here : own′ e ≡ own e + d
   pub elsewhere : (x : ℕ) → x ≢ e → own′ x ≡ own x
+
+-- by how much the own figure of a line changes, new less old: an integer, negative where it falls
+abbrev pub changeOf : (own own′ : ℕ → ℕ) (e : ℕ) → ℤ
+changeOf own own′ e = subℕ (own′ e) (own e)
+
+-- f summed over the numbers below n, as integers
+unfoldable pub sumℤ : (ℕ → ℤ) → ℕ → ℤ
+sumℤ f zero = pos zero
+sumℤ f (suc n) = sumℤ f n +ℤ f n
+
+-- document 02, 2026-11: "the sum, over all lines, of the line's change times its count" in a bill, of n lines in all
+unfoldable pub billChange : (own own′ : ℕ → ℕ) (n : ℕ) → List ℕ → ℤ
+billChange own own′ n es = sumℤ (λ e. changeOf own own′ e *ℤ pos (count e es)) n
