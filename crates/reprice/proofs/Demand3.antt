@@ -3,37 +3,30 @@
 use mathlib.Core.Path.{_≡_, sym, _∙_, ap, subst}
 use mathlib.Core.Bool.{false}
 use Prim.Native.Nat.{ℕ, _+_, _≤_, _<_}
-use native.Mathlib.Omega.{arith}
-use native.Mathlib.Decide.{decLe}
 use lib.ListN.{length, set}
 use lib.Seq.{set-set, set-getD}
 use borrow.Author.Tests.{lt-ltb, le-leb}
 use Rattle.weights.specs.declared.Measure.{Measure}
 use Rattle.weights.specs.declared.Measure.the-variants.{Cost, Days, Grade}
-use Rattle.weights.specs.declared.State.the-variants as state
 use Rattle.weights.specs.declared.Label.{Label}
-use Rattle.weights.specs.Figures.{greatest, over, isStruckMark}
+use Rattle.weights.specs.Figures.{greatest, isStruckMark}
 use Rattle.weights.specs.Measures.{algebra}
-use Rattle.weights.specs.Labels.{labelState}
-use Rattle.weights.proofs.Laws.{lawful, below-over}
 use Rattle.refusal.specs.declared.Acceptance.the-variants.{Accepted}
 use Rattle.provenance.specs.Hypergraph.{Hypergraph, Derivation, listing}
-use Rattle.provenance.specs.Labelling.{Made, Fixpoint}
+use Rattle.provenance.specs.Labelling.{Fixpoint}
 use Rattle.provenance.specs.Means.{Follows}
 use Rattle.columns.specs.Columns.{Entries, Columns, columns, ownAt, strikeAt, withOwn}
-use Rattle.provenance.proofs.Existence.{label-within}
 use Rattle.provenance.specs.Counting.{count, Raised}
-use Rattle.provenance.proofs.Sensitivity.{same-made, cost-rise, days-rise, grade-rise}
+use Rattle.provenance.proofs.Sensitivity.{cost-rise, days-rise, grade-rise}
 use Rattle.provenance.specs.Sensitivity.{MadeWithin}
 use Rattle.tables.specs.Table.{hypergraph}
 use Rattle.columns.specs.Acceptance.{acceptance}
 use Rattle.columns.proofs.Accepted.{table-accepted, columns-accept}
-use Rattle.columns.proofs.Repriced.{own-here, own-elsewhere}
 use Rattle.columns.proofs.Same.{entries-refl}
 use Rattle.settle.specs.Settling.{entriesOf, settled}
-use Rattle.weights.proofs.States.{unmade-state, made-state}
-use Rattle.settle.proofs.Demands.{answers-fixpoint, entries-sized, entries-mean, settled-left, settled-result}
+use Rattle.settle.proofs.Demands.{entries-sized, entries-mean, settled-left, settled-result}
 use Rattle.reprice.specs.Demand3.{labelsOf, Pair, Rise, Carries, Demand3}
+use Rattle.reprice.proofs.Revision.{made-within, old-fixpoint, new-fixpoint, unmade-both, raised-here, line-raised}
 use Rattle.reprice.specs.Repricing.{lineAcceptance, repriceAcceptance, repriced}
 
 -- repricing a settled table
@@ -50,45 +43,20 @@ module _ (m : Measure) (c : Columns) (e w : ℕ) (p : acceptance c ≡ Accepted)
 left-is : (m : Measure) (c : Columns) (a : Entries) → settled m c a .result ≡ Accepted → settled m c a .left ≡ entriesOf m c
 left-is m c a q = settled-left m c a (sym (settled-result m c a) ∙ q)
 
--- a part that is unmade by one labelling is by another that makes no more
-zero-kept : (ls ls′ : ℕ → Label) (v : ℕ) → (Made (ls′ v) → Made (ls v)) → ls v .depth ≡ 0 → ls′ v .depth ≡ 0
-zero-kept ls ls′ v f z = go (decLe 1 (ls′ v .depth))
-  where
-    go : Dec (1 ≤ ls′ v .depth) → ls′ v .depth ≡ 0
-    go (yes k) = absurd (omega (arith, f (record { deep = k }) .deep))
-    go (no n) = omega arith
-
--- what the state made tells
-record Told (l : Label) : Type 0 where
-  deep : 0 < l .depth
-  low : ¬ (l .weight .0 ≡ over)
-
-made-told : (l : Label) → labelState l ≡ state.Made → Told l
-made-told l p = let t = made-state (l .weight .0) (l .depth) .0 p in record { deep = t .0; low = t .1 }
-
-within : (m : Measure) {H : Hypergraph} {own : ℕ → ℕ} {ls : ℕ → Label} → Fixpoint (algebra m) H own ls → (v : ℕ) → Told (ls v) → MadeWithin (ls v)
-within m {ls = ls} fix v t =
-    let k : Made (ls v) = record { deep = t .deep } in
-    let n : ¬ (ls v .weight .0 ≡ over) = t .low in
-    record { made = k; low = omega (arith, below-over m (label-within (lawful m) fix v k)) }
-
 -- the rise of one part, over one hypergraph
 rise-of : (m : Measure) {H : Hypergraph} {own own′ : ℕ → ℕ} {ls ls′ : ℕ → Label} {e d : ℕ} → Fixpoint (algebra m) H own ls → Fixpoint (algebra m) H own′ ls′ → Raised own own′ e d
-    → (v : ℕ) → Told (ls v) → Told (ls′ v) → (t : Derivation H v) → Follows ls t → (t′ : Derivation H v) → Follows ls′ t′
+    → (v : ℕ) → MadeWithin (ls v) → MadeWithin (ls′ v) → (t : Derivation H v) → Follows ls t → (t′ : Derivation H v) → Follows ls′ t′
     → Rise m d (ls v .weight .0) (ls′ v .weight .0) (count e (listing t)) (count e (listing t′))
-rise-of Cost fix fix′ r v k k′ t f t′ f′ = cost-rise fix fix′ (within Cost fix v k) (within Cost fix′ v k′) t t′ f f′ r
-rise-of Days fix fix′ r v k k′ t f t′ f′ = days-rise r fix fix′ v (within Days fix v k) (within Days fix′ v k′)
-rise-of Grade fix fix′ r v k k′ t f t′ f′ = grade-rise r fix fix′ v (within Grade fix v k .made)
+rise-of Cost fix fix′ r v k k′ t f t′ f′ = cost-rise fix fix′ k k′ t t′ f f′ r
+rise-of Days fix fix′ r v k k′ t f t′ f′ = days-rise r fix fix′ v k k′
+rise-of Grade fix fix′ r v k k′ t f t′ f′ = grade-rise r fix fix′ v (k .made)
 
 module _ (m : Measure) (c : Columns) (e d : ℕ) (p : Pair c (withOwn c e (ownAt c e + d)) e d) where
   abbrev new : Columns
   new = withOwn c e (ownAt c e + d)
 
   here : ownAt new e ≡ ownAt c e + d
-  here = own-here c e (ownAt c e + d) (omega (arith, table-accepted c (p .accepted) .own, p .numbered))
-
-  raise : Raised (ownAt c) (ownAt new) e d
-  raise = record { here = here; elsewhere = own-elsewhere c e (ownAt c e + d) }
+  here = raised-here c e d (p .accepted) (p .numbered)
 
   -- the old table is the new one with the line put back
   back : set (new .own) e (ownAt c e) ≡ c .own
@@ -98,10 +66,10 @@ module _ (m : Measure) (c : Columns) (e d : ℕ) (p : Pair c (withOwn c e (ownAt
   old-again = λ i. columns (c .vertices) (c .heads) (back i) (c .strikes) (c .spans) (c .tails)
 
   fix : Fixpoint (algebra m) (hypergraph c) (ownAt c) (labelsOf m c)
-  fix = answers-fixpoint m c (p .accepted)
+  fix = old-fixpoint m c (new .own) (p .accepted) (p .accepted′)
 
   fix′ : Fixpoint (algebra m) (hypergraph c) (ownAt new) (labelsOf m new)
-  fix′ = answers-fixpoint m new (p .accepted′)
+  fix′ = new-fixpoint m c (new .own) (p .accepted) (p .accepted′)
 
   -- an own figure of an accepted table
   own-low : (c : Columns) → acceptance c ≡ Accepted → (x : ℕ) → x < length (c .heads) → ownAt c x ≤ greatest
@@ -122,17 +90,11 @@ module _ (m : Measure) (c : Columns) (e d : ℕ) (p : Pair c (withOwn c e (ownAt
       ∙ reprice-settled m new e (ownAt c e) (p .accepted′) (p .numbered) (p .unstruck) (own-low c (p .accepted) e (p .numbered))
       ∙ (λ i. record { result = Accepted; own = back i; left = (ap (entriesOf m) old-again ∙ sym (left-is m c a q)) i })
 
-  unmade-in : (ls ls′ : ℕ → Label) (v : ℕ) → (Made (ls′ v) → Made (ls v)) → labelState (ls v) ≡ state.Unmade → labelState (ls′ v) ≡ state.Unmade
-  unmade-in ls ls′ v f s = unmade-state (ls′ v .weight .0) (ls′ v .depth) .1 (zero-kept ls ls′ v f (unmade-state (ls v .weight .0) (ls v .depth) .0 s))
-
   carries : Carries m c new e
   carries = record {
     up = upward;
     down = downward;
-    unmade = λ v. (
-      unmade-in (labelsOf m c) (labelsOf m new) v (same-made (lawful m) fix′ fix v),
-      unmade-in (labelsOf m new) (labelsOf m c) v (same-made (lawful m) fix fix′ v),
-    );
+    unmade = unmade-both m c (new .own) (p .accepted) (p .accepted′);
   }
 
   demand : Demand3 m c new e d
@@ -140,7 +102,7 @@ module _ (m : Measure) (c : Columns) (e d : ℕ) (p : Pair c (withOwn c e (ownAt
     carries = carries;
     means = entries-mean m c (p .accepted);
     means′ = entries-mean m new (p .accepted′);
-    rises = λ v k k′. rise-of m fix fix′ raise v (made-told (labelsOf m c v) k) (made-told (labelsOf m new v) k′);
+    rises = λ v k k′. rise-of m fix fix′ (line-raised c e d (p .accepted) (p .numbered)) v (made-within m fix v k) (made-within m fix′ v k′);
   }
 
 -- demand 3
