@@ -3,17 +3,22 @@
 use mathlib.Core.Path.{_≡_}
 use mathlib.Core.List.{List, [], _∷_, _++_}
 use Prim.Native.Nat.{ℕ, _+_}
+use lib.IntN.{ℤ, subℕ}
+use lib.Signed.{_≤ℤ_}
 use lib.ListN.{length, drop}
 use Rattle.weights.specs.declared.Measure.{Measure}
+use Rattle.weights.specs.declared.Measure.the-variants.{Cost}
 use Rattle.weights.specs.declared.State.{State}
 use Rattle.weights.specs.Labels.{stateOf}
 use Rattle.refusal.specs.declared.Acceptance.the-variants.{Accepted}
 use Rattle.refusal.specs.declared.Extent.the-variants.{Length}
+use Rattle.provenance.specs.Counting.{billChange}
 use Rattle.columns.specs.Columns.{Entries, Columns, ownAt, withOwn}
-use Rattle.settle.specs.Settling.{settled}
+use Rattle.settle.specs.Settling.{answersOf, settled}
 use Rattle.reprice.specs.Repricing.{repriced, stricken, restored}
 use Rattle.reprice.specs.Demand3.{labelsOf, Pair, Rise}
-use Rattle.bill.specs.Billing.{billed}
+use Rattle.reprice.specs.Revision.{Revised}
+use Rattle.bill.specs.Billing.{billOf, billed}
 use Rattle.bill.specs.Rises.{countIn}
 
 pub data Case : Type 0 where
@@ -28,6 +33,8 @@ pub data Case : Type 0 where
   restores : Measure → Columns → (filler : Entries) → (e : ℕ) → (marks : List ℕ) → (left : Entries) → Case
   -- line e raised by d carries part v from figure w to w′, and stands `old` times in its bill before and `new` times after
   raises : Measure → Columns → (e d v w w′ old new : ℕ) → Case
+  -- a letter carries part v from figure w to w′; the lines' changes come to `most` in its bill before and to `least` in its bill after
+  revises : (c c′ : Columns) (v w w′ : ℕ) (least most : ℤ) → Case
 
 -- the states of parts of these figures and depths
 unfoldable pub states : (weights depths : List ℕ) → List State
@@ -48,6 +55,16 @@ pub record Raises (m : Measure) (c : Columns) (e d v w w′ old new : ℕ) : Typ
   pub new-count : countIn m (withOwn c e (ownAt c e + d)) e v ≡ new
   pub bounds : Rise m d w w′ old new
 
+-- the two tables are those of a price letter, and the change keeps to its bounds
+pub record Revises (c c′ : Columns) (v w w′ : ℕ) (least most : ℤ) : Type 0 where
+  pub letter : Revised c c′
+  pub before : labelsOf Cost c v .weight .0 ≡ w
+  pub after : labelsOf Cost c′ v .weight .0 ≡ w′
+  pub new-sum : billChange (ownAt c) (ownAt c′) (length (c .heads)) (billOf c′ (answersOf Cost c′) v) ≡ least
+  pub old-sum : billChange (ownAt c) (ownAt c′) (length (c .heads)) (billOf c (answersOf Cost c) v) ≡ most
+  pub at-least : least ≤ℤ subℕ w′ w
+  pub at-most : subℕ w′ w ≤ℤ most
+
 -- what a case says
 abbrev pub Holds : Case → Type 0
 Holds (settles m c filler left ss) = Settles m c filler left ss
@@ -56,6 +73,7 @@ Holds (reprices m c filler e w own left) = repriced m c (settled m c filler .lef
 Holds (strikes m c filler e marks left) = stricken m c (settled m c filler .left) e ≡ record { result = Accepted; strikes = marks; left = left }
 Holds (restores m c filler e marks left) = restored m c (settled m c filler .left) e ≡ record { result = Accepted; strikes = marks; left = left }
 Holds (raises m c e d v w w′ old new) = Raises m c e d v w w′ old new
+Holds (revises c c′ v w w′ least most) = Revises c c′ v w w′ least most
 
 -- every case of a list holds
 unfoldable pub AllHold : List Case → Type 0

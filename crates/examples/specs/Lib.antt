@@ -1,2 +1,3 @@
 pub mod Case
 pub mod Paper
+pub mod Letter
