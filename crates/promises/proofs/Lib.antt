@@ -14,3 +14,4 @@ pub mod Request07
 pub mod Request08
 pub mod Request09
 pub mod Request10
+pub mod Request11
