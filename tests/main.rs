@@ -38,6 +38,7 @@ const TESTS: &[&[Test]] = &[
     answers::values::TESTS,
     reprice::counting::TESTS,
     reprice::raising::TESTS,
+    reprice::letter::TESTS,
     index::TESTS,
     append::TESTS,
     append::refusals::TESTS,

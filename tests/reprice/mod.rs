@@ -3,6 +3,7 @@
 
 pub mod changes;
 pub mod counting;
+pub mod letter;
 pub mod raising;
 pub mod refusals;
 

@@ -76,7 +76,7 @@ struct Rise {
     most: u128,
 }
 
-fn is_made(label: Label) -> bool {
+pub fn is_made(label: Label) -> bool {
     label.depth > 0 && label.weight != OVER
 }
 
@@ -113,7 +113,7 @@ fn rises(pair: &Pair, old: &Labelling, new: &Labelling) -> Result<Vec<Rise>, Str
 }
 
 /// The table as the library settles it, which must be as the solver does.
-fn settled(measure: u64, table: &Table, rng: &mut Rng) -> Result<Call, String> {
+pub fn settled(measure: u64, table: &Table, rng: &mut Rng) -> Result<Call, String> {
     let room = rng.labelling([table.n as usize; 4]);
     let (result, answers) = settle(measure, table, &room)?;
     expect("settle", result, 0)?;
