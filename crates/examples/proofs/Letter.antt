@@ -5,11 +5,12 @@ use Rattle.weights.specs.Labels.{aheadOf}
 use Rattle.provenance.specs.Labelling.{each, greatestDepth, noneZero, offerOf}
 use Rattle.provenance.specs.BestFirst.{opening, next, turn, turns, best-first}
 use Rattle.provenance.specs.Support.{bills, bill}
-use Rattle.provenance.specs.Counting.{count, sumℤ, billChange}
+use Rattle.provenance.specs.Counting.{count, total, sumℤ, billChange}
+use Rattle.provenance.specs.Pieces.{piece, piecesAt, below}
 use Rattle.columns.specs.Worked.{worked}
-use Rattle.columns.specs.Same.{equal, sameAnswers}
+use Rattle.columns.specs.Same.{equal, sameAnswers, sameEntries}
 use Rattle.columns.specs.Acceptance.{allBelow, edgeAcceptance, edgesAcceptance, acceptance, lentAcceptance}
-use Rattle.settle.specs.Settling.{answersOf, settled}
+use Rattle.settle.specs.Settling.{answersOf, entriesOf, settled}
 use Rattle.reprice.specs.Revision.{Revised}
 use Rattle.bill.specs.Billing.{billOf, partAcceptance, billAcceptance, billed}
 use Rattle.bill.specs.Rises.{RevisionBilled}
@@ -25,7 +26,7 @@ worked-bounds : RevisionBilled worked lettered
 worked-bounds = cost-revision-billed worked lettered worked-letter
 
 pub letter-holds : AllHold letterCases
-unfolding letterCases AllHold billChange sumℤ settled billed answersOf billOf partAcceptance billAcceptance sameAnswers equal lentAcceptance acceptance edgesAcceptance edgeAcceptance allBelow best-first turns turn next opening offerOf noneZero aheadOf weigh fold each greatestDepth bill bills count
+unfolding letterCases AllHold billChange sumℤ settled billed answersOf entriesOf below piecesAt piece total billOf partAcceptance billAcceptance sameAnswers sameEntries equal lentAcceptance acceptance edgesAcceptance edgeAcceptance allBelow best-first turns turn next opening offerOf noneZero aheadOf weigh fold each greatestDepth bill bills count
 letter-holds =
     let second = worked-bounds .changes 2 refl refl in
     let third = worked-bounds .changes 3 refl refl in (
