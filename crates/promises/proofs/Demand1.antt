@@ -23,7 +23,7 @@ use Rattle.refusal.specs.declared.Verdict.the-variants as verdict
 use Rattle.refusal.specs.declared.Extent.the-variants as extent
 use Rattle.refusal.specs.declared.Reading.the-variants as reading
 use Rattle.refusal.specs.declared.MeasureChoice.the-variants as choice
-use Rattle.refusal.specs.Refusals.{codeOf, columnOf, resultOf, acceptanceResult, extentResult, measureOf}
+use Rattle.refusal.specs.Refusals.{codeOf, numberOf, columnOf, resultOf, acceptanceResult, extentResult, measureOf}
 use Rattle.refusal.proofs.Codes.{codes-differ}
 use Rattle.columns.specs.Columns.{Entries, SizedEntries, Columns, withOwn, withStrike}
 use Rattle.columns.specs.Acceptance.{acceptance, lentAcceptance}
@@ -154,8 +154,9 @@ module _ (m : Measure) (c : Columns) (room : List ℕ) where
       once (WrongWrite.room p h) (WrongWrite.table q) = absurd (check-table-fixed c .never p q)
       once (WrongWrite.room p h) (WrongWrite.room q k) = refl
 
--- "A refusal returns its number and a place", and by document 02, 2026-06, the column of a text: from these the refusal can be told
-pub codes : (r s : Refusal) → codeOf r ≡ codeOf s → columnOf r ≡ columnOf s → r ≡ s
+-- "A refusal returns its number and a place", and by document 02, 2026-06, the column of a text: from these the refusal can be told, but for 26, whose place is a part
+-- or an event (2026-12)
+pub codes : (r s : Refusal) → ¬ (numberOf r ≡ 26) → codeOf r ≡ codeOf s → columnOf r ≡ columnOf s → r ≡ s
 codes = codes-differ
 
 -- The counter programs in C: settle, reprice and bill ---------------------------------------------------------------------------------------------------------------

@@ -1,7 +1,8 @@
 -- A refusal can be told from its number, its place and its column: two different refusals differ in one of them, and only two of number 14 in the column alone.
+-- The place of 26 is a part or an event, as document 02, 2026-12, has it, so the two refusals of that number are left out.
 -- The paper's "A refusal returns its number and a place", and document 02, 2026-06: "Refusal 14 then returns line and column".
 -- Assumes nothing.
-use mathlib.Core.Path.{_≡_, refl, sym, _∙_, ap₂}
+use mathlib.Core.Path.{_≡_, refl, sym, _∙_, ap, ap₂}
 use mathlib.Core.List.{List, [], _∷_}
 use Prim.Native.Nat.{ℕ}
 use lib.ListN.{getD}
@@ -31,45 +32,52 @@ use Rattle.refusal.specs.declared.Refusal.the-variants.{
   SampleSize,
   TooLarge,
   Order,
+  EventVertex,
+  OpeningCount,
+  ReceivedCount,
 }
 use Rattle.refusal.specs.declared.Code.{Code}
-use Rattle.refusal.specs.Refusals.{codeOf, columnOf}
+use Rattle.refusal.specs.Refusals.{codeOf, numberOf, columnOf}
 
 -- the refusals with place p and column c, by number, from 1 on
 abbrev numberedAt : (p c : ℕ) → List Refusal
 numberedAt p c =
     NotStruck ∷ TooManyVertices ∷ Lengths ∷ Head (record { 0 = p }) ∷ Own (record { 0 = p }) ∷ Span (record { 0 = p }) ∷ Tail (record { 0 = p })
     ∷ AnswerLength ∷ WrongAnswers ∷ NoSuchEdge ∷ NewWeight ∷ NoSuchVertex ∷ Underivable ∷ BillRoom ∷ Text (record { 0 = p }) (record { 0 = c }) ∷ TextRoom ∷ MeasureNumber
-    ∷ InputLength ∷ ColumnRoom ∷ WrongIndex ∷ NotStruck ∷ StrikeMark (record { 0 = p }) ∷ SampleSize ∷ TooLarge (record { 0 = p }) ∷ Order (record { 0 = p }) ∷ []
+    ∷ InputLength ∷ ColumnRoom ∷ WrongIndex ∷ NotStruck ∷ StrikeMark (record { 0 = p }) ∷ SampleSize ∷ TooLarge (record { 0 = p })
+    ∷ Order (record { 0 = p }) ∷ EventVertex (record { 0 = p }) ∷ OpeningCount (record { 0 = p }) ∷ []
 
 abbrev refusalOf : Code → (column : ℕ) → Refusal
 refusalOf c column = getD (numberedAt (c .place) column) (c .number) NotStruck
 
-refusal-code : (r : Refusal) → refusalOf (codeOf r) (columnOf r) ≡ r
-refusal-code TooManyVertices = refl
-refusal-code Lengths = refl
-refusal-code (Head e) = refl
-refusal-code (Own e) = refl
-refusal-code (Span e) = refl
-refusal-code (Tail e) = refl
-refusal-code AnswerLength = refl
-refusal-code WrongAnswers = refl
-refusal-code NoSuchEdge = refl
-refusal-code NewWeight = refl
-refusal-code NoSuchVertex = refl
-refusal-code Underivable = refl
-refusal-code BillRoom = refl
-refusal-code (Text line column) = refl
-refusal-code TextRoom = refl
-refusal-code MeasureNumber = refl
-refusal-code InputLength = refl
-refusal-code ColumnRoom = refl
-refusal-code WrongIndex = refl
-refusal-code NotStruck = refl
-refusal-code (StrikeMark e) = refl
-refusal-code SampleSize = refl
-refusal-code (TooLarge i) = refl
-refusal-code (Order e) = refl
+refusal-code : (r : Refusal) → ¬ (numberOf r ≡ 26) → refusalOf (codeOf r) (columnOf r) ≡ r
+refusal-code TooManyVertices n = refl
+refusal-code Lengths n = refl
+refusal-code (Head e) n = refl
+refusal-code (Own e) n = refl
+refusal-code (Span e) n = refl
+refusal-code (Tail e) n = refl
+refusal-code AnswerLength n = refl
+refusal-code WrongAnswers n = refl
+refusal-code NoSuchEdge n = refl
+refusal-code NewWeight n = refl
+refusal-code NoSuchVertex n = refl
+refusal-code Underivable n = refl
+refusal-code BillRoom n = refl
+refusal-code (Text line column) n = refl
+refusal-code TextRoom n = refl
+refusal-code MeasureNumber n = refl
+refusal-code InputLength n = refl
+refusal-code ColumnRoom n = refl
+refusal-code WrongIndex n = refl
+refusal-code NotStruck n = refl
+refusal-code (StrikeMark e) n = refl
+refusal-code SampleSize n = refl
+refusal-code (TooLarge i) n = refl
+refusal-code (Order e) n = refl
+refusal-code (EventVertex i) n = refl
+refusal-code (OpeningCount v) n = refl
+refusal-code (ReceivedCount i) n = absurd (n refl)
 
-pub codes-differ : (r s : Refusal) → codeOf r ≡ codeOf s → columnOf r ≡ columnOf s → r ≡ s
-codes-differ r s e f = sym (refusal-code r) ∙ ap₂ refusalOf e f ∙ refusal-code s
+pub codes-differ : (r s : Refusal) → ¬ (numberOf r ≡ 26) → codeOf r ≡ codeOf s → columnOf r ≡ columnOf s → r ≡ s
+codes-differ r s n e f = sym (refusal-code r n) ∙ ap₂ refusalOf e f ∙ refusal-code s (λ q. n (ap (λ (c : Code). c .number) e ∙ q))

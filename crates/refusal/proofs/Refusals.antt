@@ -29,6 +29,9 @@ use Rattle.refusal.specs.declared.Refusal.the-variants.{
   SampleSize,
   TooLarge,
   Order,
+  EventVertex,
+  OpeningCount,
+  ReceivedCount,
 }
 use Rattle.refusal.specs.declared.Code.{Code}
 use Rattle.refusal.specs.Refusals.{numberOf, lastPlace, resultOf}
@@ -36,8 +39,8 @@ use Rattle.refusal.specs.Refusals.{numberOf, lastPlace, resultOf}
 pub exact : (c : Code) → c .place ≤ lastPlace → resultOf c ≡ c .number * 4_294_967_296 + c .place
 exact c h = omega arith
 
--- there are twenty-four, numbered from 1
-pub numbered : (r : Refusal) → (1 ≤ numberOf r) × (numberOf r ≤ 24)
+-- they are numbered from 1 to 26
+pub numbered : (r : Refusal) → (1 ≤ numberOf r) × (numberOf r ≤ 26)
 numbered TooManyVertices = omega arith
 numbered Lengths = omega arith
 numbered (Head e) = omega arith
@@ -62,3 +65,6 @@ numbered (StrikeMark e) = omega arith
 numbered SampleSize = omega arith
 numbered (TooLarge i) = omega arith
 numbered (Order e) = omega arith
+numbered (EventVertex i) = omega arith
+numbered (OpeningCount v) = omega arith
+numbered (ReceivedCount i) = omega arith

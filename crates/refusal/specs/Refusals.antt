@@ -32,6 +32,9 @@ use Rattle.refusal.specs.declared.Refusal.the-variants.{
   SampleSize,
   TooLarge,
   Order,
+  EventVertex,
+  OpeningCount,
+  ReceivedCount,
 }
 use Rattle.refusal.specs.declared.Code.{Code}
 use Rattle.refusal.specs.declared.Acceptance.{Acceptance}
@@ -47,7 +50,7 @@ use Rattle.refusal.specs.declared.Reading.the-variants as reading
 abbrev pub code : (number place : ℕ) → Code
 code n p = record { number = n; place = p }
 
--- the paper's table: a table line as place for 3 to 6, 21 and 24, a text line for 14, a result's index for 23, otherwise 0
+-- the paper's table: a table line as place for 3 to 6, 21 and 24, a text line for 14, a result's index for 23, an event for 25, a part or an event for 26, otherwise 0
 abbrev pub codeOf : Refusal → Code
 codeOf TooManyVertices = code 1 0
 codeOf Lengths = code 2 0
@@ -73,6 +76,9 @@ codeOf (StrikeMark e) = code 21 (e .0)
 codeOf SampleSize = code 22 0
 codeOf (TooLarge i) = code 23 (i .0)
 codeOf (Order e) = code 24 (e .0)
+codeOf (EventVertex i) = code 25 (i .0)
+codeOf (OpeningCount v) = code 26 (v .0)
+codeOf (ReceivedCount i) = code 26 (i .0)
 
 abbrev pub numberOf : Refusal → ℕ
 numberOf r = codeOf r .number
@@ -106,6 +112,9 @@ columnOf (StrikeMark e) = 0
 columnOf SampleSize = 0
 columnOf (TooLarge i) = 0
 columnOf (Order e) = 0
+columnOf (EventVertex i) = 0
+columnOf (OpeningCount v) = 0
+columnOf (ReceivedCount i) = 0
 
 -- the greatest place that a result in C can hold
 abbrev pub lastPlace : ℕ

@@ -2,6 +2,7 @@
 // that a caller in C gets of each.
 use weights::Hyperedge;
 use weights::Measure;
+use weights::Vertex;
 ghost use mathlib.Core.Path.{_≡_};
 ghost use Rattle.refusal.specs.Refusals.{code, codeOf, numberOf, placeOf, columnOf, resultOf, acceptanceResult, verdictResult, extentResult, measureOf};
 
@@ -13,6 +14,9 @@ pub struct TextColumn(pub u64);
 
 // A result of a sample, counted from 0.
 pub struct Observation(pub u64);
+
+// An event of a stock record, counted from 0.
+pub struct Event(pub u64);
 
 // The paper's table of refusals, in its order.
 pub enum Refusal {
@@ -64,10 +68,16 @@ pub enum Refusal {
     TooLarge(Observation),
     // 24: a hyperedge that lists its head or a higher vertex.
     Order(Hyperedge),
+    // 25: an event of a vertex that is none.
+    EventVertex(Event),
+    // 26: a count that is too large where a stock record opens.
+    OpeningCount(Vertex),
+    // 26: a receipt after which a count is too large.
+    ReceivedCount(Event),
 }
 
-// A refusal's number, and its place: the hyperedge, the text line or the result that it names, else
-// 0.
+// A refusal's number, and its place: the hyperedge, the text line, the result, the event or the vertex
+// that it names, else 0.
 pub struct Code {
     pub number: u64,
     pub place: u64,
@@ -111,6 +121,9 @@ impl Refusal {
             Refusal::SampleSize => Code::of(22, 0),
             Refusal::TooLarge(i) => Code::of(23, i.0),
             Refusal::Order(e) => Code::of(24, e.0),
+            Refusal::EventVertex(i) => Code::of(25, i.0),
+            Refusal::OpeningCount(v) => Code::of(26, v.0),
+            Refusal::ReceivedCount(i) => Code::of(26, i.0),
         }
     }
 

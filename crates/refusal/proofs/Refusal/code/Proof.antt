@@ -79,11 +79,26 @@ returns-23 c = c .of23 .ensures ∙ sym (ap codeOf (c .before .before .self7 .gi
 returns-24 : tie.Need-returns-24
 returns-24 c = c .of24 .ensures ∙ sym (ap codeOf (c .before .before .self8 .given .1))
 
+returns-25 : tie.Need-returns-25
+returns-25 c = c .of25 .ensures ∙ sym (ap codeOf (c .before .before .self9 .given .1))
+
+returns-26 : tie.Need-returns-26
+returns-26 c = c .of26 .ensures ∙ sym (ap codeOf (c .before .before .self10 .given .1))
+
+returns-27 : tie.Need-returns-27
+returns-27 c = c .of27 .ensures ∙ sym (ap codeOf (c .before .before .self11 .given .1))
+
 pub code-spec : {M : Type 1} → statement M
 code-spec =
     tie.close
     (tie.spec
     enum-told
+    (λ c κs. search needs)
+    (λ c. search needs)
+    (λ c κs. search needs)
+    (λ c. search needs)
+    (λ c κs. search needs)
+    (λ c. search needs)
     (λ c κs. search needs)
     (λ c. search needs)
     (λ c κs. search needs)
@@ -154,4 +169,7 @@ code-spec =
     returns-21
     returns-22
     returns-23
-    returns-24)
+    returns-24
+    returns-25
+    returns-26
+    returns-27)
