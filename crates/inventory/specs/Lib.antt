@@ -1,0 +1,4 @@
+pub mod Shelf
+pub mod Replaying
+pub mod Record
+pub mod Worked
