@@ -5,3 +5,4 @@ pub mod Conservation
 pub mod Opening
 pub mod Replayed
 pub mod Worked
+pub mod Asked

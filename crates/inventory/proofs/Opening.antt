@@ -38,7 +38,7 @@ pub record Recorded (n : ℕ) (vs ks os : List ℕ) : Type 0 where
   pub outcomes : length os ≡ length vs
   pub events : length vs ≤ mostEvents
 
-record-accepted : (n : ℕ) (parts received outcomes : List ℕ) → recordAcceptance n parts received outcomes ≡ Accepted → Recorded n parts received outcomes
+pub record-accepted : (n : ℕ) (parts received outcomes : List ℕ) → recordAcceptance n parts received outcomes ≡ Accepted → Recorded n parts received outcomes
 unfolding recordAcceptance
 record-accepted n parts received outcomes p =
     let t1 = test-passed _ _ _ p in
@@ -62,8 +62,10 @@ opening-low i (x ∷ xs) e v = go (leb x mostStock) refl e (opening-low (i + 1) 
 -- what holds where nothing before the events is refused
 pub record Opened (m : Measure) (c : Columns) (a : Answers) (parts received stock outcomes : List ℕ) : Type 0 where
   pub recorded : Recorded (c .vertices) parts received outcomes
+  pub lent : lentAcceptance c a ≡ Accepted
   pub columns : AcceptedColumns c a
   pub level : length stock ≡ c .vertices
+  pub same : sameAnswers a (answersOf m c) ≡ true
   pub fixed : Fixpoint (algebra m) (hypergraph c) (ownAt c) (labels a)
   pub low : Low stock
 
@@ -76,12 +78,14 @@ open-accepted m c a parts received stock outcomes p =
     let w = test-passed _ _ _ (u .1) in
     let x = both-accepted (answersAcceptance m c a) _ (w .1) in
     let l = columns-accepted c a (u .0) in
-    let same = same-true a (answersOf m c) (test-passed _ _ _ (x .0) .0) in
+    let same = test-passed _ _ _ (x .0) .0 in
     record {
       recorded = record-accepted (c .vertices) parts received outcomes (t .0);
+      lent = u .0;
       columns = l;
       level = eqb-true _ _ (w .0);
-      fixed = subst (λ (b : Answers). Fixpoint (algebra m) (hypergraph c) (ownAt c) (labels b)) (sym same) (answers-fixpoint m c (l .table));
+      same = same;
+      fixed = subst (λ (b : Answers). Fixpoint (algebra m) (hypergraph c) (ownAt c) (labels b)) (sym (same-true a (answersOf m c) same)) (answers-fixpoint m c (l .table));
       low = opening-low 0 stock (x .1);
     }
 

@@ -37,7 +37,7 @@ module _ (m : Measure) (c : Columns) (a : Answers) (parts received stock outcome
   unfolding replayed runOf
   replay-opened p = rw p
 
-  ended : (r : Run) → run ≡ r → Opened m c a parts received stock outcomes → RunTells c a 0 parts received stock r
+  pub ended : (r : Run) → run ≡ r → Opened m c a parts received stock outcomes → RunTells c a 0 parts received stock r
   ended r e o = subst (RunTells c a 0 parts received stock) e (run-tells c a 0 parts received stock (o .recorded .received))
 
   module _ (p : left .result ≡ Accepted) where

@@ -2,3 +2,4 @@ pub mod Shelf
 pub mod Replaying
 pub mod Record
 pub mod Worked
+pub mod Asked
