@@ -29,6 +29,7 @@ use Rattle.reprice.specs.Repricing.{stricken, restored}
 use Rattle.columns.specs.Longer.{NewLine}
 use Rattle.indextable.specs.Index.{IndexOutcome}
 use Rattle.append.specs.Appending.{leaves, appended}
+use Rattle.inventory.specs.Replaying.{replayed}
 use Rattle.readtable.specs.Read.{ReadOutcome, readOutcome}
 use Rattle.writetable.specs.Write.{writeTable}
 use Rattle.counter.specs.Results.{outcomeResult}
@@ -53,6 +54,8 @@ use Rattle.harness.specs.Results.{
   momentsWritten,
   summaryLeft,
   orderedResult,
+  replayResult,
+  replayedResult,
 }
 
 module _ {o : MeasureChoice} (c : Columns) (a : Entries) {n : ℕ} where
@@ -179,3 +182,14 @@ module _ {o : MeasureChoice} (c : Columns) (a : Entries) {n : ℕ} where
   pub ordered-measure : {m : Measure} {x : Acceptance} {b : Entries} → o ≡ choice.Measure m → n ≡ acceptanceResult x → record { result = x; left = b } ≡ settledInOrder m c a
       → record { result = n; left = b } ≡ orderedResult o c a
   ordered-measure {m} {x} {b} p q e = rw (p, q) (ap outcomeResult e)
+
+-- replaying, by the measure's number
+module _ {o : MeasureChoice} (c : Columns) (a : Entries) (parts received stock outcomes : List ℕ) {n : ℕ} where
+  pub replay-refused : {r : Refusal} → o ≡ choice.Refused r → n ≡ resultOf (codeOf r)
+      → record { result = n; stock = stock; outcomes = outcomes } ≡ replayedResult o c a parts received stock outcomes
+  replay-refused p q = rw (p, q)
+
+  pub replay-measure : {m : Measure} {x : Acceptance} {s os : List ℕ} → o ≡ choice.Measure m → n ≡ acceptanceResult x
+      → record { result = x; stock = s; outcomes = os } ≡ replayed m c a parts received stock outcomes
+      → record { result = n; stock = s; outcomes = os } ≡ replayedResult o c a parts received stock outcomes
+  replay-measure p q k = rw (p, q) (ap replayResult k)

@@ -30,6 +30,7 @@ use Rattle.topological.specs.Ordering.{settledInOrder}
 use Rattle.columns.specs.Longer.{NewLine}
 use Rattle.indextable.specs.Index.{IndexOutcome}
 use Rattle.append.specs.Appending.{Grown, appended}
+use Rattle.inventory.specs.Replaying.{ReplayOutcome, replayed}
 use Rattle.readtable.specs.Read.{ReadOutcome}
 use Rattle.writetable.specs.Write.{WriteOutcome, writeTable}
 
@@ -163,3 +164,16 @@ summaryLeft s room = record { result = summaryNumber s; left = summaryWritten s 
 abbrev pub orderedResult : MeasureChoice → Columns → Entries → Left
 orderedResult (Refused r) c a = record { result = resultOf (codeOf r); left = a }
 orderedResult (Measure m) c a = outcomeResult (settledInOrder m c a)
+
+-- a number, the counts of the shelf and the outcomes
+pub record LeftShelf : Type 0 where
+  pub result : ℕ
+  pub stock : List ℕ
+  pub outcomes : List ℕ
+
+abbrev pub replayResult : ReplayOutcome → LeftShelf
+replayResult x = record { result = acceptanceResult (x .result); stock = x .stock; outcomes = x .outcomes }
+
+abbrev pub replayedResult : MeasureChoice → Columns → Entries → (parts received stock outcomes : List ℕ) → LeftShelf
+replayedResult (Refused r) c a parts received stock outcomes = record { result = resultOf (codeOf r); stock = stock; outcomes = outcomes }
+replayedResult (Measure m) c a parts received stock outcomes = replayResult (replayed m c a parts received stock outcomes)

@@ -25,7 +25,7 @@ ghost use Rattle.reading.specs.Lines.{readingOf};
 ghost use Rattle.readtable.specs.Read.{readTable};
 ghost use Rattle.statistics.specs.Summaries.{summaryOf};
 ghost use Rattle.topological.specs.Ordering.{orderedAcceptance};
-ghost use Rattle.harness.specs.Results.{checkedResult, strickenResult, restoredResult, stateNumber, entryWritten, measureNumber, headerWritten, readLeft, readResult, writtenResult, indexedResult, countsWritten, usedCounts, leftGrown, appendedResult, momentsWritten, summaryLeft, textColumn, orderedResult};
+ghost use Rattle.harness.specs.Results.{checkedResult, strickenResult, restoredResult, stateNumber, entryWritten, measureNumber, headerWritten, readLeft, readResult, writtenResult, indexedResult, countsWritten, usedCounts, leftGrown, appendedResult, momentsWritten, summaryLeft, textColumn, orderedResult, replayedResult};
 
 #[no_mangle]
 pub extern "C" fn harness_check_table(
@@ -488,6 +488,55 @@ pub extern "C" fn harness_settle_ordered(
                 depths,
                 edges,
                 pieces,
+            );
+            return a.result();
+        }
+    }
+}
+
+#[no_mangle]
+pub extern "C" fn harness_replay(
+    measure: u64,
+    n: u64,
+    heads: &[u64],
+    own: &[u64],
+    strikes: &[u64],
+    spans: &[u64],
+    tails: &[u64],
+    weights: &[u64],
+    depths: &[u64],
+    edges: &[u64],
+    pieces: &[u64],
+    parts: &[u64],
+    received: &[u64],
+    stock: &mut [u64],
+    outcomes: &mut [u64],
+) -> u64
+    ensures { λ r.
+        let c = columns n (now (heads .entry)) (now (own .entry)) (now (strikes .entry)) (now (spans .entry)) (now (tails .entry)) in
+        let a = entries (now (weights .entry)) (now (depths .entry)) (now (edges .entry)) (now (pieces .entry)) in
+        ⌜ record { result = r; stock = now (stock .exit); outcomes = now (outcomes .exit) } ≡ replayedResult (measureOf measure) c a (now (parts .entry)) (now (received .entry)) (now (stock .entry)) (now (outcomes .entry)) ⌝ }
+{
+    let choice = refusal::measure_numbered(measure);
+    match choice {
+        MeasureChoice::Refused(r) => return r.result(),
+        MeasureChoice::Measure(m) => {
+            let a = inventory::replay(
+                m,
+                n,
+                heads,
+                own,
+                strikes,
+                spans,
+                tails,
+                weights,
+                depths,
+                edges,
+                pieces,
+                parts,
+                received,
+                stock,
+                outcomes,
             );
             return a.result();
         }
