@@ -73,7 +73,8 @@ extern "C" {
  * The refusals. The first that applies is returned, tried in the order 16, 1, 2, then 3, 4, 21, 5 and
  * 6 of line 0, of line 1 and on, then 7, 9, 10, 11, 8, 12, 13. The place is the line for 3 to 6 and 21
  * and otherwise 0. Numbers 14, 15 and 17 are of texts, 18 and 19 of an index and of appending a line,
- * 20 of restoring one, 22 and 23 of a sample of results, 24 of settling in order; no call here
+ * 20 of restoring one, 22 and 23 of a sample of results, 24 of settling in order, 25 and 26 of a
+ * stock record; no call here
  * returns them.
  */
 enum tozbierdu_refusal {
@@ -100,7 +101,9 @@ enum tozbierdu_refusal {
     TOZBIERDU_REFUSED_STRIKE_MARK = 21,    /* a strike mark is neither 0 nor 1 */
     TOZBIERDU_REFUSED_SAMPLE = 22,         /* no results, or more than 1000 */
     TOZBIERDU_REFUSED_RESULT = 23,         /* a result is above 1000000 */
-    TOZBIERDU_REFUSED_ORDER = 24           /* a line needs its head or a higher part */
+    TOZBIERDU_REFUSED_ORDER = 24,          /* a line needs its head or a higher part */
+    TOZBIERDU_REFUSED_EVENT = 25,          /* an event's part is not below n */
+    TOZBIERDU_REFUSED_STOCK = 26           /* a shelf's count is above 1000000 */
 };
 
 /* Whether a result is a refusal's. */

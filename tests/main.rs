@@ -6,6 +6,7 @@ mod append;
 mod bill;
 mod calls;
 mod index;
+mod inventory;
 mod model;
 mod ordered;
 mod random;
@@ -51,6 +52,7 @@ const TESTS: &[&[Test]] = &[
     statistics::TESTS,
     ordered::TESTS,
     ordered::refusals::TESTS,
+    inventory::TESTS,
 ];
 
 const SEED: u64 = 1;

@@ -2,6 +2,7 @@
 //! guard has changed, or a column that the call must leave as it is.
 
 pub mod growth;
+pub mod inventory;
 pub mod lending;
 pub mod ordered;
 pub mod statistics;

@@ -1,6 +1,7 @@
 //! A table and its labelling as plain data, with the limits of the specification.
 
 pub mod growth;
+pub mod inventory;
 pub mod order;
 pub mod places;
 pub mod solver;

@@ -15,3 +15,4 @@ pub mod Request08
 pub mod Request09
 pub mod Request10
 pub mod Request11
+pub mod Request12
