@@ -20,7 +20,10 @@ abbrev lists : tie.Start → ℕ → List ℕ
 lists s = chosenTail (s .args .spans .now) (s .args .tails .now) (s .args .depths .now) (s .args .edges .now)
 
 -- past the test of its depth the vertex has a chosen hyperedge
-made : (c : tie.Else2) → let a = entry (c .before .before .before) .args in lists (entry (c .before .before .before)) (a .v .0) ≡ tailOf (a .spans .now) (a .tails .now) (cell (a .edges .now) (a .v .0))
+made : (c : tie.Else2) →
+    let s = entry (c .before .before .before) in
+    let a = s .args in
+    lists s (a .v .0) ≡ tailOf (a .spans .now) (a .tails .now) (cell (a .edges .now) (a .v .0))
 made c = let a = entry (c .before .before .before) .args in chosen-made (a .spans .now) (a .tails .now) (a .depths .now) (a .edges .now) (a .v .0) (c .if2 .left)
 
 returns : tie.Need-returns
