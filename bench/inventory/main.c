@@ -16,7 +16,7 @@ enum { PARTS = 1024, LINES = 4096, BASE = 16, SAMPLES = 101, RECORDS = 4 };
 static const char *const record_names[RECORDS] = { "receipts", "shelf", "built", "late" };
 
 static uint64_t heads[LINES], own[LINES], strikes[LINES], spans[2 * LINES], tails[16 * PARTS];
-static uint64_t figures[PARTS], depths[PARTS], lines[PARTS];
+static uint64_t figures[PARTS], depths[PARTS], lines[PARTS], pieces[PARTS];
 static uint64_t parts[MOST_EVENTS], received[MOST_EVENTS], opening[PARTS];
 
 /* 1,024 lines of 16 parts each, which yield the parts from 16 on, and 3,072 lines that buy the others. */
@@ -37,7 +37,7 @@ static void make_table(void)
             tails[BASE * line + BASE - 1] = BASE - 1;
     }
     settle(TOZBIERDU_COST, PARTS, heads, LINES, own, LINES, strikes, LINES, spans, 2 * LINES, tails, BASE * PARTS,
-           figures, PARTS, depths, PARTS, lines, PARTS);
+           figures, PARTS, depths, PARTS, lines, PARTS, pieces, PARTS);
 }
 
 /* Late orders want the last part of their list. */
@@ -72,7 +72,7 @@ static uint64_t replay_by(int maker, uint64_t *stock, uint64_t *outcomes)
 {
     return (maker == 0 ? harness_replay : plain_replay)(
         TOZBIERDU_COST, PARTS, heads, LINES, own, LINES, strikes, LINES, spans, 2 * LINES, tails, BASE * PARTS, figures,
-        PARTS, depths, PARTS, lines, PARTS, parts, MOST_EVENTS, received, MOST_EVENTS, stock, PARTS, outcomes,
+        PARTS, depths, PARTS, lines, PARTS, pieces, PARTS, parts, MOST_EVENTS, received, MOST_EVENTS, stock, PARTS, outcomes,
         MOST_EVENTS);
 }
 

@@ -57,7 +57,7 @@ uint64_t plain_replay(uint64_t measure, uint64_t n, TABLE_COLUMNS, ANSWER_COLUMN
         return REFUSED(TOZBIERDU_REFUSED_LENGTHS, 0);
     verdict = plain.check_answers(measure, n, heads, heads_count, own, own_count, strikes, strikes_count, spans,
                                   spans_count, tails, tails_count, figures, figures_count, depths, depths_count,
-                                  lines, lines_count);
+                                  lines, lines_count, pieces, pieces_count);
     if (verdict > 1)
         return verdict;
     if (stock_count != n)

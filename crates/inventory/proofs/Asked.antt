@@ -15,14 +15,14 @@ use Rattle.refusal.specs.declared.Refusal.the-variants.{OpeningCount}
 use Rattle.refusal.specs.declared.Acceptance.{Acceptance}
 use Rattle.refusal.specs.declared.Acceptance.the-variants.{Accepted, Refused}
 use Rattle.refusal.specs.Refusals.{placeOf}
-use Rattle.columns.specs.Columns.{Answers, Columns, cell}
+use Rattle.columns.specs.Columns.{Answers, Entries, Columns, cell}
 use Rattle.columns.specs.Acceptance.{mostVertices, lentAcceptance}
 use Rattle.columns.specs.Owed.{Owed}
-use Rattle.columns.specs.Same.{sameAnswers}
+use Rattle.columns.specs.Same.{sameEntries}
 use Rattle.columns.proofs.Accepted.{refused, test-passed}
 use Rattle.columns.proofs.Exactly.{lent-exactly, lent-refused-exactly}
 use Rattle.columns.proofs.Refuses.{Refuses, same-refusal, none-refuses, test-refuses, then-refuses}
-use Rattle.settle.specs.Settling.{answersOf}
+use Rattle.settle.specs.Settling.{entriesOf}
 use Rattle.settle.specs.Checking.{answersAcceptance}
 use Rattle.settle.proofs.Exactly.{same-exactly, same-fails}
 use Rattle.inventory.specs.Shelf.{mostStock, mostEvents}
@@ -56,7 +56,7 @@ opening-first i (x ∷ xs) {r} e = go (leb x mostStock) refl e (opening-first (i
         let k : i ≡ i + 0 = omega arith in
         (0, sym (same-refusal q) ∙ ap (λ (z : ℕ). OpeningCount (record { 0 = z })) k, record { within = omega arith; high = leb-false _ _ p; first = λ u l. absurd (omega arith) })
 
-module _ (m : Measure) (c : Columns) (a : Answers) (vs ks stock os : List ℕ) where
+module _ (m : Measure) (c : Columns) (a : Entries) (vs ks stock os : List ℕ) where
   abbrev Wrong : Refusal → Type 0
   Wrong = WrongReplay m c a vs ks stock os
 
@@ -82,7 +82,7 @@ module _ (m : Measure) (c : Columns) (a : Answers) (vs ks stock os : List ℕ) w
       let t = lent-exactly c a .0 q in
       test-refuses (eqb (length stock) (c .vertices)) _ _ (λ b. WrongReplay.shelf l t (eqb-false _ _ b)) (λ b.
       let e = eqb-true (length stock) (c .vertices) b in
-      then-refuses (answersAcceptance m c a) _ (test-refuses (sameAnswers a (answersOf m c)) _ _ (λ s. WrongReplay.answers l t e (same-fails m c a q .0 s)) (λ _. none-refuses)) (λ s.
+      then-refuses (answersAcceptance m c a) _ (test-refuses (sameEntries a (entriesOf m c)) _ _ (λ s. WrongReplay.answers l t e (same-fails m c a q .0 s)) (λ _. none-refuses)) (λ s.
       let f = same-exactly m c a q .0 (test-passed _ _ _ s .0) in
       record {
         holds = λ h.
@@ -105,9 +105,9 @@ module _ (m : Measure) (c : Columns) (a : Answers) (vs ks stock os : List ℕ) w
 
   pub replay-owes : ReplayOwes m c a vs ks stock os (replayed m c a vs ks stock os)
   unfolding replayed runOf
-  replay-owes = go (openAcceptance m c a vs ks stock os) refl (replayFrom (chosenList c a) 0 vs ks stock) refl
+  replay-owes = go (openAcceptance m c a vs ks stock os) refl (replayFrom (chosenList c (a .labels)) 0 vs ks stock) refl
     where
-      go : (x : Acceptance) → openAcceptance m c a vs ks stock os ≡ x → (y : Run) → replayFrom (chosenList c a) 0 vs ks stock ≡ y
+      go : (x : Acceptance) → openAcceptance m c a vs ks stock os ≡ x → (y : Run) → replayFrom (chosenList c (a .labels)) 0 vs ks stock ≡ y
           → ReplayOwes m c a vs ks stock os (concluded (begun x y) stock os)
       go Accepted e (finished s o) f =
           Owed.accepted (record { shelf = right-shelf e; final = s; outcomes = o; replays = ended m c a vs ks stock os (finished s o) f (open-accepted m c a vs ks stock os e) })
@@ -115,7 +115,7 @@ module _ (m : Measure) (c : Columns) (a : Answers) (vs ks stock os : List ℕ) w
       go (Refused r) e y f = Owed.refused (open-wrong .holds e)
 
 -- a call that is refused was wrong
-pub owed-wrong : (m : Measure) (c : Columns) (a : Answers) (vs ks stock os : List ℕ) {r : Refusal} → replayed m c a vs ks stock os .result ≡ Refused r
+pub owed-wrong : (m : Measure) (c : Columns) (a : Entries) (vs ks stock os : List ℕ) {r : Refusal} → replayed m c a vs ks stock os .result ≡ Refused r
     → WrongReplay m c a vs ks stock os r
 owed-wrong m c a vs ks stock os {r} p = go (replay-owes m c a vs ks stock os) p
   where

@@ -9,7 +9,7 @@ use Rattle.weights.specs.declared.Measure.{Measure}
 use Rattle.refusal.specs.declared.Refusal.{Refusal}
 use Rattle.refusal.specs.declared.Acceptance.{Acceptance}
 use Rattle.refusal.specs.declared.Acceptance.the-variants.{Accepted, Refused}
-use Rattle.columns.specs.Columns.{Answers, Columns, cell}
+use Rattle.columns.specs.Columns.{Entries, Columns, cell}
 use Rattle.columns.proofs.Accepted.{refused}
 use Rattle.inventory.specs.Shelf.{Low}
 use Rattle.inventory.specs.Replaying.{Run, finished, stopped, replayFrom, openAcceptance, chosenList, begun, runOf, ReplayOutcome, concluded, replayed}
@@ -18,7 +18,7 @@ use Rattle.inventory.proofs.Meaning.{RunTells, run-tells, replays-sized
 use Rattle.inventory.proofs.Conservation.{balanced, received-nought, replays-low}
 use Rattle.inventory.proofs.Opening.{Opened, open-accepted}
 
-module _ (m : Measure) (c : Columns) (a : Answers) (parts received stock outcomes : List ℕ) where
+module _ (m : Measure) (c : Columns) (a : Entries) (parts received stock outcomes : List ℕ) where
   abbrev left : ReplayOutcome
   left = replayed m c a parts received stock outcomes
 
@@ -26,7 +26,7 @@ module _ (m : Measure) (c : Columns) (a : Answers) (parts received stock outcome
   opens = openAcceptance m c a parts received stock outcomes
 
   abbrev run : Run
-  run = replayFrom (chosenList c a) 0 parts received stock
+  run = replayFrom (chosenList c (a .labels)) 0 parts received stock
 
   -- the steps of the call
   pub replay-unopened : {r : Refusal} → opens ≡ Refused r → record { result = Refused r; stock = stock; outcomes = outcomes } ≡ left
@@ -37,8 +37,8 @@ module _ (m : Measure) (c : Columns) (a : Answers) (parts received stock outcome
   unfolding replayed runOf
   replay-opened p = rw p
 
-  pub ended : (r : Run) → run ≡ r → Opened m c a parts received stock outcomes → RunTells c a 0 parts received stock r
-  ended r e o = subst (RunTells c a 0 parts received stock) e (run-tells c a 0 parts received stock (o .recorded .received))
+  pub ended : (r : Run) → run ≡ r → Opened m c a parts received stock outcomes → RunTells c (a .labels) 0 parts received stock r
+  ended r e o = subst (RunTells c (a .labels) 0 parts received stock) e (run-tells c (a .labels) 0 parts received stock (o .recorded .received))
 
   module _ (p : left .result ≡ Accepted) where
     accepted-run : (opens ≡ Accepted) × (run ≡ finished (left .stock) (left .outcomes))
@@ -55,23 +55,23 @@ module _ (m : Measure) (c : Columns) (a : Answers) (parts received stock outcome
     replay-opens = open-accepted m c a parts received stock outcomes (accepted-run .0)
 
     -- each event's outcome and the counts before and after it, from the opening counts to the final ones
-    pub replay-meaning : Replays c a parts received stock (left .outcomes) (left .stock)
+    pub replay-meaning : Replays c (a .labels) parts received stock (left .outcomes) (left .stock)
     replay-meaning = ended (finished (left .stock) (left .outcomes)) (accepted-run .1) replay-opens
 
     -- "For every part, opening count plus receipts equals the final count plus pieces issued plus pieces used in building"
     pub conservation : (v : ℕ) → v < c .vertices → let o = left .outcomes in
-        cell stock v + receipts v parts received o ≡ cell (left .stock) v + issues v parts o + uses (listOf c a) v parts o
-    conservation v h = balanced c a replay-meaning v
+        cell stock v + receipts v parts received o ≡ cell (left .stock) v + issues v parts o + uses (listOf c (a .labels)) v parts o
+    conservation v h = balanced c (a .labels) replay-meaning v
 
     pub outcome-received : (i : ℕ) → i < length parts → (cell (left .outcomes) i ≡ 0) ↔ (0 < cell received i)
-    outcome-received = received-nought c a replay-meaning
+    outcome-received = received-nought c (a .labels) replay-meaning
 
     -- the final counts can open the next record
     pub final-low : Low (left .stock)
-    final-low = replays-low c a replay-meaning (replay-opens .low)
+    final-low = replays-low c (a .labels) replay-meaning (replay-opens .low)
 
     pub final-sized : (length (left .stock) ≡ c .vertices) × (length (left .outcomes) ≡ length parts)
-    final-sized = let s = replays-sized c a replay-meaning in (s .0 ∙ replay-opens .level, s .1)
+    final-sized = let s = replays-sized c (a .labels) replay-meaning in (s .0 ∙ replay-opens .level, s .1)
 
   module _ {r : Refusal} (p : left .result ≡ Refused r) where
     pub replay-keeps : (left .stock ≡ stock) × (left .outcomes ≡ outcomes)

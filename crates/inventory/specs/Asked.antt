@@ -8,7 +8,7 @@ use Rattle.weights.specs.declared.Measure.{Measure}
 use Rattle.refusal.specs.declared.Refusal.{Refusal}
 use Rattle.refusal.specs.declared.Refusal.the-variants.{TooManyVertices, Lengths, AnswerLength, WrongAnswers, OpeningCount}
 use Rattle.refusal.specs.declared.Acceptance.the-variants.{Accepted, Refused}
-use Rattle.columns.specs.Columns.{Answers, Columns, cell}
+use Rattle.columns.specs.Columns.{Entries, Columns, cell}
 use Rattle.columns.specs.Owed.{Owed}
 use Rattle.columns.specs.Right.{Few, RightLent, WrongLent}
 use Rattle.settle.specs.Defined.{AllMean}
@@ -28,7 +28,7 @@ pub record FirstHigh (stock : List ℕ) (v : ℕ) : Type 0 where
   pub high : mostStock < cell stock v
   pub first : (u : ℕ) → u < v → cell stock u ≤ mostStock
 
-module _ (m : Measure) (c : Columns) (a : Answers) (vs ks stock os : List ℕ) where
+module _ (m : Measure) (c : Columns) (a : Entries) (vs ks stock os : List ℕ) where
   -- the columns are right, the answers are the table's, and no opening count is above the limit
   pub record RightShelf : Type 0 where
     pub level : LevelRecord vs ks os
@@ -42,7 +42,7 @@ module _ (m : Measure) (c : Columns) (a : Answers) (vs ks stock os : List ℕ) w
     pub shelf : RightShelf
     pub final : List ℕ
     pub outcomes : List ℕ
-    pub replays : Replays c a vs ks stock outcomes final
+    pub replays : Replays c (a .labels) vs ks stock outcomes final
 
   pub data WrongReplay : Refusal → Type 0 where
     many : ¬ Few c → WrongReplay TooManyVertices
@@ -51,7 +51,7 @@ module _ (m : Measure) (c : Columns) (a : Answers) (vs ks stock os : List ℕ) w
     shelf : LevelRecord vs ks os → RightLent c a → ¬ (length stock ≡ c .vertices) → WrongReplay AnswerLength
     answers : LevelRecord vs ks os → RightLent c a → length stock ≡ c .vertices → ¬ AllMean m c a → WrongReplay WrongAnswers
     opening : LevelRecord vs ks os → RightLent c a → length stock ≡ c .vertices → AllMean m c a → (v : ℕ) → FirstHigh stock v → WrongReplay (OpeningCount (record { 0 = v }))
-    event : {r : Refusal} → RightShelf → Stops c a 0 vs ks stock r → WrongReplay r
+    event : {r : Refusal} → RightShelf → Stops c (a .labels) 0 vs ks stock r → WrongReplay r
 
   -- demand 1 of a replay that had this outcome: the final counts and the outcomes, or both columns as they came
   abbrev pub ReplayOwes : ReplayOutcome → Type 0

@@ -11,7 +11,7 @@ use Rattle.refusal.specs.declared.Refusal.{Refusal}
 use Rattle.refusal.specs.declared.Refusal.the-variants.{TooManyVertices, Lengths, AnswerLength, EventVertex, OpeningCount, ReceivedCount}
 use Rattle.refusal.specs.declared.Acceptance.{Acceptance}
 use Rattle.refusal.specs.declared.Acceptance.the-variants as answer
-use Rattle.columns.specs.Columns.{Answers, Columns, cell}
+use Rattle.columns.specs.Columns.{Answers, Entries, Columns, cell}
 use Rattle.columns.specs.Acceptance.{mostVertices, test, andThen, lentAcceptance}
 use Rattle.provenance.specs.Counting.{count}
 use Rattle.settle.specs.Checking.{answersAcceptance}
@@ -121,7 +121,7 @@ recordAcceptance n parts received outcomes =
     answer.Accepted)))
 
 -- 1, 2, 3 to 6 and 21, "7 if the shelf column is not n long" or an answer column, 8, and 26 of the opening counts: what is tested before the events
-unfoldable pub openAcceptance : Measure → Columns → Answers → (parts received stock outcomes : List ℕ) → Acceptance
+unfoldable pub openAcceptance : Measure → Columns → Entries → (parts received stock outcomes : List ℕ) → Acceptance
 openAcceptance m c a parts received stock outcomes =
     andThen (recordAcceptance (c .vertices) parts received outcomes)
     (andThen (lentAcceptance c a)
@@ -138,8 +138,8 @@ abbrev pub begun : Acceptance → Run → Run
 begun answer.Accepted run = run
 begun (answer.Refused r) run = stopped r
 
-unfoldable pub runOf : Measure → Columns → Answers → (parts received stock outcomes : List ℕ) → Run
-runOf m c a parts received stock outcomes = begun (openAcceptance m c a parts received stock outcomes) (replayFrom (chosenList c a) 0 parts received stock)
+unfoldable pub runOf : Measure → Columns → Entries → (parts received stock outcomes : List ℕ) → Run
+runOf m c a parts received stock outcomes = begun (openAcceptance m c a parts received stock outcomes) (replayFrom (chosenList c (a .labels)) 0 parts received stock)
 
 -- what the call returns, and the counts and the outcomes as it leaves them
 pub record ReplayOutcome : Type 0 where
@@ -153,9 +153,9 @@ concluded (finished s o) stock outcomes = record { result = answer.Accepted; sto
 concluded (stopped r) stock outcomes = record { result = answer.Refused r; stock = stock; outcomes = outcomes }
 
 -- replaying, from everything at entry
-unfoldable pub replayed : Measure → Columns → Answers → (parts received stock outcomes : List ℕ) → ReplayOutcome
+unfoldable pub replayed : Measure → Columns → Entries → (parts received stock outcomes : List ℕ) → ReplayOutcome
 replayed m c a parts received stock outcomes = concluded (runOf m c a parts received stock outcomes) stock outcomes
 
 -- the refusals of the call, in the request's order
-abbrev pub replayAcceptance : Measure → Columns → Answers → (parts received stock outcomes : List ℕ) → Acceptance
+abbrev pub replayAcceptance : Measure → Columns → Entries → (parts received stock outcomes : List ℕ) → Acceptance
 replayAcceptance m c a parts received stock outcomes = replayed m c a parts received stock outcomes .result

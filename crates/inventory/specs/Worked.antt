@@ -8,12 +8,12 @@ use Rattle.refusal.specs.declared.Refusal.the-variants.{EventVertex, OpeningCou
 use Rattle.refusal.specs.declared.Acceptance.the-variants.{Accepted, Refused}
 use Rattle.columns.specs.Columns.{Columns, columns}
 use Rattle.columns.specs.Worked.{worked}
-use Rattle.settle.specs.Settling.{answersOf}
+use Rattle.settle.specs.Settling.{entriesOf}
 use Rattle.inventory.specs.Replaying.{ReplayOutcome, replayed}
 
 -- a record on a settled table
 abbrev pub recorded : Columns → (parts received stock outcomes : List ℕ) → ReplayOutcome
-recorded c parts received stock outcomes = replayed Cost c (answersOf Cost c) parts received stock outcomes
+recorded c parts received stock outcomes = replayed Cost c (entriesOf Cost c) parts received stock outcomes
 
 abbrev pub leaves : (stock outcomes : List ℕ) → ReplayOutcome
 leaves s o = record { result = Accepted; stock = s; outcomes = o }

@@ -10,7 +10,7 @@ ghost use mathlib.Core.Path.{_≡_};
 ghost use mathlib.Core.Bool.{true};
 ghost use Prim.Native.Nat.{_≤_, _<_};
 ghost use lib.ListN.{length};
-ghost use Rattle.columns.specs.Columns.{columns, answers, cell};
+ghost use Rattle.columns.specs.Columns.{columns, entries, cell};
 ghost use Rattle.provenance.specs.Counting.{count};
 ghost use Rattle.inventory.specs.Replaying.{outcomeNumber, suffices, consumed, build, fulfil, receive, applyEvent, ran, replayFrom, openingAcceptance, recordAcceptance, openAcceptance, concluded, replayed};
 ghost use Rattle.inventory.specs.Shelf.{mostStock, chosenTail, Inside, Low, Buildable, Replayable, Copied};
@@ -314,6 +314,7 @@ fn check_open(
     weights: &[u64],
     depths: &[u64],
     edges: &[u64],
+    pieces: &[u64],
     parts: &[u64],
     received: &[u64],
     stock: &[u64],
@@ -321,7 +322,7 @@ fn check_open(
 ) -> Acceptance
     ensures { λ r.
         let c = columns n (now (heads .entry)) (now (own .entry)) (now (strikes .entry)) (now (spans .entry)) (now (tails .entry)) in
-        let a = answers (now (weights .entry)) (now (depths .entry)) (now (edges .entry)) in
+        let a = entries (now (weights .entry)) (now (depths .entry)) (now (edges .entry)) (now (pieces .entry)) in
         ⌜ r ≡ openAcceptance measure c a (now (parts .entry)) (now (received .entry)) (now (stock .entry)) (now (outcomes .entry)) ⌝ }
 {
     let r = check_record(n, parts, received, outcomes);
@@ -329,7 +330,18 @@ fn check_open(
         Acceptance::Refused(r) => return Acceptance::Refused(r),
         Acceptance::Accepted => {}
     }
-    let a = columns::check_lent(n, heads, own, strikes, spans, tails, weights, depths, edges);
+    let a = columns::check_lent(
+        n,
+        heads,
+        own,
+        strikes,
+        spans,
+        tails,
+        weights,
+        depths,
+        edges,
+        pieces,
+    );
     match a {
         Acceptance::Refused(r) => return Acceptance::Refused(r),
         Acceptance::Accepted => {}
@@ -348,6 +360,7 @@ fn check_open(
         weights,
         depths,
         edges,
+        pieces,
     ) {
         return Acceptance::Refused(Refusal::WrongAnswers);
     }
@@ -367,6 +380,7 @@ pub fn replay(
     weights: &[u64],
     depths: &[u64],
     edges: &[u64],
+    pieces: &[u64],
     parts: &[u64],
     received: &[u64],
     stock: &mut [u64],
@@ -374,7 +388,7 @@ pub fn replay(
 ) -> Acceptance
     ensures { λ r.
         let c = columns n (now (heads .entry)) (now (own .entry)) (now (strikes .entry)) (now (spans .entry)) (now (tails .entry)) in
-        let a = answers (now (weights .entry)) (now (depths .entry)) (now (edges .entry)) in
+        let a = entries (now (weights .entry)) (now (depths .entry)) (now (edges .entry)) (now (pieces .entry)) in
         ⌜ record { result = r; stock = now (stock .exit); outcomes = now (outcomes .exit) } ≡ replayed measure c a (now (parts .entry)) (now (received .entry)) (now (stock .entry)) (now (outcomes .entry)) ⌝ }
 {
     let a = check_open(
@@ -388,6 +402,7 @@ pub fn replay(
         weights,
         depths,
         edges,
+        pieces,
         parts,
         received,
         stock,

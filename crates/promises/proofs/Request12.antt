@@ -9,7 +9,7 @@ use Rattle.weights.specs.declared.Measure.{Measure}
 use Rattle.refusal.specs.declared.Refusal.{Refusal}
 use Rattle.refusal.specs.declared.Acceptance.the-variants.{Accepted, Refused}
 use Rattle.refusal.specs.Refusals.{placeOf, lastPlace}
-use Rattle.columns.specs.Columns.{Answers, Columns, cell}
+use Rattle.columns.specs.Columns.{Entries, Columns, cell}
 use Rattle.columns.specs.Acceptance.{mostVertices}
 use Rattle.columns.specs.Owed.{Owed}
 use Rattle.columns.proofs.Exactly.{lent-refused-exactly}
@@ -26,7 +26,7 @@ use Rattle.inventory.proofs.Worked.{worked-records}
 
 -- 2026-12: run last month's orders past the shelf --------------------------------------------------------------------------------------------------------------------
 
-module _ (m : Measure) (c : Columns) (a : Answers) (parts received stock outcomes : List ℕ) where
+module _ (m : Measure) (c : Columns) (a : Entries) (parts received stock outcomes : List ℕ) where
   -- "Turned away: 2 …, 7 …, 25 …, 26 …; opening counts go first, then events in order, 25 before 26 in each, after 8": accepted, and then the final counts and the
   -- outcomes are left, or refused, and then both columns are as they came
   pub replay : ReplayOwes m c a parts received stock outcomes (replayed m c a parts received stock outcomes)
@@ -36,12 +36,12 @@ module _ (m : Measure) (c : Columns) (a : Answers) (parts received stock outcome
     -- "write for each event into a lent column 0 for a receipt, 1 for a piece from the shelf, 2 for built, 3 for late. An order takes a piece from the shelf; if there's
     -- none, and the part's chosen line has parts and all of them are on the shelf in the number listed, those are used and the order counts as built; otherwise it is
     -- late and takes nothing"
-    pub replay-events : let o = replayed m c a parts received stock outcomes in Replays c a parts received stock (o .outcomes) (o .stock)
+    pub replay-events : let o = replayed m c a parts received stock outcomes in Replays c (a .labels) parts received stock (o .outcomes) (o .stock)
     replay-events = replay-meaning m c a parts received stock outcomes p
 
     -- "For every part, opening count plus receipts equals the final count plus pieces issued plus pieces used in building"
     pub replay-balance : (v : ℕ) → v < c .vertices → let o = replayed m c a parts received stock outcomes in
-        cell stock v + receipts v parts received (o .outcomes) ≡ cell (o .stock) v + issues v parts (o .outcomes) + uses (listOf c a) v parts (o .outcomes)
+        cell stock v + receipts v parts received (o .outcomes) ≡ cell (o .stock) v + issues v parts (o .outcomes) + uses (listOf c (a .labels)) v parts (o .outcomes)
     replay-balance = conservation m c a parts received stock outcomes p
 
     -- "0 pieces marks an order, anything more a receipt"
@@ -68,7 +68,7 @@ module _ (m : Measure) (c : Columns) (a : Answers) (parts received stock outcome
         go (WrongReplay.shelf l t n) = omega arith
         go (WrongReplay.answers l t e n) = omega arith
         go (WrongReplay.opening l t e f v h) = omega (arith, h .within, e, t .table .few)
-        go (WrongReplay.event s w) = omega (arith, stops-place c a w, s .level .events)
+        go (WrongReplay.event s w) = omega (arith, stops-place c (a .labels) w, s .level .events)
 
 -- the request's words on the paper's table, and records of other kinds
 pub replay-worked : Worked

@@ -3,7 +3,7 @@ use mathlib.Core.Path.{_≡_, sym, _∙_}
 use borrow.Author.Needs.{needs}
 use borrow.Author.Tests.{not-true, not-false}
 use Rattle.refusal.specs.declared.Acceptance.the-variants.{Accepted}
-use Rattle.columns.specs.Columns.{Answers, Columns, columns, answers}
+use Rattle.columns.specs.Columns.{Entries, Columns, columns, entries}
 use Rattle.columns.specs.Acceptance.{lentAcceptance}
 use Rattle.columns.proofs.Accepted.{columns-accepted}
 use Rattle.inventory.specs.Replaying.{recordAcceptance}
@@ -15,11 +15,11 @@ use Rattle.inventory.proofs.check_open.Tie as tie
 abbrev tableOf : tie.Start → Columns
 tableOf c = let a = c .args in columns (a .n) (a .heads .now) (a .own .now) (a .strikes .now) (a .spans .now) (a .tails .now)
 
-abbrev came : tie.Start → Answers
-came c = let a = c .args in answers (a .weights .now) (a .depths .now) (a .edges .now)
+abbrev came : tie.Start → Entries
+came c = let a = c .args in entries (a .weights .now) (a .depths .now) (a .edges .now) (a .pieces .now)
 
 abbrev entry : tie.After-enum-told → tie.Start
-entry c = c .before .before .before .before .before .before .before .before .before .before .before .before .before .before .before
+entry c = c .before .before .before .before .before .before .before .before .before .before .before .before .before .before .before .before
 
 -- past 1 and the lengths of the record
 recorded : (c : tie.After-enum-told) →

@@ -4,7 +4,7 @@ use native.Mathlib.Omega.{arith}
 use borrow.Author.Needs.{needs}
 use lib.Seq.{length-take-le}
 use Rattle.refusal.specs.declared.Acceptance.the-variants.{Accepted}
-use Rattle.columns.specs.Columns.{Answers, Columns, columns, answers}
+use Rattle.columns.specs.Columns.{Entries, Columns, columns, entries}
 use Rattle.inventory.specs.Replaying.{openAcceptance}
 use Rattle.inventory.proofs.Opening.{Opened, open-accepted, opened-replayable}
 use Rattle.inventory.proofs.Replayed.{replay-unopened, replay-opened}
@@ -15,11 +15,11 @@ use Rattle.inventory.proofs.replay.Tie as tie
 abbrev tableOf : tie.Start → Columns
 tableOf c = let a = c .args in columns (a .n) (a .heads .now) (a .own .now) (a .strikes .now) (a .spans .now) (a .tails .now)
 
-abbrev came : tie.Start → Answers
-came c = let a = c .args in answers (a .weights .now) (a .depths .now) (a .edges .now)
+abbrev came : tie.Start → Entries
+came c = let a = c .args in entries (a .weights .now) (a .depths .now) (a .edges .now) (a .pieces .now)
 
 abbrev entry : tie.After-enum-told → tie.Start
-entry c = c .before .before .before .before .before .before .before .before .before .before .before .before .before .before .before .before .before
+entry c = c .before .before .before .before .before .before .before .before .before .before .before .before .before .before .before .before .before .before
 
 -- past the check nothing before the events is refused
 accepted : (c : tie.After-enum-told) →
