@@ -24,7 +24,7 @@ pub record Names (r : Refusal) (n : ℕ) : Type 0 where
   pub number : n / 4_294_967_296 ≡ numberOf r
   pub place : n % 4_294_967_296 ≡ placeOf r
   pub least : 1 ≤ numberOf r
-  pub most : numberOf r ≤ 26
+  pub most : numberOf r ≤ 27
 
 -- the number tells the answer x: a length, which is 0 where a call returns acceptance alone, or a refusal
 pub record Decoded (x : Extent) (n : ℕ) : Type 0 where

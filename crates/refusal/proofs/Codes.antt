@@ -35,6 +35,7 @@ use Rattle.refusal.specs.declared.Refusal.the-variants.{
   EventVertex,
   OpeningCount,
   ReceivedCount,
+  ByteRoom,
 }
 use Rattle.refusal.specs.declared.Code.{Code}
 use Rattle.refusal.specs.Refusals.{codeOf, numberOf, columnOf}
@@ -45,7 +46,7 @@ numberedAt p c =
     NotStruck ∷ TooManyVertices ∷ Lengths ∷ Head (record { 0 = p }) ∷ Own (record { 0 = p }) ∷ Span (record { 0 = p }) ∷ Tail (record { 0 = p })
     ∷ AnswerLength ∷ WrongAnswers ∷ NoSuchEdge ∷ NewWeight ∷ NoSuchVertex ∷ Underivable ∷ BillRoom ∷ Text (record { 0 = p }) (record { 0 = c }) ∷ TextRoom ∷ MeasureNumber
     ∷ InputLength ∷ ColumnRoom ∷ WrongIndex ∷ NotStruck ∷ StrikeMark (record { 0 = p }) ∷ SampleSize ∷ TooLarge (record { 0 = p })
-    ∷ Order (record { 0 = p }) ∷ EventVertex (record { 0 = p }) ∷ OpeningCount (record { 0 = p }) ∷ []
+    ∷ Order (record { 0 = p }) ∷ EventVertex (record { 0 = p }) ∷ OpeningCount (record { 0 = p }) ∷ ByteRoom ∷ []
 
 abbrev refusalOf : Code → (column : ℕ) → Refusal
 refusalOf c column = getD (numberedAt (c .place) column) (c .number) NotStruck
@@ -78,6 +79,7 @@ refusal-code (Order e) n = refl
 refusal-code (EventVertex i) n = refl
 refusal-code (OpeningCount v) n = refl
 refusal-code (ReceivedCount i) n = absurd (n refl)
+refusal-code ByteRoom n = refl
 
 pub codes-differ : (r s : Refusal) → ¬ (numberOf r ≡ 26) → codeOf r ≡ codeOf s → columnOf r ≡ columnOf s → r ≡ s
 codes-differ r s n e f = sym (refusal-code r n) ∙ ap₂ refusalOf e f ∙ refusal-code s (λ q. n (ap (λ (c : Code). c .number) e ∙ q))

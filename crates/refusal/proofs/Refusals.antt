@@ -32,6 +32,7 @@ use Rattle.refusal.specs.declared.Refusal.the-variants.{
   EventVertex,
   OpeningCount,
   ReceivedCount,
+  ByteRoom,
 }
 use Rattle.refusal.specs.declared.Code.{Code}
 use Rattle.refusal.specs.Refusals.{numberOf, lastPlace, resultOf}
@@ -39,8 +40,8 @@ use Rattle.refusal.specs.Refusals.{numberOf, lastPlace, resultOf}
 pub exact : (c : Code) → c .place ≤ lastPlace → resultOf c ≡ c .number * 4_294_967_296 + c .place
 exact c h = omega arith
 
--- they are numbered from 1 to 26
-pub numbered : (r : Refusal) → (1 ≤ numberOf r) × (numberOf r ≤ 26)
+-- they are numbered from 1 to 27
+pub numbered : (r : Refusal) → (1 ≤ numberOf r) × (numberOf r ≤ 27)
 numbered TooManyVertices = omega arith
 numbered Lengths = omega arith
 numbered (Head e) = omega arith
@@ -68,3 +69,4 @@ numbered (Order e) = omega arith
 numbered (EventVertex i) = omega arith
 numbered (OpeningCount v) = omega arith
 numbered (ReceivedCount i) = omega arith
+numbered ByteRoom = omega arith

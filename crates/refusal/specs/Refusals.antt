@@ -35,6 +35,7 @@ use Rattle.refusal.specs.declared.Refusal.the-variants.{
   EventVertex,
   OpeningCount,
   ReceivedCount,
+  ByteRoom,
 }
 use Rattle.refusal.specs.declared.Code.{Code}
 use Rattle.refusal.specs.declared.Acceptance.{Acceptance}
@@ -79,6 +80,7 @@ codeOf (Order e) = code 24 (e .0)
 codeOf (EventVertex i) = code 25 (i .0)
 codeOf (OpeningCount v) = code 26 (v .0)
 codeOf (ReceivedCount i) = code 26 (i .0)
+codeOf ByteRoom = code 27 0
 
 abbrev pub numberOf : Refusal → ℕ
 numberOf r = codeOf r .number
@@ -115,6 +117,7 @@ columnOf (Order e) = 0
 columnOf (EventVertex i) = 0
 columnOf (OpeningCount v) = 0
 columnOf (ReceivedCount i) = 0
+columnOf ByteRoom = 0
 
 -- the greatest place that a result in C can hold
 abbrev pub lastPlace : ℕ

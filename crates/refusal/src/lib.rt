@@ -74,6 +74,8 @@ pub enum Refusal {
     OpeningCount(Vertex),
     // 26: a receipt after which a count is too large.
     ReceivedCount(Event),
+    // 27: bytes that are not eight for each figure.
+    ByteRoom,
 }
 
 // A refusal's number, and its place: the hyperedge, the text line, the result, the event or the vertex
@@ -124,6 +126,7 @@ impl Refusal {
             Refusal::EventVertex(i) => Code::of(25, i.0),
             Refusal::OpeningCount(v) => Code::of(26, v.0),
             Refusal::ReceivedCount(i) => Code::of(26, i.0),
+            Refusal::ByteRoom => Code::of(27, 0),
         }
     }
 
@@ -162,7 +165,7 @@ impl Refusal {
     }
 }
 
-// What checking a table, settling, repricing and striking return.
+// What checking a table, settling, repricing, striking and shuffling return.
 pub enum Acceptance {
     Accepted,
     Refused(Refusal),

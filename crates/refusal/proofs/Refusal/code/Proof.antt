@@ -88,6 +88,9 @@ returns-26 c = c .of26 .ensures ∙ sym (ap codeOf (c .before .before .self10 .g
 returns-27 : tie.Need-returns-27
 returns-27 c = c .of27 .ensures ∙ sym (ap codeOf (c .before .before .self11 .given .1))
 
+returns-28 : tie.Need-returns-28
+returns-28 c = c .of28 .ensures ∙ sym (ap codeOf (c .before .enum-told17 .given .1))
+
 pub code-spec : {M : Type 1} → statement M
 code-spec =
     tie.close
@@ -172,4 +175,5 @@ code-spec =
     returns-24
     returns-25
     returns-26
-    returns-27)
+    returns-27
+    returns-28)

@@ -36,6 +36,7 @@ use Rattle.refusal.specs.declared.Refusal.the-variants.{
   EventVertex,
   OpeningCount,
   ReceivedCount,
+  ByteRoom,
 }
 use Rattle.refusal.specs.Refusals.{columnOf}
 use Rattle.refusal.proofs.Refusal as rows
@@ -71,13 +72,14 @@ no-column ks h (Order e) o = refl
 no-column ks h (EventVertex i) o = refl
 no-column ks h (OpeningCount v) o = refl
 no-column ks h (ReceivedCount i) o = refl
+no-column ks h ByteRoom o = refl
 
 returns : tie.Need-returns
 returns c = sym (ap columnOf (c .before .self .given .1))
 
 -- the other variants, as the match counts them
 abbrev others : List ℕ
-others = 0 ∷ 1 ∷ 2 ∷ 3 ∷ 4 ∷ 5 ∷ 6 ∷ 7 ∷ 8 ∷ 9 ∷ 10 ∷ 11 ∷ 12 ∷ 14 ∷ 15 ∷ 16 ∷ 17 ∷ 18 ∷ 19 ∷ 20 ∷ 21 ∷ 22 ∷ 23 ∷ 24 ∷ 25 ∷ 26 ∷ []
+others = 0 ∷ 1 ∷ 2 ∷ 3 ∷ 4 ∷ 5 ∷ 6 ∷ 7 ∷ 8 ∷ 9 ∷ 10 ∷ 11 ∷ 12 ∷ 14 ∷ 15 ∷ 16 ∷ 17 ∷ 18 ∷ 19 ∷ 20 ∷ 21 ∷ 22 ∷ 23 ∷ 24 ∷ 25 ∷ 26 ∷ 27 ∷ []
 
 returns-2 : tie.Need-returns-2
 returns-2 c = no-column others tt (c .before .args .self) (c .match .keys2)
