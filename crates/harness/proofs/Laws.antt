@@ -27,6 +27,7 @@ use Rattle.columns.specs.Columns.{Entries, Columns}
 use Rattle.settle.specs.Checking.{checked}
 use Rattle.reprice.specs.Repricing.{stricken, restored}
 use Rattle.columns.specs.Longer.{NewLine}
+use Rattle.shuffle.specs.Shuffled.{Outcome, outcome}
 use Rattle.indextable.specs.Index.{IndexOutcome}
 use Rattle.append.specs.Appending.{leaves, appended}
 use Rattle.inventory.specs.Replaying.{replayed}
@@ -56,6 +57,7 @@ use Rattle.harness.specs.Results.{
   orderedResult,
   replayResult,
   replayedResult,
+  laidResult,
 }
 
 module _ {o : MeasureChoice} (c : Columns) (a : Entries) {n : ℕ} where
@@ -193,3 +195,7 @@ module _ {o : MeasureChoice} (c : Columns) (a : Entries) (parts received stock o
       → record { result = x; stock = s; outcomes = os } ≡ replayed m c a parts received stock outcomes
       → record { result = n; stock = s; outcomes = os } ≡ replayedResult o c a parts received stock outcomes
   replay-measure p q k = rw (p, q) (ap replayResult k)
+
+-- shuffling and unshuffling
+pub laid-number : {x : Outcome} {a : Acceptance} {xs : List ℕ} {n : ℕ} → outcome a xs ≡ x → n ≡ acceptanceResult a → record { result = n; left = xs } ≡ laidResult x
+laid-number p q = rw q (ap laidResult p)

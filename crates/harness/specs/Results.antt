@@ -23,6 +23,9 @@ use Rattle.statistics.specs.declared.Summary.{Summary}
 use Rattle.statistics.specs.declared.Summary.the-variants as summary
 use Rattle.statistics.specs.Summaries.{summaryNumber, summaryValues}
 use Rattle.columns.specs.Columns.{Entries, Columns}
+
+use Rattle.shuffle.specs.Shuffled.{Outcome}
+use Rattle.columns.specs.Columns.{Answers, Columns}
 use Rattle.settle.specs.Checking.{checked}
 use Rattle.reprice.specs.Repricing.{MarkOutcome, stricken, restored}
 use Rattle.counter.specs.Results.{Left, outcomeResult, LeftRoom}
@@ -177,3 +180,7 @@ replayResult x = record { result = acceptanceResult (x .result); stock = x .stoc
 abbrev pub replayedResult : MeasureChoice → Columns → Entries → (parts received stock outcomes : List ℕ) → LeftShelf
 replayedResult (Refused r) c a parts received stock outcomes = record { result = resultOf (codeOf r); stock = stock; outcomes = outcomes }
 replayedResult (Measure m) c a parts received stock outcomes = replayResult (replayed m c a parts received stock outcomes)
+
+-- a number, and the column that shuffling or unshuffling writes
+abbrev pub laidResult : Outcome → LeftRoom
+laidResult x = record { result = acceptanceResult (x .answer); left = x .left }

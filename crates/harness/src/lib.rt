@@ -24,8 +24,9 @@ ghost use Rattle.text.specs.Machine.{parse};
 ghost use Rattle.reading.specs.Lines.{readingOf};
 ghost use Rattle.readtable.specs.Read.{readTable};
 ghost use Rattle.statistics.specs.Summaries.{summaryOf};
+ghost use Rattle.shuffle.specs.Shuffled.{shuffleOutcome, unshuffleOutcome};
 ghost use Rattle.topological.specs.Ordering.{orderedAcceptance};
-ghost use Rattle.harness.specs.Results.{checkedResult, strickenResult, restoredResult, stateNumber, entryWritten, measureNumber, headerWritten, readLeft, readResult, writtenResult, indexedResult, countsWritten, usedCounts, leftGrown, appendedResult, momentsWritten, summaryLeft, textColumn, orderedResult, replayedResult};
+ghost use Rattle.harness.specs.Results.{checkedResult, strickenResult, restoredResult, stateNumber, entryWritten, measureNumber, headerWritten, readLeft, readResult, writtenResult, indexedResult, countsWritten, usedCounts, leftGrown, appendedResult, momentsWritten, summaryLeft, textColumn, orderedResult, replayedResult, laidResult};
 
 #[no_mangle]
 pub extern "C" fn harness_check_table(
@@ -541,4 +542,20 @@ pub extern "C" fn harness_replay(
             return a.result();
         }
     }
+}
+
+#[no_mangle]
+pub extern "C" fn harness_shuffle(own: &[u64], room: &mut [u8]) -> u64
+    ensures { λ r. ⌜ record { result = r; left = now (room .exit) } ≡ laidResult (shuffleOutcome (now (own .entry)) (now (room .entry))) ⌝ }
+{
+    let a = shuffle::shuffle(own, room);
+    a.result()
+}
+
+#[no_mangle]
+pub extern "C" fn harness_unshuffle(bytes: &[u8], own: &mut [u64]) -> u64
+    ensures { λ r. ⌜ record { result = r; left = now (own .exit) } ≡ laidResult (unshuffleOutcome (now (bytes .entry)) (now (own .entry))) ⌝ }
+{
+    let a = shuffle::unshuffle(bytes, own);
+    a.result()
 }

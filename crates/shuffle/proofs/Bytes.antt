@@ -1,11 +1,11 @@
 -- A number is its bytes, and bytes are the number's: for any count of bytes. Assumes nothing.
 use Prim.Native.Nat.{ℕ, zero, suc, _+_, _*_, _/_, _%_, _^_, _≤_, _<_}
-use mathlib.Core.Path.{_≡_, refl, _∙_, ap, ap₂}
+use mathlib.Core.Path.{_≡_, refl, sym, _∙_, ap, ap₂}
 use mathlib.Core.List.{List, [], _∷_}
 use native.Mathlib.Nat.{pow-succ', div-div-eq-div-mul}
 use native.Mathlib.Omega.{arith}
 use lib.ListN.{length, getD}
-use Rattle.shuffle.specs.Bytes.{bytesOf, fromBytes, EachBelow}
+use Rattle.shuffle.specs.Bytes.{bytesOf, fromBytes, byteAt, EachBelow}
 
 -- a number is its bytes
 pub value-bytes : (k x : ℕ) → x < 256 ^ k → fromBytes (bytesOf k x) ≡ x
@@ -55,3 +55,16 @@ eight-bytes x =
     (next-byte 4 x 16777216
     (next-byte 3 x 4294967296
     (next-byte 2 x 1099511627776 (next-byte 1 x 281474976710656 (next-byte 0 x 72057594037927936 refl)))))))
+
+-- the byte of place p, by one quotient and one remainder
+byte-quotient : (k p x : ℕ) → p < k → getD (bytesOf k x) p 0 ≡ x / 256 ^ p % 256
+unfolding bytesOf
+byte-quotient zero p x h = absurd (omega arith)
+byte-quotient (suc k) zero x h = omega arith
+byte-quotient (suc k) (suc p) x h =
+    byte-quotient k p (x / 256) (omega arith)
+    ∙ ap (λ (z : ℕ). z % 256) (div-div-eq-div-mul x 256 (256 ^ p) ∙ ap (λ (z : ℕ). x / z) (sym (pow-succ' 256 p)))
+
+pub byte-is : (p x : ℕ) → p < 8 → byteAt p x ≡ x / 256 ^ p % 256
+unfolding byteAt
+byte-is p x h = byte-quotient 8 p x h
