@@ -74,8 +74,7 @@ extern "C" {
  * 6 of line 0, of line 1 and on, then 7, 9, 10, 11, 8, 12, 13. The place is the line for 3 to 6 and 21
  * and otherwise 0. Numbers 14, 15 and 17 are of texts, 18 and 19 of an index and of appending a line,
  * 20 of restoring one, 22 and 23 of a sample of results, 24 of settling in order, 25 and 26 of a
- * stock record; no call here
- * returns them.
+ * stock record, 27 of shuffling a column's bytes; no call here returns them.
  */
 enum tozbierdu_refusal {
     TOZBIERDU_REFUSED_PARTS = 1,           /* n is above 1024 */
@@ -103,7 +102,8 @@ enum tozbierdu_refusal {
     TOZBIERDU_REFUSED_RESULT = 23,         /* a result is above 1000000 */
     TOZBIERDU_REFUSED_ORDER = 24,          /* a line needs its head or a higher part */
     TOZBIERDU_REFUSED_EVENT = 25,          /* an event's part is not below n */
-    TOZBIERDU_REFUSED_STOCK = 26           /* a shelf's count is above 1000000 */
+    TOZBIERDU_REFUSED_STOCK = 26,          /* a shelf's count is above 1000000 */
+    TOZBIERDU_REFUSED_BYTE_ROOM = 27       /* the bytes are not eight for each figure */
 };
 
 /* Whether a result is a refusal's. */

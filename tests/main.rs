@@ -12,6 +12,7 @@ mod ordered;
 mod random;
 mod reprice;
 mod settle;
+mod shuffle;
 mod statistics;
 mod tables;
 mod text;
@@ -53,6 +54,7 @@ const TESTS: &[&[Test]] = &[
     ordered::TESTS,
     ordered::refusals::TESTS,
     inventory::TESTS,
+    shuffle::TESTS,
 ];
 
 const SEED: u64 = 1;

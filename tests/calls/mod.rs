@@ -5,6 +5,7 @@ pub mod growth;
 pub mod inventory;
 pub mod lending;
 pub mod ordered;
+pub mod shuffle;
 pub mod statistics;
 pub mod texts;
 

@@ -4,6 +4,7 @@ pub mod growth;
 pub mod inventory;
 pub mod order;
 pub mod places;
+pub mod shuffle;
 pub mod solver;
 pub mod statistics;
 pub mod text;

@@ -16,3 +16,4 @@ pub mod Request09
 pub mod Request10
 pub mod Request11
 pub mod Request12
+pub mod Request13
