@@ -23,9 +23,7 @@ use Rattle.statistics.specs.declared.Summary.{Summary}
 use Rattle.statistics.specs.declared.Summary.the-variants as summary
 use Rattle.statistics.specs.Summaries.{summaryNumber, summaryValues}
 use Rattle.columns.specs.Columns.{Entries, Columns}
-
 use Rattle.shuffle.specs.Shuffled.{Outcome}
-use Rattle.columns.specs.Columns.{Answers, Columns}
 use Rattle.settle.specs.Checking.{checked}
 use Rattle.reprice.specs.Repricing.{MarkOutcome, stricken, restored}
 use Rattle.counter.specs.Results.{Left, outcomeResult, LeftRoom}
