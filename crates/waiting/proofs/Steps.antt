@@ -30,7 +30,7 @@ use Rattle.minima.specs.Minima.{keys}
 use Rattle.queue.specs.Keys.{Fits, Fitting, nothing, found}
 use Rattle.queue.specs.Queue.{offered}
 use Rattle.queue.proofs.Laws.{open-fits, open-unmade, open-made}
-use Rattle.waiting.specs.Lines.{Passable, Lines, places, pushed, Carried, Gone, stays, waits, Went, Offerable, Going, Linkable, Pushable}
+use Rattle.waiting.specs.Lines.{Passable, Lines, places, pushed, Carried, Gone, stays, waits, Went, Arriving, Offerable, Going, Linkable, Pushable}
 use Rattle.waiting.proofs.Keeping.{extends-refl}
 
 pub places-few : (k : ℕ) → k ≤ 256 → places k ≡ 256
@@ -162,3 +162,21 @@ pushable {e = e} r y v i j g p l x = record {
 
 pub linkable : {s : Lines} {v e i g : ℕ} → Pushable s v e i g → Linkable (s .first) (s .next) v e
 linkable p = record { vertex = omega (arith, p .sizes .first, p .vertex); edge = omega (arith, p .sizes .next, p .edge); small = p .small }
+
+-- a hyperedge past the end of its tail can be offered, and then has gone on
+module _ {m : Measure} {c : Columns} {ws ds q : List ℕ} {s : Lines} {e a b k : ℕ} (r : Offerable c ws ds q) (y : Going m c ws ds s e a b k)
+    {i j g : ℕ} (p : Gone (algebra m) (cell ws) (cell ds) (tailAt c e) i j g) (l : length (tailAt c e) ≤ i) where
+  is-open : Found (label (algebra m .finish (ownAt c e) j) (g + 1) e) ≡ opening (algebra m) (hypergraph c) (cell (c .own)) (cell ws) (cell ds) e
+  is-open = end-open (algebra m) c (cell ws) (cell ds) e (p .passed) l (y .unstruck) (y .fresh)
+
+  pub arriving : Arriving m (c .heads) (c .own) q e j g
+  arriving = record {
+    head = y .numbered;
+    figure = edge-in (r .usable) e (y .numbered) .own;
+    fits = found-fits (edge-fits r e (y .numbered) m) is-open;
+    sized = r .sized;
+    key = head-key r e (y .numbered);
+  }
+
+  pub arrived : {q′ : List ℕ} → q′ ≡ offered m q (headAt c e) (Found (label (algebra m .finish (ownAt c e) j) (g + 1) e)) → Went m c (cell ws) (cell ds) e s s q q′
+  arrived x = went-out m c (cell ws) (cell ds) e s i j g p l (x ∙ ap (offered m q (headAt c e)) is-open)

@@ -11,6 +11,7 @@ use lib.Dec.{leb}
 use Rattle.weights.specs.declared.Measure.{Measure}
 use Rattle.weights.specs.declared.Measure.the-variants.{Cost, Days, Grade}
 use Rattle.weights.specs.Figures.{isStruckMark}
+use Rattle.weights.specs.Labels.{label}
 use Rattle.weights.specs.Measures.{Algebra, algebra}
 use Rattle.provenance.specs.Labelling.{noneZero}
 use Rattle.provenance.specs.BestFirst.{opening}
@@ -21,7 +22,7 @@ use Rattle.weights.specs.Choice.{pick}
 use Rattle.columns.specs.Lent.{Legible, Usable}
 use Rattle.offers.proofs.Laws.{rest}
 use Rattle.minima.specs.Minima.{none, keys, size, Grouped}
-use Rattle.queue.specs.Keys.{heavy}
+use Rattle.queue.specs.Keys.{heavy, Fits}
 use Rattle.queue.specs.Queue.{keyAt, offered, Fitted}
 
 -- in place of a hyperedge, at the end of a list
@@ -162,6 +163,14 @@ pub record Pushable (s : Lines) (v e i g : ℕ) : Type 0 where
   pub small : e < 65536
   pub place : i < 65536
   pub depth : g < 65536
+
+-- hyperedge e, whose tail is passed, can be offered to its head
+pub record Arriving (m : Measure) (heads own q : List ℕ) (e j g : ℕ) : Type 0 where
+  pub head : e < length heads
+  pub figure : e < length own
+  pub fits : Fits (label (algebra m .finish (cell own e) j) (g + 1) e)
+  pub sized : length q ≡ size
+  pub key : cell heads e < keys
 
 -- hyperedges can be offered to their heads
 pub record Offerable (c : Columns) (ws ds q : List ℕ) : Type 0 where

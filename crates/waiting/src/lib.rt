@@ -12,10 +12,13 @@ use weights::Weight;
 ghost use mathlib.Core.Path.{_≡_};
 ghost use Prim.Native.Nat.{_+_, _<_, min};
 ghost use lib.ListN.{length};
+ghost use Rattle.weights.specs.declared.Offer.the-variants.{Found};
+ghost use Rattle.weights.specs.Labels.{label};
 ghost use Rattle.weights.specs.Measures.{algebra};
 ghost use Rattle.columns.specs.Lent.{lent};
 ghost use Rattle.columns.specs.Columns.{cell};
-ghost use Rattle.waiting.specs.Lines.{plain, Passable, lines, pushed, Carried, Gone, Linkable, Linked, Pushable, Offerable, Going, Went, Wakeful, Starting, Waking, Rested, Empty};
+ghost use Rattle.queue.specs.Queue.{offered};
+ghost use Rattle.waiting.specs.Lines.{plain, Passable, lines, pushed, Carried, Gone, Linkable, Linked, Pushable, Arriving, Offerable, Going, Went, Wakeful, Starting, Waking, Rested, Empty};
 
 // In place of a hyperedge, at the end of a list.
 const END: u16 = 65535;
@@ -118,6 +121,35 @@ fn wait(
     link(e, v, first, next);
 }
 
+// Hyperedge e, whose tail is passed, is offered to its head.
+fn arrive(
+    measure: Measure,
+    e: Hyperedge,
+    to: Reached,
+    heads: &[u64],
+    own: &[u64],
+    queue: &mut [u64],
+)
+    requires { ⌜ Arriving measure (now heads) (now own) (now queue) (e .0) (to .joined .0) (to .deepest) ⌝ }
+    ensures { λ r.
+        let o = Found (label (algebra measure .finish (cell (now (own .entry)) (e .0)) (to .joined .0)) (to .deepest + 1) (e .0)) in
+        ⌜ now (queue .exit) ≡ offered measure (now (queue .entry)) (cell (now (heads .entry)) (e .0)) o ⌝ }
+{
+    let i = e.0 as usize;
+    let figure = own[i];
+    let sum = to.joined;
+    let weight = Weight(figure).finish(measure, sum);
+    let depth = to.deepest + 1;
+    let l = Label {
+        weight,
+        depth,
+        edge: e,
+    };
+    let key = queue::pack(measure, l);
+    let h = heads[i] as usize;
+    minima::lower(queue, h, key);
+}
+
 // Hyperedge e, whose head is unmade, goes on from where it is: it waits again, or is offered.
 fn advance(
     measure: Measure,
@@ -157,18 +189,7 @@ fn advance(
         wait(e, Vertex(v), to, first, next, at, joined, deepest);
         return;
     }
-    let figure = own[i];
-    let sum = to.joined;
-    let weight = Weight(figure).finish(measure, sum);
-    let depth = to.deepest + 1;
-    let l = Label {
-        weight,
-        depth,
-        edge: e,
-    };
-    let key = queue::pack(measure, l);
-    let h = heads[i] as usize;
-    minima::lower(queue, h, key);
+    arrive(measure, e, to, heads, own, queue);
 }
 
 // Hyperedge e waited for a vertex that is made now: it goes on, unless its head is made too.
@@ -326,29 +347,12 @@ fn begin(
         return;
     }
     let unit = Weight::unit(measure);
-    let from = Reached {
+    let to = Reached {
         at: 0,
         joined: unit,
         deepest: 0,
     };
-    advance(
-        measure,
-        e,
-        from,
-        heads,
-        own,
-        strikes,
-        spans,
-        tails,
-        weights,
-        depths,
-        first,
-        next,
-        at,
-        joined,
-        deepest,
-        queue,
-    );
+    arrive(measure, e, to, heads, own, queue);
 }
 
 // Every hyperedge that is not struck waits or is offered.

@@ -1,23 +1,17 @@
 -- `waiting::advance` meets its contract: the hyperedge goes on as far as it can, and waits there or is offered. Assumes nothing.
 use Rattle.waiting.proofs.advance.Statement.{statement}
 use Rattle.waiting.proofs.advance.Tie as tie
-use mathlib.Core.Path.{_≡_, _∙_, ap}
-use Prim.Native.Nat.{ℕ, _+_, _≤_, _<_}
+use mathlib.Core.Path.{_≡_}
+use Prim.Native.Nat.{_+_, _≤_, _<_}
 use native.Mathlib.Omega.{arith}
 use borrow.Author.Needs.{needs}
 use lib.ListN.{length}
-use Rattle.weights.specs.declared.Offer.the-variants.{Found}
-use Rattle.weights.specs.Labels.{label}
 use Rattle.weights.specs.Measures.{algebra}
-use Rattle.provenance.specs.BestFirst.{opening}
 use Rattle.columns.specs.Columns.{offsetAt, lengthAt, tailAt, cell}
-use Rattle.tables.specs.Table.{hypergraph}
 use Rattle.columns.specs.Lent.{lent}
 use Rattle.columns.proofs.Usable.{edge-in}
-use Rattle.minima.specs.Minima.{lowered}
-use Rattle.queue.specs.Queue.{offered}
-use Rattle.waiting.specs.Lines.{lines, Gone}
-use Rattle.waiting.proofs.Steps.{passable, edge-few, head-key, tails-few, tail-length, tail-at, edge-fits, found-fits, span-length, end-open, went-on, went-out, pushable}
+use Rattle.waiting.specs.Lines.{Gone}
+use Rattle.waiting.proofs.Steps.{passable, tails-few, tail-length, tail-at, span-length, went-on, pushable, arriving, arrived}
 
 -- as far as the tail goes, or to a vertex that is unmade
 gone : (c : tie.After-go-on) → let a = c .before .before .before .before .before .before .before .before .before .before .before .before .before .before .before .before .before .args in
@@ -54,20 +48,6 @@ vertex c =
 finished : (c : tie.Else1) → let a = c .before .before .before .before .before .before .before .before .before .before .before .before .before .before .before .before .before .before .args in
     length (tailAt (lent (a .heads .now) (a .own .now) (a .strikes .now) (a .spans .now) (a .tails .now) (a .depths .now)) (a .e .0)) ≤ c .before .go-on .result .at
 finished c = omega (arith, long (c .before), c .if1 .left)
-
--- what is offered
-is-open : (c : tie.After-struct-known) → let a =
-    c .before .before .before .before .before .before .before .before .before .before .before .before .before .before .before .before .before .before .before .before .before .before .args in
-    Found (label (c .before .finish .result .0) (c .before .before .before .before .before .go-on .result .deepest + 1) (a .e .0)) ≡ opening
-    (algebra (a .measure)) (hypergraph (lent (a .heads .now) (a .own .now) (a .strikes .now) (a .spans .now) (a .tails .now) (a .depths .now))) (cell (a .own .now))
-    (cell (a .weights .now)) (cell (a .depths .now)) (a .e .0)
-is-open c =
-    let a = c .before .before .before .before .before .before .before .before .before .before .before .before .before .before .before .before .before .before .before .before .before .before .args in
-    ap (λ (z : ℕ). Found (label z (c .before .before .before .before .before .go-on .result .deepest + 1) (a .e .0))) (c .before .finish .ensures)
-    ∙ end-open (algebra (a .measure)) (lent (a .heads .now) (a .own .now) (a .strikes .now) (a .spans .now) (a .tails .now) (a .depths .now)) (cell (a .weights .now))
-    (cell (a .depths .now)) (a .e .0) (gone (c .before .before .before .before .before) .passed) (finished (c .before .before .before .before))
-    (c .before .before .before .before .before .before .before .before .before .before .before .before .before .before .before .before .before .before .before .before .before .before .pre .1 .unstruck)
-    (c .before .before .before .before .before .before .before .before .before .before .before .before .before .before .before .before .before .before .before .before .before .before .pre .1 .fresh)
 
 shared-slice-read-offset : tie.Need-shared-slice-read-offset
 shared-slice-read-offset c =
@@ -131,48 +111,18 @@ returns c =
     went-on (a .measure) (lent (a .heads .now) (a .own .now) (a .strikes .now) (a .spans .now) (a .tails .now) (a .depths .now)) (cell (a .weights .now))
     (cell (a .depths .now)) (a .e .0) (a .queue .now) _ _ _ _ (gone (r)) (further (q)) (vertex (q)) (p .wait .ensures)
 
-shared-slice-read-figure : tie.Need-shared-slice-read-figure
-shared-slice-read-figure c =
-    let p = c .before .before .before .before .before .before .before .before .before .before .before .before .before .before .before .before .before .before .before in
-    omega (arith, edge-in (p .pre .0 .usable) (p .args .e .0) (p .pre .1 .numbered) .own)
-
-add-depth : tie.Need-add-depth
-add-depth c = omega (arith, gone (c .before .before .before .before .before) .passed .shallow)
-
-pack-requires : tie.Need-pack-requires
-pack-requires c κs =
-    let p = c .before .before .before .before .before .before .before .before .before .before .before .before .before .before .before .before .before .before .before .before .before .before in
-    found-fits (edge-fits (p .pre .0) (p .args .e .0) (p .pre .1 .numbered) (p .args .measure)) (is-open c)
-
-mul-h : tie.Need-mul-h
-mul-h c =
-    let p = c .before .before .before .before .before .before .before .before .before .before .before .before .before .before .before .before .before .before .before .before .before .before .before in
-    omega (arith, edge-few (p .pre .0) (p .args .e .0) (p .pre .1 .numbered))
-
-shared-slice-read-h : tie.Need-shared-slice-read-h
-shared-slice-read-h c =
-    let p = c .before .before .before .before .before .before .before .before .before .before .before .before .before .before .before .before .before .before .before .before .before .before .before .before in
-    p .pre .1 .numbered
-
-lower-requires : tie.Need-lower-requires
-lower-requires c κs =
-    let p =
-    c .before .before .before .before .before .before .before .before .before .before .before .before .before .before .before .before .before .before .before .before .before .before .before .before .before in
-    (p .pre .0 .sized, head-key (p .pre .0) (p .args .e .0) (p .pre .1 .numbered))
+arrive-requires : tie.Need-arrive-requires
+arrive-requires c κs =
+    let l = c .before in
+    let r = l .before .before .before .before .before .before .before .before .before .before .before .before .before .before .before .before .before .before in
+    arriving (r .pre .0) (r .pre .1) (gone (l .before)) (finished l)
 
 returns-2 : tie.Need-returns-2
 returns-2 c =
-    let p = c .before .before .before .before .before in
-    let q = p .before in
-    let r = q .before .before .before .before in
-    let s = r .before in
-    let u = s .before .before .before .before .before .before .before .before .before .before .before .before .before .before .before .before .before in
-    let a = u .args in
-    went-out (a .measure) (lent (a .heads .now) (a .own .now) (a .strikes .now) (a .spans .now) (a .tails .now) (a .depths .now))
-    (cell (a .weights .now)) (cell (a .depths .now)) (a .e .0)
-    (lines (a .first .now) (a .next .now) (a .at .now) (a .joined .now) (a .deepest .now)) _ _ _ (gone (s)) (finished (r))
-    (c .before .before .lower .ensures ∙ ap (λ (z : ℕ). lowered (a .queue .now) (cell (a .heads .now) (a .e .0)) z) (p .pack .ensures)
-    ∙ ap (offered (a .measure) (a .queue .now) (cell (a .heads .now) (a .e .0))) (is-open (q)))
+    let k = c .before .before in
+    let l = k .before .before in
+    let r = l .before .before .before .before .before .before .before .before .before .before .before .before .before .before .before .before .before .before in
+    arrived (r .pre .0) (r .pre .1) (gone (l .before)) (finished l) (k .arrive .ensures)
 
 pub advance-spec : {M : Type 1} → statement M
 advance-spec =
@@ -201,13 +151,6 @@ advance-spec =
     (λ c. search needs)
     (λ c. search needs)
     returns
-    (λ c. search needs)
-    shared-slice-read-figure
-    (λ c κs. search needs)
-    add-depth
-    pack-requires
-    mul-h
-    shared-slice-read-h
-    lower-requires
+    arrive-requires
     (λ c. search needs)
     returns-2)

@@ -9,8 +9,8 @@ use borrow.Author.Needs.{needs}
 use Rattle.weights.specs.Figures.{isStruckMark}
 use Rattle.columns.specs.Columns.{cell}
 use Rattle.columns.proofs.Usable.{edge-in}
-use Rattle.waiting.proofs.Steps.{tails-few}
-use Rattle.waiting.proofs.Starts.{struck-next, going, first-linkable, first-waits, went-next}
+use Rattle.waiting.proofs.Steps.{tails-few, tail-length, arriving, arrived}
+use Rattle.waiting.proofs.Starts.{struck-next, going, gone-none, first-linkable, first-waits, went-next}
 
 -- the start, seen from the test of the mark
 abbrev entry : tie.After-is-struck → tie.Start
@@ -64,20 +64,28 @@ returns-2 c =
     let w = first-waits (p .pre .1 .1) (p .pre .0) (p .pre .1 .0) (unstruck l) (t .if2 .taken) (k .link .ensures) in
     went-next (p .pre .1 .1) (p .pre .0) (p .pre .1 .0) (unstruck l) w
 
-advance-requires : tie.Need-advance-requires
-advance-requires c κs =
-    let u = c .before .before .before .before .before .before in
+-- from the unit on: with no vertex listed it is past the end of its tail
+arrive-requires : tie.Need-arrive-requires
+arrive-requires c κs =
+    let u = c .before in
     let l = u .before .before .before .before in
     let p = entry (l .before) in
-    (p .pre .0, going (p .pre .1 .1) (p .pre .0) (p .pre .1 .0) (unstruck l) (u .unit .ensures))
+    let s = p .pre .1 .1 in
+    let g = going s (p .pre .0) (p .pre .1 .0) (unstruck l) (u .unit .ensures) in
+    let n = gone-none s (p .pre .0) (p .pre .1 .0) (unstruck l) (u .unit .ensures) in
+    arriving (p .pre .0) g n (omega (arith, tail-length (p .pre .0) (p .args .e .0) (p .pre .1 .0), u .before .if2 .left))
 
 returns-3 : tie.Need-returns-3
 returns-3 c =
-    let a = c .before .before .before .before .before .before .before .before .before .before .before .before in
-    let u = a .before .before .before .before .before .before .before in
+    let k = c .before .before in
+    let u = k .before .before in
     let l = u .before .before .before .before in
     let p = entry (l .before) in
-    went-next (p .pre .1 .1) (p .pre .0) (p .pre .1 .0) (unstruck l) (a .advance .ensures)
+    let s = p .pre .1 .1 in
+    let g = going s (p .pre .0) (p .pre .1 .0) (unstruck l) (u .unit .ensures) in
+    let n = gone-none s (p .pre .0) (p .pre .1 .0) (unstruck l) (u .unit .ensures) in
+    let a = arrived (p .pre .0) g n (omega (arith, tail-length (p .pre .0) (p .args .e .0) (p .pre .1 .0), u .before .if2 .left)) (k .arrive .ensures) in
+    went-next s (p .pre .0) (p .pre .1 .0) (unstruck l) a
 
 pub begin-spec : {M : Type 1} → statement M
 begin-spec =
@@ -101,11 +109,6 @@ begin-spec =
     (λ c. search needs)
     returns-2
     (λ c κs. search needs)
-    advance-requires
-    (λ c. search needs)
-    (λ c. search needs)
-    (λ c. search needs)
-    (λ c. search needs)
-    (λ c. search needs)
+    arrive-requires
     (λ c. search needs)
     returns-3)
