@@ -63,7 +63,7 @@ static const char *reason(uint64_t number)
     case TOZBIERDU_REFUSED_PART: return "no such part";
     case TOZBIERDU_REFUSED_UNMADE: return "the part cannot be made";
     case TOZBIERDU_REFUSED_ROOM: return "the bill is longer than the room";
-    case TOZBIERDU_REFUSED_MEASURE: return "the measure is neither cost nor days";
+    case TOZBIERDU_REFUSED_MEASURE: return "the measure is neither cost, days nor grade";
     case TOZBIERDU_REFUSED_STRIKE_MARK: return "the line's strike mark is neither 0 nor 1";
     default: return "unknown";
     }

@@ -92,7 +92,7 @@ enum tozbierdu_refusal {
     TOZBIERDU_REFUSED_ROOM = 13,           /* the bill is longer than the room */
     TOZBIERDU_REFUSED_TEXT = 14,           /* a text breaks the form or a limit */
     TOZBIERDU_REFUSED_TEXT_ROOM = 15,      /* a column or the room of a text is too short */
-    TOZBIERDU_REFUSED_MEASURE = 16,        /* the measure is neither cost nor days */
+    TOZBIERDU_REFUSED_MEASURE = 16,        /* the measure is neither cost, days nor grade */
     TOZBIERDU_REFUSED_INPUT = 17,          /* a program's input is too long */
     TOZBIERDU_REFUSED_COLUMN_ROOM = 18,    /* a column has no room */
     TOZBIERDU_REFUSED_INDEX = 19,          /* the lent index is not this table's */

@@ -6,3 +6,4 @@ pub mod Opening
 pub mod Replayed
 pub mod Worked
 pub mod Asked
+pub mod Fixed

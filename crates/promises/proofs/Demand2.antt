@@ -60,7 +60,7 @@ module _ (m : Measure) (c : Columns) (a : Entries) (h : settled m c a .result �
   pub settled-answers : settled m c a .left ≡ entriesOf m c
   settled-answers = settled-left m c a (sym (settled-result m c a) ∙ h)
 
-  -- "Make-ups, figures, depth": an entry is unmade where there is no make-up; else a thrifty make-up has its figure, depth and line, none weighs less, no thrifty one is
+  -- "Make-ups, figures, depth": an entry is unmade where there is no make-up; else a thrifty make-up has its figure, depth and line, none is better, no thrifty one is
   -- less deep, and no thrifty one of that depth has a lower line at its root
   pub entry-means : (v : ℕ) → Means (algebra m) (hypergraph c) (ownAt c) (labels (settled m c a .left .labels) v) v
   entry-means v = demand-2 m c a h v .means

@@ -41,6 +41,8 @@ use Rattle.reprice.proofs.Changes.{repriced-result, reprice-refused-exactly, re
 use Rattle.append.specs.Appending.{appended}
 use Rattle.append.proofs.Appended.{appended-longer}
 use Rattle.bill.specs.Billing.{billOf}
+use Rattle.topological.specs.Ordering.{settledInOrder}
+use Rattle.topological.proofs.Settled.{ordered-demand-2}
 
 -- 2026-09: keep the piece count in the entry --------------------------------------------------------------------------------------------------------------------------
 
@@ -92,7 +94,11 @@ pub worked-pieces : entriesOf Cost worked .pieces ≡ 1 ∷ 1 ∷ 2 ∷ 4 ∷ 0 
 unfolding answersOf entriesOf below piecesAt piece total bill bills best-first turns turn next opening offerOf noneZero aheadOf weigh fold each greatestDepth
 worked-pieces = refl
 
--- "Settling, repricing, striking, restoring, appending … all keep it true": it is that of the table as it then is
+-- "Settling, repricing, striking, restoring, appending and the dealers' settling all keep it true": it is that of the table as it then is
+pub ordered-counts : (m : Measure) (c : Columns) (a : Entries) → settledInOrder m c a .result ≡ Accepted
+    → (v : ℕ) → HasPieces (hypergraph c) (labels (settledInOrder m c a .left .labels)) v (piecesIn (settledInOrder m c a .left) v)
+ordered-counts m c a h v = ordered-demand-2 m c a h v .pieces
+
 module _ (m : Measure) (c : Columns) (a : Entries) (e : ℕ) where
   pub reprice-counts : (w : ℕ) → repriced m c a e w .result ≡ Accepted
       → (v : ℕ) → HasPieces (hypergraph (withOwn c e w)) (labels (repriced m c a e w .left .labels)) v (piecesIn (repriced m c a e w .left) v)

@@ -1,14 +1,17 @@
 -- Document 02, change request 2026-12. Assumes nothing.
-use mathlib.Core.Path.{_≡_}
+use mathlib.Core.Path.{_≡_, refl}
 use mathlib.Core.Logic.{_↔_}
 use mathlib.Core.List.{List}
 use Prim.Native.Nat.{ℕ, _+_, _≤_, _<_}
 use native.Mathlib.Omega.{arith}
 use lib.ListN.{length}
 use Rattle.weights.specs.declared.Measure.{Measure}
+use Rattle.weights.specs.declared.Vertex.{Vertex}
+use Rattle.refusal.specs.declared.Event.{Event}
 use Rattle.refusal.specs.declared.Refusal.{Refusal}
+use Rattle.refusal.specs.declared.Refusal.the-variants.{EventVertex, OpeningCount, ReceivedCount}
 use Rattle.refusal.specs.declared.Acceptance.the-variants.{Accepted, Refused}
-use Rattle.refusal.specs.Refusals.{placeOf, lastPlace}
+use Rattle.refusal.specs.Refusals.{placeOf, code, codeOf, lastPlace}
 use Rattle.columns.specs.Columns.{Entries, Columns, cell}
 use Rattle.columns.specs.Acceptance.{mostVertices}
 use Rattle.columns.specs.Owed.{Owed}
@@ -21,8 +24,10 @@ use Rattle.inventory.specs.Record.{listOf, Replays, Stops, receipts, issues, us
 use Rattle.inventory.specs.Asked.{RightReplay, WrongReplay, ReplayOwes}
 use Rattle.inventory.specs.Worked.{Worked}
 use Rattle.inventory.proofs.Asked.{replay-owes, stops-place, owed-wrong}
+use Rattle.inventory.proofs.Fixed.{replays-once, replay-never, replay-once}
 use Rattle.inventory.proofs.Replayed.{replay-meaning, conservation, outcome-received, final-low, final-sized, replay-keeps}
 use Rattle.inventory.proofs.Worked.{worked-records}
+use Rattle.promises.specs.Fixed.{Fixed}
 
 -- 2026-12: run last month's orders past the shelf --------------------------------------------------------------------------------------------------------------------
 
@@ -31,6 +36,13 @@ module _ (m : Measure) (c : Columns) (a : Entries) (parts received stock outcome
   -- outcomes are left, or refused, and then both columns are as they came
   pub replay : ReplayOwes m c a parts received stock outcomes (replayed m c a parts received stock outcomes)
   replay = replay-owes m c a parts received stock outcomes
+
+  -- no input is both, or refused in two ways; and a record has one end alone
+  pub replay-fixed : Fixed (RightReplay m c a parts received stock outcomes) (WrongReplay m c a parts received stock outcomes)
+  replay-fixed = record { never = replay-never m c a parts received stock outcomes; once = replay-once m c a parts received stock outcomes }
+
+  pub replay-one-end : (p q : RightReplay m c a parts received stock outcomes) → (p .outcomes ≡ q .outcomes) × (p .final ≡ q .final)
+  replay-one-end p q = replays-once c (a .labels) (p .replays) (q .replays)
 
   module _ (p : replayed m c a parts received stock outcomes .result ≡ Accepted) where
     -- "write for each event into a lent column 0 for a receipt, 1 for a piece from the shelf, 2 for built, 3 for late. An order takes a piece from the shelf; if there's
@@ -57,7 +69,7 @@ module _ (m : Measure) (c : Columns) (a : Entries) (parts received stock outcome
     pub replay-refusal-keeps : let o = replayed m c a parts received stock outcomes in (o .stock ≡ stock) × (o .outcomes ≡ outcomes)
     replay-refusal-keeps = replay-keeps m c a parts received stock outcomes p
 
-    -- "the place is the part number for a bad opening count, otherwise the event's number from 0": it fits the result in C
+    -- the place fits the result in C
     pub replay-place : placeOf r ≤ lastPlace
     replay-place = go (owed-wrong m c a parts received stock outcomes p)
       where
@@ -69,6 +81,16 @@ module _ (m : Measure) (c : Columns) (a : Entries) (parts received stock outcome
         go (WrongReplay.answers l t e n) = omega arith
         go (WrongReplay.opening l t e f v h) = omega (arith, h .within, e, t .table .few)
         go (WrongReplay.event s w) = omega (arith, stops-place c (a .labels) w, s .level .events)
+
+-- "the place is the part number for a bad opening count, otherwise the event's number from 0"
+pub opening-is : (v : Vertex) → codeOf (OpeningCount v) ≡ code 26 (v .0)
+opening-is v = refl
+
+pub part-is : (i : Event) → codeOf (EventVertex i) ≡ code 25 (i .0)
+part-is i = refl
+
+pub received-is : (i : Event) → codeOf (ReceivedCount i) ≡ code 26 (i .0)
+received-is i = refl
 
 -- the request's words on the paper's table, and records of other kinds
 pub replay-worked : Worked

@@ -2,5 +2,6 @@ pub mod Checking
 pub mod Linking
 pub mod Ordered
 pub mod Settled
+pub mod Exactly
 pub mod Whole
 pub mod Worked

@@ -1,7 +1,7 @@
 -- What the check of a table in order tells: a table is accepted exactly if it is accepted without the rule and keeps it, and what 24 and every other refusal mean.
 -- Assumes nothing.
 use mathlib.Core.Path.{_≡_, refl, sym, _∙_, ap, subst}
-use mathlib.Core.Logic.{_↔_, _⊎_, inl, inr, ⊎-elim, _≢_}
+use mathlib.Core.Logic.{_↔_, _⊎_, inl, inr, ⊎-elim}
 use mathlib.Core.Bool.{Bool, true, false}
 use mathlib.Core.List.{List, [], _∷_, List·Memᴰ, List·Memᴰ·cases-cons, List·Memᴰ·not-nil}
 use Prim.Native.Nat.{ℕ, zero, suc, _+_, _≤_, _<_}
@@ -17,7 +17,7 @@ use Rattle.refusal.specs.declared.Refusal.{Refusal}
 use Rattle.refusal.specs.declared.Refusal.the-variants.{Order}
 use Rattle.refusal.specs.declared.Acceptance.{Acceptance}
 use Rattle.refusal.specs.declared.Acceptance.the-variants.{Accepted, Refused}
-use Rattle.refusal.specs.Refusals.{numberOf, placeOf}
+use Rattle.refusal.specs.Refusals.{numberOf}
 use Rattle.columns.specs.Columns.{Columns, headAt, offsetAt, lengthAt, tailAt, cell}
 use Rattle.columns.specs.Acceptance.{test, andThen, allBelow, edgeAt, edgesAcceptance, sizesAcceptance, acceptance}
 use Rattle.columns.specs.Right.{endBefore, WrongEdge, WrongTable}
@@ -28,8 +28,27 @@ use Rattle.columns.proofs.Sizes.{sizes-first}
 use Rattle.provenance.specs.InOrder.{InOrder}
 use Rattle.tables.specs.Table.{hypergraph}
 use Rattle.topological.specs.Ordering.{orderedEdge, orderedEdgeAt, orderedEdgesAcceptance, orderedAcceptance}
-use Rattle.topological.specs.Right.{RightOrder, Keeps, FirstUnordered}
+use Rattle.topological.specs.Right.{RightOrder}
 use Rattle.topological.proofs.Checking.{line-passed}
+
+-- line e passes 3 to 6, and the rule
+pub record Keeps (c : Columns) (e : ℕ) : Type 0 where
+  pub passes : edgeAt c e (endBefore c e) ≡ Accepted
+  pub order : RightOrder c e
+
+-- line e is the first that fails, and it fails the rule alone: place k of its span holds its head or a higher part
+pub record FirstUnordered (c : Columns) (e : ℕ) : Type 0 where
+  pub numbered : e < length (c .heads)
+  pub before : (x : ℕ) → x < e → Keeps c x
+  pub passes : edgeAt c e (endBefore c e) ≡ Accepted
+  pub listed : (k : ℕ) × ((k < lengthAt c e) × (headAt c e ≤ cell (c .tails) (offsetAt c e + k)))
+
+pub lt-or-le : (x e : ℕ) → (x < e) ⊎ (e ≤ x)
+lt-or-le x e = go (ltb x e) refl
+  where
+    go : (b : Bool) → ltb x e ≡ b → (x < e) ⊎ (e ≤ x)
+    go true p = inl (ltb-true x e p)
+    go false p = inr (ltb-false x e p)
 
 -- of a list with a number that is not below n, such a number
 not-below : (n : ℕ) (vs : List ℕ) → allBelow n vs ≡ false → (k : ℕ) × ((k < length vs) × (n ≤ cell vs k))
@@ -55,19 +74,20 @@ member n (v ∷ vs) p u i =
     go f (inr j) h = f j
 
 module _ (c : Columns) (e : ℕ) where
-  -- where the line's span is within the column, the rule by the places of the column
+  -- where the line's span is within the column
   module _ (w : offsetAt c e + lengthAt c e ≤ length (c .tails)) where
     long : length (tailAt c e) ≡ lengthAt c e
     long = part-length (offsetAt c e) (lengthAt c e) (c .tails) w
 
-    rule-order : allBelow (headAt c e) (tailAt c e) ≡ true → RightOrder c e
-    rule-order p k h = subst (λ (x : ℕ). x < headAt c e) (part-at (offsetAt c e) (lengthAt c e) (c .tails) k h) (below-at (headAt c e) (tailAt c e) p k (omega (arith, long)))
+    -- a bound of the listed parts by the places of the column
+    pub below-places : (n : ℕ) → allBelow n (tailAt c e) ≡ true → (k : ℕ) → k < lengthAt c e → cell (c .tails) (offsetAt c e + k) < n
+    below-places n p k h = subst (λ (x : ℕ). x < n) (part-at (offsetAt c e) (lengthAt c e) (c .tails) k h) (below-at n (tailAt c e) p k (omega (arith, long)))
 
-    order-rule : RightOrder c e → allBelow (headAt c e) (tailAt c e) ≡ true
-    order-rule f =
-        below-all (headAt c e) (tailAt c e) (λ k h.
+    pub places-below : (n : ℕ) → ((k : ℕ) → k < lengthAt c e → cell (c .tails) (offsetAt c e + k) < n) → allBelow n (tailAt c e) ≡ true
+    places-below n f =
+        below-all n (tailAt c e) (λ k h.
         let i : k < lengthAt c e = omega (arith, long) in
-        subst (λ (x : ℕ). x < headAt c e) (sym (part-at (offsetAt c e) (lengthAt c e) (c .tails) k i)) (f k i))
+        subst (λ (x : ℕ). x < n) (sym (part-at (offsetAt c e) (lengthAt c e) (c .tails) k i)) (f k i))
 
     rule-broken : allBelow (headAt c e) (tailAt c e) ≡ false → (k : ℕ) × ((k < lengthAt c e) × (headAt c e ≤ cell (c .tails) (offsetAt c e + k)))
     rule-broken p =
@@ -138,8 +158,8 @@ module _ (c : Columns) where
   -- "a check for the rule": a table is accepted exactly if it is without the rule, and every line, struck or not, lists only parts below its head
   pub ordered-accepted : (orderedAcceptance c ≡ Accepted) ↔ ((acceptance c ≡ Accepted) × ((e : ℕ) → e < length (c .heads) → RightOrder c e))
   ordered-accepted = (
-    λ p. let t = ordered-split p in (t .0, λ e h. rule-order c e (table-accepted c (t .0) .each e h .1 .within) (t .1 e h)),
-    λ t. ordered-joined (t .0) (λ e h. order-rule c e (table-accepted c (t .0) .each e h .1 .within) (t .1 e h)),
+    λ p. let t = ordered-split p in (t .0, λ e h. below-places c e (table-accepted c (t .0) .each e h .1 .within) (headAt c e) (t .1 e h)),
+    λ t. ordered-joined (t .0) (λ e h. places-below c e (table-accepted c (t .0) .each e h .1 .within) (headAt c e) (t .1 e h)),
   )
 
   -- the hypergraph of such a table is in order
@@ -149,11 +169,15 @@ module _ (c : Columns) where
   next-end : (e : ℕ) → offsetAt c e + lengthAt c e ≡ endBefore c (e + 1)
   next-end e = ap (endBefore c) (sym (add-one e))
 
-  -- what is wrong with lines of which those before e keep the rule
-  abbrev Wrong : (left e end : ℕ) → Refusal → Type 0
-  Wrong left e end r = ((x : ℕ) × ((r ≡ Order (record { 0 = x })) × FirstUnordered c x)) ⊎ (edgesAcceptance c left e end ≡ Refused r)
+  -- the lines that pass 3 to 6, up to the first that does not, keep the rule
+  abbrev pub Ordered : Type 0
+  Ordered = (x : ℕ) → ((y : ℕ) → y ≤ x → edgeAt c y (endBefore c y) ≡ Accepted) → RightOrder c x
 
-  edges-wrong : (left e : ℕ) (r : Refusal) → e + left ≡ length (c .heads) → ((x : ℕ) → x < e → Keeps c x)
+  -- what is wrong with lines of which those before e keep the rule
+  abbrev pub Wrong : (left e end : ℕ) → Refusal → Type 0
+  Wrong left e end r = ((x : ℕ) × ((r ≡ Order (record { 0 = x })) × FirstUnordered c x)) ⊎ ((edgesAcceptance c left e end ≡ Refused r) × Ordered)
+
+  pub edges-wrong : (left e : ℕ) (r : Refusal) → e + left ≡ length (c .heads) → ((x : ℕ) → x < e → Keeps c x)
       → orderedEdgesAcceptance c left e (endBefore c e) ≡ Refused r → Wrong left e (endBefore c e) r
   unfolding orderedEdgesAcceptance orderedEdge edgesAcceptance
   edges-wrong zero e r n f p = absurd (refused (sym p))
@@ -166,36 +190,30 @@ module _ (c : Columns) where
       keeps : edgeAt c e (endBefore c e) ≡ Accepted → Rule e → (x : ℕ) → x < e + 1 → Keeps c x
       keeps q u x h =
           ⊎-elim
-          (λ i. subst (Keeps c) (sym i) (record { passes = q; order = rule-order c e (within e (endBefore c e) q) u }))
+          (λ i. subst (Keeps c) (sym i) (record { passes = q; order = below-places c e (within e (endBefore c e) q) (headAt c e) u }))
           (λ i. f x i)
           (eq-or-lt-of-le (omega arith))
 
       behind : edgeAt c e (endBefore c e) ≡ Accepted → Wrong left (e + 1) (endBefore c (e + 1)) r → Wrong (suc left) e (endBefore c e) r
       behind q (inl x) = inl x
-      behind q (inr z) = let y = subst (λ (k : ℕ). edgesAcceptance c left (e + 1) k ≡ Refused r) (sym (next-end e)) z in inr (rw q y)
+      behind q (inr (z, o)) = let y = subst (λ (k : ℕ). edgesAcceptance c left (e + 1) k ≡ Refused r) (sym (next-end e)) z in inr (rw q y, o)
+
+      -- what passes stands before a line that does not
+      earlier : {s : Refusal} → edgeAt c e (endBefore c e) ≡ Refused s → Ordered
+      earlier q x h = at (lt-or-le x e)
+        where
+          at : (x < e) ⊎ (e ≤ x) → RightOrder c x
+          at (inl i) = f x i .order
+          at (inr i) = absurd (refused (sym q ∙ h e i))
 
       go : (a : Acceptance) (b : Bool) → edgeAt c e (endBefore c e) ≡ a → allBelow (headAt c e) (tailAt c e) ≡ b
           → (((x : ℕ) → x < e + 1 → Keeps c x) → orderedEdgesAcceptance c left (e + 1) (endBefore c (e + 1)) ≡ Refused r → Wrong left (e + 1) (endBefore c (e + 1)) r)
           → andThen (andThen a (test b (Order (record { 0 = e })) Accepted)) rest ≡ Refused r → Wrong (suc left) e (endBefore c e) r
-      go (Refused s) b q u g p = inr (rw q p)
+      go (Refused s) b q u g p = inr (rw q p, earlier q)
       go Accepted false q u g p =
           inl (e, (sym (same-refusal p), record { numbered = omega arith; before = f; passes = q; listed = rule-broken c e (within e (endBefore c e) q) u }))
       go Accepted true q u g p =
           behind q (g (keeps q u) (subst (λ (k : ℕ). orderedEdgesAcceptance c left (e + 1) k ≡ Refused r) (next-end e) p))
-
-  -- a refusal is 24, of the first line that fails, which fails the rule alone; or it is the refusal without the rule
-  pub ordered-refused : (r : Refusal) → orderedAcceptance c ≡ Refused r → ((e : ℕ) × ((r ≡ Order (record { 0 = e })) × FirstUnordered c e)) ⊎ (acceptance c ≡ Refused r)
-  unfolding orderedAcceptance
-  ordered-refused r p = go (sizesAcceptance c) refl p
-    where
-      on : sizesAcceptance c ≡ Accepted → Wrong (length (c .heads)) 0 0 r → ((e : ℕ) × ((r ≡ Order (record { 0 = e })) × FirstUnordered c e)) ⊎ (acceptance c ≡ Refused r)
-      on q (inl x) = inl x
-      on q (inr z) = inr (sizes-first c ∙ rw (q, z))
-
-      go : (a : Acceptance) → sizesAcceptance c ≡ a → andThen a (orderedEdgesAcceptance c (length (c .heads)) 0 0) ≡ Refused r
-          → ((e : ℕ) × ((r ≡ Order (record { 0 = e })) × FirstUnordered c e)) ⊎ (acceptance c ≡ Refused r)
-      go (Refused s) q p = inr (sizes-first c ∙ rw q p)
-      go Accepted q p = on q (edges-wrong (length (c .heads)) 0 r (omega arith) (λ x h. absurd (omega arith)) p)
 
   edge-number : {e : ℕ} {r : Refusal} → WrongEdge c e r → numberOf r < 24
   edge-number (WrongEdge.head n) = omega arith
@@ -212,17 +230,3 @@ module _ (c : Columns) where
   -- "in these two calls only": the check without the rule never returns 24
   pub never-order : (r : Refusal) → acceptance c ≡ Refused r → numberOf r < 24
   never-order r p = table-number (refused-exactly c r .0 p)
-
-  pub ordered-refused-order : (e : ℕ) → orderedAcceptance c ≡ Refused (Order (record { 0 = e })) → FirstUnordered c e
-  ordered-refused-order e p = go (ordered-refused (Order (record { 0 = e })) p)
-    where
-      go : ((x : ℕ) × ((Order (record { 0 = e }) ≡ Order (record { 0 = x })) × FirstUnordered c x)) ⊎ (acceptance c ≡ Refused (Order (record { 0 = e }))) → FirstUnordered c e
-      go (inl (x, (q, w))) = subst (FirstUnordered c) (sym (ap placeOf q)) w
-      go (inr z) = absurd (omega (arith, never-order (Order (record { 0 = e })) z))
-
-  pub ordered-refused-else : (r : Refusal) → numberOf r ≢ 24 → orderedAcceptance c ≡ Refused r → acceptance c ≡ Refused r
-  ordered-refused-else r n p = go (ordered-refused r p)
-    where
-      go : ((x : ℕ) × ((r ≡ Order (record { 0 = x })) × FirstUnordered c x)) ⊎ (acceptance c ≡ Refused r) → acceptance c ≡ Refused r
-      go (inl (x, (q, w))) = absurd (n (ap numberOf q))
-      go (inr z) = z

@@ -6,17 +6,16 @@ use lib.Dec.{eqb}
 use lib.ListN.{length}
 use borrow.Author.Tests.{eqb-true}
 use Rattle.weights.specs.declared.Measure.{Measure}
-use Rattle.weights.specs.Measures.{algebra}
 use Rattle.weights.proofs.Laws.{lawful}
 use Rattle.refusal.specs.declared.Refusal.{Refusal}
 use Rattle.refusal.specs.declared.Refusal.the-variants.{AnswerLength}
 use Rattle.refusal.specs.declared.Acceptance.{Acceptance}
 use Rattle.refusal.specs.declared.Acceptance.the-variants.{Accepted, Refused}
 use Rattle.columns.specs.Columns.{Answers, Sized, Entries, Columns, ownAt}
-use Rattle.columns.specs.Acceptance.{test, andThen, acceptance, lentAcceptance}
+use Rattle.columns.specs.Acceptance.{test, lentAcceptance}
 use Rattle.columns.proofs.Accepted.{refused, test-passed, both-accepted, AcceptedColumns}
 use Rattle.columns.proofs.Usable.{same-table}
-use Rattle.provenance.specs.BestFirst.{labels, best-first}
+use Rattle.provenance.specs.BestFirst.{labels}
 use Rattle.provenance.proofs.InOrder.{in-order-best-first}
 use Rattle.tables.specs.Table.{hypergraph}
 use Rattle.tables.proofs.Formed.{well-formed}
@@ -39,7 +38,7 @@ module _ (c : Columns) (a : Entries) where
       (test (eqb (length (a .pieces)) (c .vertices)) AnswerLength
       Accepted)))
 
-  lent-same : orderedAcceptance c ≡ Accepted → orderedLentAcceptance c a ≡ lentAcceptance c a
+  pub lent-same : orderedAcceptance c ≡ Accepted → orderedLentAcceptance c a ≡ lentAcceptance c a
   unfolding orderedLentAcceptance lentAcceptance
   lent-same p = rw (p, ordered-accepted c .0 p .0)
 
@@ -64,7 +63,7 @@ module _ (m : Measure) (c : Columns) where
   unfolding answersOf
   same-answers p = in-order-best-first (lawful m) (ownAt c) (well-formed c (ordered-accepted c .0 p .0)) (table-in-order c p)
 
-  same-entries : orderedAcceptance c ≡ Accepted → walkedEntries m c ≡ entriesOf m c
+  pub same-entries : orderedAcceptance c ≡ Accepted → walkedEntries m c ≡ entriesOf m c
   unfolding entriesOf
   same-entries p = let e = same-answers p in λ i. record { labels = e i; pieces = pieceColumn (hypergraph c) (labels (e i)) (c .vertices) }
 
@@ -81,15 +80,6 @@ module _ (m : Measure) (c : Columns) where
     pub same-columns : orderedAcceptance c ≡ Accepted → settledInOrder m c a ≡ settled m c a
     unfolding settledInOrder settled
     same-columns p = rw (lent-same c a p, same-entries p)
-
-    -- a refusal leaves the columns as they were
-    pub ordered-keeps : (r : Refusal) → settledInOrder m c a .result ≡ Refused r → settledInOrder m c a .left ≡ a
-    unfolding settledInOrder
-    ordered-keeps r p = kept (orderedLentAcceptance c a) p
-      where
-        kept : (x : Acceptance) → outcome x (walkedEntries m c) a .result ≡ Refused r → outcome x (walkedEntries m c) a .left ≡ a
-        kept Accepted q = absurd (refused (sym q))
-        kept (Refused s) q = refl
 
     result-accepted : settledInOrder m c a .result ≡ Accepted → orderedLentAcceptance c a ≡ Accepted
     unfolding settledInOrder

@@ -25,7 +25,6 @@ use Rattle.provenance.specs.InOrder.{first, walk, in-order}
 use Rattle.provenance.proofs.Existence.{zeros, greatest-at-most, sized-put}
 use Rattle.provenance.proofs.InOrder.{First, first-is}
 use Rattle.tables.specs.Table.{hypergraph}
-use Rattle.tables.proofs.Formed.{well-formed}
 use Rattle.topological.specs.Walking.{end, Linked, Linkable, Visitable, Storable, putAt, Walkable}
 
 module _ (m : Measure) (c : Columns) where

@@ -9,7 +9,7 @@ use Rattle.weights.specs.declared.Offer.{Offer}
 use Rattle.weights.specs.declared.Offer.the-variants.{Nothing, Found}
 use Rattle.weights.specs.Measures.{algebra}
 use Rattle.refusal.specs.declared.Acceptance.the-variants.{Accepted}
-use Rattle.columns.specs.Columns.{Answers, Columns, Sized, cell}
+use Rattle.columns.specs.Columns.{Answers, Columns, cell}
 use Rattle.columns.specs.Acceptance.{mostVertices, mostEdges, acceptance}
 use Rattle.columns.specs.Lent.{Usable}
 use Rattle.provenance.specs.BestFirst.{put, blank}

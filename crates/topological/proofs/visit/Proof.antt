@@ -1,7 +1,7 @@
 -- `topological::visit` meets its contract. The invariant, for each vertex whose list starts where this one does: of the lines before l, `best` is the first of what
 -- they offer it. Assumes nothing.
 use mathlib.Core.Path.{_≡_, refl, sym, _∙_, ap, subst}
-use Prim.Native.Nat.{ℕ, _+_, _≤_, _<_, _-_}
+use Prim.Native.Nat.{ℕ, _≤_, _<_, _-_}
 use native.Mathlib.Omega.{arith}
 use borrow.Author.Needs.{needs}
 use lib.ListN.{length}

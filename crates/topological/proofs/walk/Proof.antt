@@ -1,9 +1,9 @@
 -- `topological::walk` meets its contract. The invariant: the columns are those of the walk up to vertex i. Assumes nothing.
-use mathlib.Core.Path.{_≡_, refl, sym, _∙_, ap}
-use Prim.Native.Nat.{ℕ, _≤_, _<_, _-_}
+use mathlib.Core.Path.{_≡_, sym, _∙_}
+use Prim.Native.Nat.{_≤_, _<_, _-_}
 use native.Mathlib.Omega.{arith}
 use lib.ListN.{length}
-use Rattle.columns.specs.Columns.{Answers, Columns, Sized, columns, answers}
+use Rattle.columns.specs.Columns.{Columns, Sized, columns, answers}
 use Rattle.columns.proofs.Accepted.{table-accepted}
 use Rattle.topological.proofs.Whole.{walkOf, walk-begin, walk-sized, visitable, storable, walk-more, walk-all}
 use Rattle.topological.proofs.walk.Statement.{statement}
