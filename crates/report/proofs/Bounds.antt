@@ -1,6 +1,6 @@
 -- How long the pieces of an output can be: a number by its digits, a row by the range of a table's answers, the line of a refusal by the range of its place.
 -- Assumes nothing.
-use Prim.Native.Nat.{ℕ, zero, suc, _+_, _*_, _/_, _≤_, _<_}
+use Prim.Native.Nat.{ℕ, zero, suc, _+_, _*_, _/_, _^_, _≤_, _<_}
 use mathlib.Core.Path.{_≡_, refl, sym, _∙_, subst}
 use mathlib.Core.List.{List, [], _∷_, _++_}
 use mathlib.Core.Bool.{Bool, true, false}
@@ -44,7 +44,7 @@ use Rattle.text.proofs.Bytes.{survived-inside}
 use Rattle.reading.specs.Lines.{Opening, Opens, Unopened, firstLine, Row, Holds, Fails, rowAt, onRow, scanFrom, onFirst, scan}
 use Rattle.reading.proofs.Scanned.{scan-is-parse}
 use Rattle.writing.proofs.Widths.{width-one, width-more}
-use Rattle.report.specs.Report.{mostOutput, names, stateWord, row, rows, list, refusedWord, refusedWith, refusedLine}
+use Rattle.report.specs.Report.{mostOutput, mostRefusal, names, stateWord, row, rows, list, refusedWord, refusedWith, refusedLine}
 
 -- Numbers ----------------------------------------------------------------------------------------------------------------------------------------
 
@@ -77,6 +77,10 @@ width-5 v h = width-below 4 v h
 width-10 : (v : ℕ) → v < 10_000_000_000 → length (digits v) ≤ 10
 unfolding tens
 width-10 v h = width-below 9 v h
+
+pub width-20 : (v : ℕ) → v < 2 ^ 64 → length (digits v) ≤ 20
+unfolding tens
+width-20 v h = width-below 19 v (omega arith)
 
 width-13 : (v : ℕ) → v < 10_000_000_000_000 → length (digits v) ≤ 13
 unfolding tens
@@ -194,6 +198,22 @@ tail-one v vs = let l = length-append (32 ∷ digits v) (tailText vs) in omega a
 with-length : (ns : List ℕ) → length (refusedWith ns) ≡ 8 + length (tailText ns)
 unfolding refusedWith refusedWord
 with-length ns = let p = length-append refusedWord (tailText ns ++ 10 ∷ []) in let q = length-append (tailText ns) (10 ∷ []) in omega arith
+
+-- of numbers of 64 bits
+pub refused-with-two : (a b : ℕ) → a < 2 ^ 64 → b < 2 ^ 64 → length (refusedWith (a ∷ b ∷ [])) ≤ mostRefusal
+unfolding tailText
+refused-with-two a b h g =
+    let m = width-20 a h in
+    let n = width-20 b g in
+    let w = with-length (a ∷ b ∷ []) in let x = tail-one a (b ∷ []) in let y = tail-one b [] in omega arith
+
+pub refused-with-three : (a b c : ℕ) → a < 2 ^ 64 → b < 2 ^ 64 → c < 2 ^ 64 → length (refusedWith (a ∷ b ∷ c ∷ [])) ≤ mostRefusal
+unfolding tailText
+refused-with-three a b c h g f =
+    let m = width-20 a h in
+    let n = width-20 b g in
+    let o = width-20 c f in
+    let w = with-length (a ∷ b ∷ c ∷ []) in let x = tail-one a (b ∷ c ∷ []) in let y = tail-one b (c ∷ []) in let z = tail-one c [] in omega arith
 
 pub refused-most : (r : Refusal) → placeOf r < 10_000 → columnOf r < 100_000 → length (refusedLine r) ≤ mostOutput
 unfolding refusedLine tailText

@@ -188,4 +188,4 @@ input-lent input g room short large e =
     ap (λ (z : Reading). listedAs z (readInput input)) e in
     let z = ap length (report-short input short ∙ y) in
     let w = report-fits input in
-    record { few = omega arith; heads = omega arith; own = omega arith; strikes = omega arith; spans = omega arith; tails = omega arith; fits = omega arith }
+    record { few = omega arith; heads = omega arith; own = omega arith; strikes = omega arith; spans = omega arith; tails = omega arith; large = omega arith; fits = omega arith }

@@ -30,6 +30,10 @@ mostInput = 65535
 abbrev pub mostOutput : ℕ
 mostOutput = 46116
 
+-- a bound on the line of a refusal: its word, and three numbers of 20 digits
+abbrev pub mostRefusal : ℕ
+mostRefusal = 71
+
 -- The list -------------------------------------------------------------------------------------------------------------------------------------
 
 -- `part state figure depth line pieces`

@@ -21,7 +21,7 @@ ghost use Rattle.settle.specs.Settling.{settled};
 ghost use Rattle.text.specs.Render.{digits};
 ghost use Rattle.columns.specs.Filled.{filled};
 ghost use Rattle.writing.specs.Written.{Written};
-ghost use Rattle.report.specs.Report.{stateWord, row, rows, list, refusedWith, refusedLine, priced, blankEntries, report};
+ghost use Rattle.report.specs.Report.{mostRefusal, stateWord, row, rows, list, refusedWith, refusedLine, priced, blankEntries, report};
 ghost use Rattle.report.specs.Pieces.{Lent, lentColumns};
 
 // The most bytes of an input.
@@ -32,7 +32,7 @@ pub const MOST_INPUT: usize = 65535;
 pub const MOST_OUTPUT: usize = 46116;
 
 // A state's word behind a space.
-fn put_state(room: &mut [u8], state: State) -> usize
+pub fn put_state(room: &mut [u8], state: State) -> usize
     requires { ⌜ length (32 ∷ stateWord state) ≤ length (now room) ⌝ }
     ensures { λ r. ⌜ Written (32 ∷ stateWord state) (now (room .entry)) r (now (room .exit)) ⌝ }
 {
@@ -44,7 +44,7 @@ fn put_state(room: &mut [u8], state: State) -> usize
 }
 
 // A part and its state.
-fn put_stem(room: &mut [u8], v: Vertex, state: State) -> usize
+pub fn put_stem(room: &mut [u8], v: Vertex, state: State) -> usize
     requires { ⌜ length (digits (v .0) ++ (32 ∷ stateWord state)) ≤ length (now room) ⌝ }
     ensures { λ r. ⌜ Written (digits (v .0) ++ (32 ∷ stateWord state)) (now (room .entry)) r (now (room .exit)) ⌝ }
 {
@@ -120,8 +120,8 @@ fn put_numbers(room: &mut [u8], numbers: &[u64]) -> usize
 }
 
 // The line of a refusal: the place of 14 is line and column, that of any other one number.
-fn put_refused(room: &mut [u8], refusal: Refusal) -> usize
-    requires { ⌜ length (refusedLine refusal) ≤ length (now room) ⌝ }
+pub fn put_refused(room: &mut [u8], refusal: Refusal) -> usize
+    requires { ⌜ mostRefusal ≤ length (now room) ⌝ }
     ensures { λ r. ⌜ Written (refusedLine refusal) (now (room .entry)) r (now (room .exit)) ⌝ }
 {
     let number = refusal.number();
@@ -153,6 +153,7 @@ fn put_priced(
     requires { let c = columns n (now heads) (now own) (now strikes) (now spans) (now tails) in
         let a = entries (now weights) (now depths) (now edges) (now pieces) in
         ⌜ length (priced n (settled measure c a)) ≤ length (now room) ⌝ }
+    requires { ⌜ mostRefusal ≤ length (now room) ⌝ }
     ensures { λ r.
         let c = columns n (now (heads .entry)) (now (own .entry)) (now (strikes .entry)) (now (spans .entry)) (now (tails .entry)) in
         let a = entries (now (weights .entry)) (now (depths .entry)) (now (edges .entry)) (now (pieces .entry)) in

@@ -33,12 +33,7 @@ accepted : (c : tie.After-enum-told)
 accepted c = priced-accepted _ _ _ _ _ (c .before .before .before .before .before .before .before .before .before .before .settle .ensures) (c .enum-told .given .1)
 
 put-refused-requires : tie.Need-put-refused-requires
-put-refused-requires c κs = let a = c .before .before in
-    subst
-    (λ (z : List ℕ). length z ≤ length
-    (a .before .before .before .before .before .before .before .before .before .before .before .before .before .before .before .before .before .before .before .before .before .before .before .before .before .args .room .now))
-    (refused a)
-    (a .before .before .before .before .before .before .before .before .before .before .before .before .before .before .before .before .before .before .before .before .before .before .before .before .before .pre)
+put-refused-requires c κs = c .before .before .before .before .before .before .before .before .before .before .before .before .before .before .before .before .before .before .before .before .before .before .before .before .before .before .before .pre .1
 
 returns : tie.Need-returns
 returns c = let p = c .before .before in written-as _ _ _ (sym (refused (p .before .before .before))) (p .put-refused .ensures)
@@ -52,7 +47,7 @@ put-list-requires c κs = let a = c .before .before .before .before .before in
     (λ (z : List ℕ). length z ≤ length
     (a .before .before .before .before .before .before .before .before .before .before .before .before .before .before .before .before .before .before .before .before .before .before .before .before .before .args .room .now))
     (accepted a)
-    (a .before .before .before .before .before .before .before .before .before .before .before .before .before .before .before .before .before .before .before .before .before .before .before .before .before .pre)
+    (a .before .before .before .before .before .before .before .before .before .before .before .before .before .before .before .before .before .before .before .before .before .before .before .before .before .pre .0)
 
 returns-2 : tie.Need-returns-2
 returns-2 c = let p = c .before .before in written-as _ _ _ (sym (accepted (p .before .before .before .before .before .before))) (p .put-list .ensures)

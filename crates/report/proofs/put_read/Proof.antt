@@ -46,13 +46,15 @@ slice-aggregate-put-priced-9 c = let s = c .before .before .before .before .befo
     zeros-long (s .args .header .vertices) (s .pre .few)
 
 put-priced-requires : tie.Need-put-priced-requires
-put-priced-requires c κs = let s = c .before .before .before .before .before .before .before .before .before .before .before .before .before .before .before .before in
-    subst (λ (z : List ℕ). length z ≤ length (s .args .room .now))
-    (sym
-    (priced-blank (s .args .header .measure)
-    (lentColumns (s .args .header) (s .args .heads .now) (s .args .own .now) (s .args .strikes .now) (s .args .spans .now) (s .args .tails .now))
-    (s .args .header .vertices) (s .pre .few)))
-    (s .pre .fits)
+put-priced-requires c κs = let s = c .before .before .before .before .before .before .before .before .before .before .before .before .before .before .before .before in (
+  subst (λ (z : List ℕ). length z ≤ length (s .args .room .now))
+      (sym
+      (priced-blank (s .args .header .measure)
+      (lentColumns (s .args .header) (s .args .heads .now) (s .args .own .now) (s .args .strikes .now) (s .args .spans .now) (s .args .tails .now))
+      (s .args .header .vertices) (s .pre .few)))
+      (s .pre .fits),
+  s .pre .large,
+)
 
 returns : tie.Need-returns
 returns c = let p = c .before .before .before .before .before .before in

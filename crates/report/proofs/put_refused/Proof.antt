@@ -2,10 +2,12 @@
 use mathlib.Core.Path.{_≡_, sym, subst}
 use mathlib.Core.List.{List, [], _∷_}
 use Prim.Native.Nat.{ℕ, _≤_}
+use native.Mathlib.Omega.{arith}
 use borrow.Author.Needs.{needs}
 use lib.ListN.{length}
 use Rattle.writing.proofs.Written.{written-as}
 use Rattle.report.specs.Report.{refusedWith, refusedLine}
+use Rattle.report.proofs.Bounds.{refused-with-two, refused-with-three}
 use Rattle.report.proofs.Pieces.{refused-two, refused-three}
 use Rattle.report.proofs.put_refused.Statement.{statement}
 use Rattle.report.proofs.put_refused.Tie as tie
@@ -33,7 +35,8 @@ put-numbers-requires : tie.Need-put-numbers-requires
 put-numbers-requires c κs =
     let t = c .before .before in
     let s = t .before .before .before .before .before in
-    subst (λ (z : List ℕ). length z ≤ length (s .args .room .now)) (two t) (s .pre)
+    let w = refused-with-two _ _ (t .before .before .before .number .ok) (t .before .before .place .ok) in
+    omega (arith, w, s .pre)
 
 returns : tie.Need-returns
 returns c = written-as _ _ _ (sym (two (c .before .before .before .before .before))) (c .before .before .put-numbers .ensures)
@@ -45,7 +48,8 @@ put-numbers-requires-2 : tie.Need-put-numbers-requires-2
 put-numbers-requires-2 c κs =
     let t = c .before .before in
     let s = t .before .before .before .before .before in
-    subst (λ (z : List ℕ). length z ≤ length (s .args .room .now)) (three t) (s .pre)
+    let w = refused-with-three _ _ _ (t .before .before .before .number .ok) (t .before .before .place .ok) (t .before .column .ok) in
+    omega (arith, w, s .pre)
 
 returns-2 : tie.Need-returns-2
 returns-2 c = written-as _ _ _ (sym (three (c .before .before .before .before .before))) (c .before .before .put-numbers2 .ensures)

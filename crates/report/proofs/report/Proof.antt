@@ -39,13 +39,13 @@ whole c =
     (c .before .before .before .before .before .before .before .read-table .ensures) _ (c .reading2 .given .1)
 
 put-refused-requires : tie.Need-put-refused-requires
-put-refused-requires c κs = let k = c .before in report-within _ _ _ (c .put-refused-arg .given .0 .1) (long k)
+put-refused-requires c κs = let l = c .put-refused-arg .given .0 .1 in omega arith
 
 returns : tie.Need-returns
 returns c = reported _ _ _ _ _ (long (c .before .before)) (c .put-refused .ensures)
 
 put-refused-requires-2 : tie.Need-put-refused-requires-2
-put-refused-requires-2 c κs = let k = c .before .before in report-within _ _ _ (c .put-refused-arg2 .given .0 .1) (wrong k)
+put-refused-requires-2 c κs = let l = c .put-refused-arg2 .given .0 .1 in omega arith
 
 returns-2 : tie.Need-returns-2
 returns-2 c = reported _ _ _ _ _ (wrong (c .before .before .before)) (c .put-refused2 .ensures)
