@@ -61,7 +61,7 @@ fn refused_at(line: TextLine, start: usize, place: usize) -> Refusal
 }
 
 // With how many bytes of a word a text starts.
-fn agree(text: &[u8], word: &[u8]) -> usize
+pub fn agree(text: &[u8], word: &[u8]) -> usize
     ensures { λ r. ⌜ r ≡ agreeing (now (word .entry)) (now (text .entry)) ⌝ }
 {
     let mut i = 0;

@@ -1,0 +1,29 @@
+-- `command::as_command` meets its contract, name by name. Assumes nothing.
+use borrow.Author.Needs.{needs}
+use Rattle.command.proofs.as_command.Statement.{statement}
+use Rattle.command.proofs.as_command.Tie as tie
+
+pub as-command-spec : {M : Type 1} → statement M
+as-command-spec =
+    tie.close
+    (tie.spec
+    (λ c. search needs)
+    (λ c. search needs)
+    (λ c. search needs)
+    (λ c. search needs)
+    (λ c. search needs)
+    (λ c. search needs)
+    (λ c. search needs)
+    (λ c. search needs)
+    (λ c. search needs)
+    (λ c. search needs)
+    (λ c. search needs)
+    (λ c. rw (c .enum-told2 .given .1))
+    (λ c. rw (c .enum-told3 .given .1))
+    (λ c. rw (c .enum-told4 .given .1))
+    (λ c. rw (c .enum-told5 .given .1))
+    (λ c. rw (c .enum-told6 .given .1))
+    (λ c. rw (c .enum-told7 .given .1))
+    (λ c. search needs)
+    (λ c. search needs)
+    (λ c. search needs))

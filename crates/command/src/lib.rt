@@ -1,0 +1,255 @@
+// A desk's command, read from a line of words: its name and its numbers, single spaces between them
+// and an LF behind the last.
+use cursor::Found;
+use cursor::Separator;
+use cursor::number_at;
+use cursor::separator_at;
+use reading::agree;
+use weights::Hyperedge;
+use weights::Vertex;
+use weights::Weight;
+ghost use mathlib.Core.Path.{_≡_};
+ghost use lib.ListN.{length};
+ghost use Rattle.command.specs.Command.{mostNumbers, nameIn, foundNumber, nextAt, numbersFrom, takes, asCommand, lineWith, commandIn};
+
+// The most numbers of a command: a head, a figure and sixteen listed vertices.
+pub const MOST_NUMBERS: usize = 18;
+
+// One more than the greatest number that an argument can be: eighteen digits.
+const LIMIT: u64 = 1000000000000000000;
+
+pub enum Name {
+    Price,
+    Bill,
+    Uses,
+    Reprice,
+    Strike,
+    Restore,
+    Append,
+    Check,
+    CheckOrder,
+    Unknown,
+}
+
+// A name, and the place behind it.
+pub struct Named {
+    pub name: Name,
+    pub stop: usize,
+}
+
+// What stands behind a name or a number: one more number and the place behind it, the line's end,
+// or something else.
+pub enum Next {
+    Number(u64, usize),
+    End,
+    Neither,
+}
+
+// How many numbers a line has, or that it has something else.
+pub enum Numbers {
+    Count(usize),
+    Wrong,
+}
+
+// A command. The vertices that an appended line lists are its numbers from the third on.
+pub enum Command {
+    Price,
+    Bill(Vertex),
+    Uses(Vertex),
+    Reprice(Hyperedge, Weight),
+    Strike(Hyperedge),
+    Restore(Hyperedge),
+    Append(Vertex, Weight),
+    Check,
+    CheckOrder,
+    Misuse,
+}
+
+// A command, and how many numbers it has.
+pub struct Line {
+    pub command: Command,
+    pub count: usize,
+}
+
+fn name_of(words: &[u8]) -> Named
+    ensures { λ r. ⌜ r ≡ nameIn (now (words .entry)) ⌝ }
+{
+    if agree(words, b"price") == 5 {
+        return Named {
+            name: Name::Price,
+            stop: 5,
+        };
+    }
+    if agree(words, b"bill") == 4 {
+        return Named {
+            name: Name::Bill,
+            stop: 4,
+        };
+    }
+    if agree(words, b"uses") == 4 {
+        return Named {
+            name: Name::Uses,
+            stop: 4,
+        };
+    }
+    if agree(words, b"reprice") == 7 {
+        return Named {
+            name: Name::Reprice,
+            stop: 7,
+        };
+    }
+    if agree(words, b"strike") == 6 {
+        return Named {
+            name: Name::Strike,
+            stop: 6,
+        };
+    }
+    if agree(words, b"restore") == 7 {
+        return Named {
+            name: Name::Restore,
+            stop: 7,
+        };
+    }
+    if agree(words, b"append") == 6 {
+        return Named {
+            name: Name::Append,
+            stop: 6,
+        };
+    }
+    if agree(words, b"check-order") == 11 {
+        return Named {
+            name: Name::CheckOrder,
+            stop: 11,
+        };
+    }
+    if agree(words, b"check") == 5 {
+        return Named {
+            name: Name::Check,
+            stop: 5,
+        };
+    }
+    Named {
+        name: Name::Unknown,
+        stop: 0,
+    }
+}
+
+// The number at a place.
+fn found_at(words: &[u8], at: usize) -> Next
+    ensures { λ r. ⌜ r ≡ foundNumber (now (words .entry)) at ⌝ }
+{
+    let token = number_at(words, at, LIMIT);
+    let stop = token.stop;
+    let found = token.found;
+    let Found::Number(v) = found else {
+        return Next::Neither;
+    };
+    Next::Number(v, stop)
+}
+
+fn next_at(words: &[u8], at: usize) -> Next
+    ensures { λ r. ⌜ r ≡ nextAt (now (words .entry)) at ⌝ }
+{
+    let separator = separator_at(words, at);
+    match separator {
+        Separator::Space(next) => found_at(words, next),
+        Separator::LineEnd(next) => {
+            if next >= words.len() {
+                return Next::End;
+            }
+            Next::Neither
+        }
+        Separator::Neither => Next::Neither,
+    }
+}
+
+// The numbers from a place on, put into a column.
+fn numbers_from(words: &[u8], from: usize, column: &mut [u64]) -> Numbers
+    ensures { λ r. ⌜ record { numbers = r; column = now (column .exit) } ≡ numbersFrom (length (now (column .entry))) (now (words .entry)) from 0 (now (column .entry)) ⌝ }
+{
+    let mut at = from;
+    let mut i: usize = 0;
+    while i < column.len() {
+        let next = next_at(words, at);
+        match next {
+            Next::End => return Numbers::Count(i),
+            Next::Neither => return Numbers::Wrong,
+            Next::Number(v, stop) => {
+                column[i] = v;
+                at = stop;
+            }
+        }
+        i += 1;
+    }
+    let next = next_at(words, at);
+    match next {
+        Next::End => Numbers::Count(i),
+        Next::Neither => Numbers::Wrong,
+        Next::Number(_, _) => Numbers::Wrong,
+    }
+}
+
+fn takes(name: Name, count: usize) -> bool
+    ensures { λ r. ⌜ r ≡ takes name count ⌝ }
+{
+    match name {
+        Name::Price => count == 0,
+        Name::Bill => count == 1,
+        Name::Uses => count == 1,
+        Name::Reprice => count == 2,
+        Name::Strike => count == 1,
+        Name::Restore => count == 1,
+        Name::Append => count >= 2,
+        Name::Check => count == 0,
+        Name::CheckOrder => count == 0,
+        Name::Unknown => false,
+    }
+}
+
+fn as_command(name: Name, a: u64, b: u64) -> Command
+    ensures { λ r. ⌜ r ≡ asCommand name a b ⌝ }
+{
+    match name {
+        Name::Price => Command::Price,
+        Name::Bill => Command::Bill(Vertex(a)),
+        Name::Uses => Command::Uses(Vertex(a)),
+        Name::Reprice => Command::Reprice(Hyperedge(a), Weight(b)),
+        Name::Strike => Command::Strike(Hyperedge(a)),
+        Name::Restore => Command::Restore(Hyperedge(a)),
+        Name::Append => Command::Append(Vertex(a), Weight(b)),
+        Name::Check => Command::Check,
+        Name::CheckOrder => Command::CheckOrder,
+        Name::Unknown => Command::Misuse,
+    }
+}
+
+// A name with so many numbers.
+fn line_with(name: Name, count: usize, numbers: &[u64; MOST_NUMBERS]) -> Line
+    ensures { λ r. ⌜ r ≡ lineWith name count (now (numbers .entry)) ⌝ }
+{
+    if !takes(name, count) {
+        return Line {
+            command: Command::Misuse,
+            count: 0,
+        };
+    }
+    let command = as_command(name, numbers[0], numbers[1]);
+    Line { command, count }
+}
+
+// The command of a line; its numbers are put into the column.
+pub fn read_command(words: &[u8], numbers: &mut [u64; MOST_NUMBERS]) -> Line
+    ensures { λ r. ⌜ record { line = r; numbers = now (numbers .exit) } ≡ commandIn (now (words .entry)) (now (numbers .entry)) ⌝ }
+{
+    let named = name_of(words);
+    let name = named.name;
+    let stop = named.stop;
+    let found = numbers_from(words, stop, numbers);
+    match found {
+        Numbers::Wrong => Line {
+            command: Command::Misuse,
+            count: 0,
+        },
+        Numbers::Count(k) => line_with(name, k, numbers),
+    }
+}
