@@ -3,7 +3,7 @@
 
 yard=$work/yard
 mkdir -p "$yard/crates/listing/src" "$yard/target/bin" "$yard/bin"
-cp price "$yard/"
+cp price front.sh "$yard/"
 cp -r docs "$yard/"
 touch "$yard/crates.txt" "$yard/crates/listing/src/main.rt"
 cat >"$yard/bin/rt" <<'END'

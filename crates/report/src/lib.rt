@@ -92,7 +92,7 @@ fn put_rows(
 }
 
 // The lines of all parts under the line of names.
-fn put_list(
+pub fn put_list(
     room: &mut [u8],
     weights: &[u64],
     depths: &[u64],
