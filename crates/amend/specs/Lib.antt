@@ -1,0 +1,2 @@
+pub mod Amend
+pub mod Printed
