@@ -4,7 +4,7 @@
 
 #include "../calls.h"
 
-uint64_t harness_settle_ordered(uint64_t measure, uint64_t n, TABLE_COLUMNS, WRITTEN_COLUMNS);
+uint64_t tozbierdu_settle_ordered(uint64_t measure, uint64_t n, TABLE_COLUMNS, WRITTEN_COLUMNS);
 uint64_t plain_settle_ordered(uint64_t measure, uint64_t n, TABLE_COLUMNS, WRITTEN_COLUMNS);
 
 #endif

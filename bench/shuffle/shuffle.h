@@ -5,8 +5,8 @@
 #include <stddef.h>
 #include <stdint.h>
 
-uint64_t harness_shuffle(const uint64_t *own, size_t figures, uint8_t *room, size_t places);
-uint64_t harness_unshuffle(const uint8_t *bytes, size_t places, uint64_t *own, size_t figures);
+uint64_t tozbierdu_shuffle(const uint64_t *own, size_t figures, uint8_t *room, size_t places);
+uint64_t tozbierdu_unshuffle(const uint8_t *bytes, size_t places, uint64_t *own, size_t figures);
 uint64_t plain_shuffle(const uint64_t *own, size_t figures, uint8_t *room, size_t places);
 uint64_t plain_unshuffle(const uint8_t *bytes, size_t places, uint64_t *own, size_t figures);
 

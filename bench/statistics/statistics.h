@@ -5,7 +5,7 @@
 #include <stddef.h>
 #include <stdint.h>
 
-uint64_t harness_summarize(const uint64_t *results, size_t count, uint64_t *room, size_t places);
+uint64_t tozbierdu_summarize(const uint64_t *results, size_t count, uint64_t *room, size_t places);
 uint64_t plain_summarize(const uint64_t *results, size_t count, uint64_t *room, size_t places);
 
 #endif
