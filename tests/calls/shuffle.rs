@@ -6,7 +6,12 @@ use std::ptr::{null, null_mut};
 extern "C" {
     fn tozbierdu_shuffle(own: *const u64, own_len: usize, room: *mut u8, room_len: usize) -> u64;
 
-    fn tozbierdu_unshuffle(bytes: *const u8, bytes_len: usize, own: *mut u64, own_len: usize) -> u64;
+    fn tozbierdu_unshuffle(
+        bytes: *const u8,
+        bytes_len: usize,
+        own: *mut u64,
+        own_len: usize,
+    ) -> u64;
 }
 
 /// The result, and the room as the call leaves it.
