@@ -10,15 +10,6 @@
 
 #include "growth.h"
 
-uint64_t tozbierdu_index_table(uint64_t n, TABLE_COLUMNS, uint64_t *index, size_t index_count, uint64_t *list,
-                             size_t list_count);
-uint64_t tozbierdu_append(uint64_t measure, uint64_t n, uint64_t *heads, size_t heads_count, uint64_t *own,
-                        size_t own_count, uint64_t *strikes, size_t strikes_count, uint64_t *spans,
-                        size_t spans_count, uint64_t *tails, size_t tails_count, uint64_t in_use,
-                        uint64_t listed, WRITTEN_COLUMNS, uint64_t *index, size_t index_count, uint64_t *list,
-                        size_t list_count, uint64_t head, uint64_t figure, uint64_t mark,
-                        const uint64_t *needed, size_t needed_count, uint64_t *counts, size_t counts_count);
-
 enum { SAMPLES = 61 };
 
 static uint64_t index_by(int maker, struct growth *g)

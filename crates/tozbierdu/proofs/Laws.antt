@@ -1,4 +1,4 @@
--- The laws by which the exports go: by the measure's number, and of a room of three places. Assumes nothing.
+-- The laws by which the exports go: by the measure's number, and of a room of two or four places. Assumes nothing.
 use mathlib.Core.Path.{_≡_, refl, sym, _∙_, ap}
 use mathlib.Core.List.{List, [], _∷_}
 use Prim.Native.Nat.{ℕ}

@@ -1,4 +1,5 @@
--- The outcomes of the calls that the tests have beside those of `counter`: one number, and the columns as they are left. Assumes nothing: these are definitions.
+-- The calls of the archive `libtozbierdu.a` as a program in C gets them: one number, and the lent columns as they are left. Those of settle, reprice and bill are counter's. The
+-- paper's "The calls". Assumes nothing: these are definitions.
 use Prim.Native.Nat.{ℕ}
 use mathlib.Core.List.{List, [], _∷_}
 use lib.ListN.{length}
