@@ -12,11 +12,9 @@
 #include "calls.h"
 #include "tables.h"
 
-uint64_t harness_check_answers(uint64_t measure, uint64_t n, TABLE_COLUMNS, ANSWER_COLUMNS);
-
 enum { ROOM = 4096, SAMPLES = 101, CALLS = 4, MAKERS = 3 };
 
-static const struct maker library = { settle, harness_check_answers, reprice, bill };
+static const struct maker library = { settle, tozbierdu_check_answers, reprice, bill };
 static const struct maker *const makers[MAKERS] = { &library, &plain, &strongest };
 
 /* A table with its answers, a part whose bill fits the room, a line that is used, and its figure. */

@@ -13,11 +13,9 @@
 #include "../calls.h"
 #include "../tables.h"
 
-uint64_t harness_check_answers(uint64_t measure, uint64_t n, TABLE_COLUMNS, ANSWER_COLUMNS);
-
 enum { SAMPLES = 151, CALLS = 4, MAKERS = 2 };
 
-static const struct maker library = { settle, harness_check_answers, reprice, bill };
+static const struct maker library = { settle, tozbierdu_check_answers, reprice, bill };
 static const struct maker *const makers[MAKERS] = { &library, &plain };
 
 /* A table with its answers, and its first bought part, with the line and its figure. */

@@ -10,20 +10,11 @@
 
 #include "growth.h"
 
-uint64_t harness_index_table(uint64_t n, TABLE_COLUMNS, uint64_t *index, size_t index_count, uint64_t *list,
-                             size_t list_count);
-uint64_t harness_append(uint64_t measure, uint64_t n, uint64_t *heads, size_t heads_count, uint64_t *own,
-                        size_t own_count, uint64_t *strikes, size_t strikes_count, uint64_t *spans,
-                        size_t spans_count, uint64_t *tails, size_t tails_count, uint64_t in_use,
-                        uint64_t listed, WRITTEN_COLUMNS, uint64_t *index, size_t index_count, uint64_t *list,
-                        size_t list_count, uint64_t head, uint64_t figure, uint64_t mark,
-                        const uint64_t *needed, size_t needed_count, uint64_t *counts, size_t counts_count);
-
 enum { SAMPLES = 61 };
 
 static uint64_t index_by(int maker, struct growth *g)
 {
-    return (maker == 0 ? harness_index_table : plain_index_table)(g->n, USED_COLUMNS(g), g->index,
+    return (maker == 0 ? tozbierdu_index_table : plain_index_table)(g->n, USED_COLUMNS(g), g->index,
                                                                   g->index_count, g->list, g->list_count);
 }
 
@@ -33,7 +24,7 @@ static uint64_t append_by(int maker, struct growth *g)
 
     if (maker != 0)
         return plain_append(g);
-    result = harness_append(g->measure, g->n, g->heads, TOZBIERDU_MOST_LINES, g->own, TOZBIERDU_MOST_LINES,
+    result = tozbierdu_append(g->measure, g->n, g->heads, TOZBIERDU_MOST_LINES, g->own, TOZBIERDU_MOST_LINES,
                             g->strikes, TOZBIERDU_MOST_LINES, g->spans, 2 * TOZBIERDU_MOST_LINES, g->tails,
                             TOZBIERDU_MOST_TAILS, g->lines, g->listed, ANSWERS_OF(g), g->index, g->index_count,
                             g->list, g->list_count, g->head, g->figure, g->mark, g->needed, g->needed_count,

@@ -1,5 +1,5 @@
 /*
- * harness_replay beside plain C on 4,096 events over the largest table: a row has the record's kind and
+ * tozbierdu_replay beside plain C on 4,096 events over the largest table: a row has the record's kind and
  * the microseconds of the library and of plain C, medians of many runs. Results and columns are compared
  * first.
  */
@@ -70,7 +70,7 @@ static int ascending(const void *a, const void *b)
 
 static uint64_t replay_by(int maker, uint64_t *stock, uint64_t *outcomes)
 {
-    return (maker == 0 ? harness_replay : plain_replay)(
+    return (maker == 0 ? tozbierdu_replay : plain_replay)(
         TOZBIERDU_COST, PARTS, heads, LINES, own, LINES, strikes, LINES, spans, 2 * LINES, tails, BASE * PARTS, figures,
         PARTS, depths, PARTS, lines, PARTS, pieces, PARTS, parts, MOST_EVENTS, received, MOST_EVENTS, stock, PARTS, outcomes,
         MOST_EVENTS);

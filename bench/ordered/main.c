@@ -24,7 +24,7 @@ struct job {
 static const char *const names[NAMES] = { "acyclic", "chain", "wide", "in_order", "bought", "shuffled" };
 
 static uint64_t (*const makers[MAKERS])(uint64_t measure, uint64_t n, TABLE_COLUMNS,
-                                        WRITTEN_COLUMNS) = { harness_settle_ordered, settle,
+                                        WRITTEN_COLUMNS) = { tozbierdu_settle_ordered, settle,
                                                              plain_settle_ordered };
 
 static uint64_t call(int maker, struct job *j)

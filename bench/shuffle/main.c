@@ -1,5 +1,5 @@
 /*
- * harness_shuffle and harness_unshuffle beside plain C: a row has the call, the number of figures and
+ * tozbierdu_shuffle and tozbierdu_unshuffle beside plain C: a row has the call, the number of figures and
  * the microseconds of the library and of plain C, medians of many runs. Results are compared first.
  */
 #include <stdio.h>
@@ -70,11 +70,11 @@ static double time_unshuffle(unshuffling *unshuffle, size_t k)
 
 static int agree(size_t k, size_t places)
 {
-    uint64_t result = harness_shuffle(own, k, room, places);
+    uint64_t result = tozbierdu_shuffle(own, k, room, places);
 
     if (result != plain_shuffle(own, k, room_plain, places) || memcmp(room, room_plain, 8 * k) != 0)
         return 0;
-    result = harness_unshuffle(room, places, back, k);
+    result = tozbierdu_unshuffle(room, places, back, k);
     return result == plain_unshuffle(room, places, back_plain, k) &&
            memcmp(back, back_plain, k * sizeof *back) == 0 &&
            (result != 0 || memcmp(back, own, k * sizeof *back) == 0);
@@ -95,8 +95,8 @@ int main(void)
             fprintf(stderr, "%u figures: the library and C disagree\n", (unsigned)k);
             return 1;
         }
-        printf("shuffle/%u %.3f %.3f\n", (unsigned)k, time_shuffle(harness_shuffle, k), time_shuffle(plain_shuffle, k));
-        printf("unshuffle/%u %.3f %.3f\n", (unsigned)k, time_unshuffle(harness_unshuffle, k),
+        printf("shuffle/%u %.3f %.3f\n", (unsigned)k, time_shuffle(tozbierdu_shuffle, k), time_shuffle(plain_shuffle, k));
+        printf("unshuffle/%u %.3f %.3f\n", (unsigned)k, time_unshuffle(tozbierdu_unshuffle, k),
                time_unshuffle(plain_unshuffle, k));
     }
     return 0;

@@ -1,12 +1,9 @@
-/* Shuffling a column's bytes and back: the library's calls by their exports for tests, and the same in plain C. */
+/* Shuffling a column's bytes and back: the library's calls, and the same in plain C. */
 #ifndef SHUFFLE_H
 #define SHUFFLE_H
 
-#include <stddef.h>
-#include <stdint.h>
+#include "tozbierdu.h"
 
-uint64_t harness_shuffle(const uint64_t *own, size_t figures, uint8_t *room, size_t places);
-uint64_t harness_unshuffle(const uint8_t *bytes, size_t places, uint64_t *own, size_t figures);
 uint64_t plain_shuffle(const uint64_t *own, size_t figures, uint8_t *room, size_t places);
 uint64_t plain_unshuffle(const uint8_t *bytes, size_t places, uint64_t *own, size_t figures);
 

@@ -1,5 +1,5 @@
 /*
- * harness_summarize beside plain C on samples of 1,000 results: a row has the sample's kind and the
+ * tozbierdu_summarize beside plain C on samples of 1,000 results: a row has the sample's kind and the
  * microseconds of the library and of plain C, medians of many runs. Results are compared first.
  */
 #include <stdio.h>
@@ -60,7 +60,7 @@ static int agree(const uint64_t *results, size_t count)
 {
     uint64_t a[4] = { 0 }, b[4] = { 0 };
 
-    return harness_summarize(results, count, a, 4) == plain_summarize(results, count, b, 4) &&
+    return tozbierdu_summarize(results, count, a, 4) == plain_summarize(results, count, b, 4) &&
            memcmp(a, b, sizeof a) == 0;
 }
 
@@ -79,7 +79,7 @@ int main(void)
                 fprintf(stderr, "%s, %u results: the library and C disagree\n", kind_names[kind], (unsigned)count);
                 return 1;
             }
-        printf("%s %.3f %.3f\n", kind_names[kind], median(harness_summarize, results),
+        printf("%s %.3f %.3f\n", kind_names[kind], median(tozbierdu_summarize, results),
                median(plain_summarize, results));
     }
     return 0;

@@ -1,11 +1,9 @@
-/* Summarizing a sample: the library's call by its export for tests, and the same in plain C. */
+/* Summarizing a sample: the library's call, and the same in plain C. */
 #ifndef STATISTICS_H
 #define STATISTICS_H
 
-#include <stddef.h>
-#include <stdint.h>
+#include "tozbierdu.h"
 
-uint64_t harness_summarize(const uint64_t *results, size_t count, uint64_t *room, size_t places);
 uint64_t plain_summarize(const uint64_t *results, size_t count, uint64_t *room, size_t places);
 
 #endif

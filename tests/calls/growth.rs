@@ -5,7 +5,7 @@ use crate::model::growth::{Growth, Index};
 use crate::model::Table;
 
 extern "C" {
-    fn harness_index_table(
+    fn tozbierdu_index_table(
         n: u64,
         heads: *const u64,
         heads_len: usize,
@@ -23,7 +23,7 @@ extern "C" {
         list_len: usize,
     ) -> u64;
 
-    fn harness_append(
+    fn tozbierdu_append(
         measure: u64,
         n: u64,
         heads: *mut u64,
@@ -66,7 +66,7 @@ pub fn index_table(table: &Table, index: &Index) -> Result<(u64, Index), String>
     let mut pairs = Column::lend("index", &index.pairs);
     let mut list = Column::lend("list", &index.list);
     let result = unsafe {
-        harness_index_table(
+        tozbierdu_index_table(
             table.n,
             lent.heads.pointer(),
             lent.heads.len(),
@@ -99,7 +99,7 @@ pub fn append(growth: &Growth) -> Result<(u64, Growth), String> {
     let places = [growth.lines, growth.listed];
     let mut counts = Column::lend("counts", &places);
     let result = unsafe {
-        harness_append(
+        tozbierdu_append(
             growth.measure,
             growth.table.n,
             lent.heads.pointer(),

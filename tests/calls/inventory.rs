@@ -5,7 +5,7 @@ use crate::model::inventory::Record;
 use crate::model::{Labelling, Table};
 
 extern "C" {
-    fn harness_replay(
+    fn tozbierdu_replay(
         measure: u64,
         n: u64,
         heads: *const u64,
@@ -51,7 +51,7 @@ pub fn replay(
     let mut stock = Column::lend("stock", &record.stock);
     let mut outcomes = Column::lend("outcomes", &record.outcomes);
     let result = unsafe {
-        harness_replay(
+        tozbierdu_replay(
             measure,
             table.n,
             lent.heads.pointer(),

@@ -12,87 +12,82 @@ pub mod texts;
 use crate::calls::lending::{Column, LentLabelling, LentTable};
 use crate::model::{Labelling, Table, STANDS, STRUCK};
 
-/// The calls of a program in C, in their own archive.
-mod counter {
-    extern "C" {
-        pub fn settle(
-            measure: u64,
-            n: u64,
-            heads: *const u64,
-            heads_len: usize,
-            own: *const u64,
-            own_len: usize,
-            strikes: *const u64,
-            strikes_len: usize,
-            spans: *const u64,
-            spans_len: usize,
-            tails: *const u64,
-            tails_len: usize,
-            weights: *mut u64,
-            weights_len: usize,
-            depths: *mut u64,
-            depths_len: usize,
-            edges: *mut u64,
-            edges_len: usize,
-            pieces: *mut u64,
-            pieces_len: usize,
-        ) -> u64;
-
-        pub fn reprice(
-            measure: u64,
-            n: u64,
-            heads: *const u64,
-            heads_len: usize,
-            own: *mut u64,
-            own_len: usize,
-            strikes: *const u64,
-            strikes_len: usize,
-            spans: *const u64,
-            spans_len: usize,
-            tails: *const u64,
-            tails_len: usize,
-            weights: *mut u64,
-            weights_len: usize,
-            depths: *mut u64,
-            depths_len: usize,
-            edges: *mut u64,
-            edges_len: usize,
-            pieces: *mut u64,
-            pieces_len: usize,
-            line: u64,
-            figure: u64,
-        ) -> u64;
-
-        pub fn bill(
-            measure: u64,
-            n: u64,
-            heads: *const u64,
-            heads_len: usize,
-            own: *const u64,
-            own_len: usize,
-            strikes: *const u64,
-            strikes_len: usize,
-            spans: *const u64,
-            spans_len: usize,
-            tails: *const u64,
-            tails_len: usize,
-            weights: *const u64,
-            weights_len: usize,
-            depths: *const u64,
-            depths_len: usize,
-            edges: *const u64,
-            edges_len: usize,
-            pieces: *const u64,
-            pieces_len: usize,
-            part: u64,
-            room: *mut u64,
-            room_len: usize,
-        ) -> u64;
-    }
-}
-
 extern "C" {
-    fn harness_check_table(
+    fn tozbierdu_settle(
+        measure: u64,
+        n: u64,
+        heads: *const u64,
+        heads_len: usize,
+        own: *const u64,
+        own_len: usize,
+        strikes: *const u64,
+        strikes_len: usize,
+        spans: *const u64,
+        spans_len: usize,
+        tails: *const u64,
+        tails_len: usize,
+        weights: *mut u64,
+        weights_len: usize,
+        depths: *mut u64,
+        depths_len: usize,
+        edges: *mut u64,
+        edges_len: usize,
+        pieces: *mut u64,
+        pieces_len: usize,
+    ) -> u64;
+
+    fn tozbierdu_reprice(
+        measure: u64,
+        n: u64,
+        heads: *const u64,
+        heads_len: usize,
+        own: *mut u64,
+        own_len: usize,
+        strikes: *const u64,
+        strikes_len: usize,
+        spans: *const u64,
+        spans_len: usize,
+        tails: *const u64,
+        tails_len: usize,
+        weights: *mut u64,
+        weights_len: usize,
+        depths: *mut u64,
+        depths_len: usize,
+        edges: *mut u64,
+        edges_len: usize,
+        pieces: *mut u64,
+        pieces_len: usize,
+        line: u64,
+        figure: u64,
+    ) -> u64;
+
+    fn tozbierdu_bill(
+        measure: u64,
+        n: u64,
+        heads: *const u64,
+        heads_len: usize,
+        own: *const u64,
+        own_len: usize,
+        strikes: *const u64,
+        strikes_len: usize,
+        spans: *const u64,
+        spans_len: usize,
+        tails: *const u64,
+        tails_len: usize,
+        weights: *const u64,
+        weights_len: usize,
+        depths: *const u64,
+        depths_len: usize,
+        edges: *const u64,
+        edges_len: usize,
+        pieces: *const u64,
+        pieces_len: usize,
+        part: u64,
+        room: *mut u64,
+        room_len: usize,
+    ) -> u64;
+
+    fn tozbierdu_check_table(
         n: u64,
         heads: *const u64,
         heads_len: usize,
@@ -106,7 +101,7 @@ extern "C" {
         tails_len: usize,
     ) -> u64;
 
-    fn harness_check_answers(
+    fn tozbierdu_check_answers(
         measure: u64,
         n: u64,
         heads: *const u64,
@@ -129,7 +124,7 @@ extern "C" {
         pieces_len: usize,
     ) -> u64;
 
-    fn harness_entry(
+    fn tozbierdu_entry(
         weights: *const u64,
         weights_len: usize,
         depths: *const u64,
@@ -143,7 +138,7 @@ extern "C" {
         entry_len: usize,
     ) -> u64;
 
-    fn harness_strike(
+    fn tozbierdu_strike(
         measure: u64,
         n: u64,
         heads: *const u64,
@@ -167,7 +162,7 @@ extern "C" {
         line: u64,
     ) -> u64;
 
-    fn harness_restore(
+    fn tozbierdu_restore(
         measure: u64,
         n: u64,
         heads: *const u64,
@@ -195,7 +190,7 @@ extern "C" {
 pub fn check_table(table: &Table) -> Result<u64, String> {
     let mut lent = LentTable::lend(table);
     let result = unsafe {
-        harness_check_table(
+        tozbierdu_check_table(
             table.n,
             lent.heads.pointer(),
             lent.heads.len(),
@@ -222,7 +217,7 @@ pub fn settle(
     let mut lent = LentTable::lend(table);
     let mut room = LentLabelling::lend(answers);
     let result = unsafe {
-        counter::settle(
+        tozbierdu_settle(
             measure,
             table.n,
             lent.heads.pointer(),
@@ -254,7 +249,7 @@ pub fn check_answers(measure: u64, table: &Table, answers: &Labelling) -> Result
     let mut lent = LentTable::lend(table);
     let mut labels = LentLabelling::lend(answers);
     let result = unsafe {
-        harness_check_answers(
+        tozbierdu_check_answers(
             measure,
             table.n,
             lent.heads.pointer(),
@@ -293,7 +288,7 @@ pub fn bill(
     let mut labels = LentLabelling::lend(answers);
     let mut places = Column::lend("room", room);
     let result = unsafe {
-        counter::bill(
+        tozbierdu_bill(
             measure,
             table.n,
             lent.heads.pointer(),
@@ -324,12 +319,12 @@ pub fn bill(
     Ok((result, places.values().to_vec()))
 }
 
-/// The state's number, and the room as the call leaves it. Only a room of 3 places is written.
+/// The state's number, and the room as the call leaves it. Only a room of 4 places is written.
 pub fn entry(answers: &Labelling, vertex: u64, room: &[u64]) -> Result<(u64, Vec<u64>), String> {
     let mut labels = LentLabelling::lend(answers);
     let mut entry = Column::lend("entry", room);
     let state = unsafe {
-        harness_entry(
+        tozbierdu_entry(
             labels.weights.pointer(),
             labels.weights.len(),
             labels.depths.pointer(),
@@ -366,7 +361,7 @@ pub fn reprice(
     let mut lent = LentTable::lend(table);
     let mut room = LentLabelling::lend(answers);
     let result = unsafe {
-        counter::reprice(
+        tozbierdu_reprice(
             measure,
             table.n,
             lent.heads.pointer(),
@@ -422,7 +417,7 @@ fn marked(
 ) -> Result<Changed, String> {
     let mut lent = LentTable::lend(table);
     let mut room = LentLabelling::lend(answers);
-    let call = if mark == STRUCK { harness_strike } else { harness_restore };
+    let call = if mark == STRUCK { tozbierdu_strike } else { tozbierdu_restore };
     let result = unsafe {
         call(
             measure,

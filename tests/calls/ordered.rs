@@ -4,7 +4,7 @@ use crate::calls::lending::{LentLabelling, LentTable};
 use crate::model::{Labelling, Table};
 
 extern "C" {
-    fn harness_check_order(
+    fn tozbierdu_check_order(
         n: u64,
         heads: *const u64,
         heads_len: usize,
@@ -18,7 +18,7 @@ extern "C" {
         tails_len: usize,
     ) -> u64;
 
-    fn harness_settle_ordered(
+    fn tozbierdu_settle_ordered(
         measure: u64,
         n: u64,
         heads: *const u64,
@@ -45,7 +45,7 @@ extern "C" {
 pub fn check_order(table: &Table) -> Result<u64, String> {
     let mut lent = LentTable::lend(table);
     let result = unsafe {
-        harness_check_order(
+        tozbierdu_check_order(
             table.n,
             lent.heads.pointer(),
             lent.heads.len(),
@@ -72,7 +72,7 @@ pub fn settle_ordered(
     let mut lent = LentTable::lend(table);
     let mut room = LentLabelling::lend(answers);
     let result = unsafe {
-        harness_settle_ordered(
+        tozbierdu_settle_ordered(
             measure,
             table.n,
             lent.heads.pointer(),

@@ -3,7 +3,7 @@
 use crate::calls::lending::Column;
 
 extern "C" {
-    fn harness_summarize(
+    fn tozbierdu_summarize(
         results: *const u64,
         results_len: usize,
         room: *mut u64,
@@ -16,7 +16,7 @@ pub fn summarize(results: &[u64], room: &[u64]) -> Result<(u64, Vec<u64>), Strin
     let mut lent = Column::lend("results", results);
     let mut room = Column::lend("room", room);
     let result =
-        unsafe { harness_summarize(lent.pointer(), lent.len(), room.pointer(), room.len()) };
+        unsafe { tozbierdu_summarize(lent.pointer(), lent.len(), room.pointer(), room.len()) };
     lent.kept().and(room.guarded()).map_err(|wrong| format!("summarize, {wrong}"))?;
     Ok((result, room.values().to_vec()))
 }

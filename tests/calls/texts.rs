@@ -4,7 +4,7 @@ use crate::calls::lending::{Column, LentTable};
 use crate::model::Table;
 
 extern "C" {
-    fn harness_read_table(
+    fn tozbierdu_read_table(
         text: *const u8,
         text_len: usize,
         heads: *mut u64,
@@ -21,9 +21,9 @@ extern "C" {
         header_len: usize,
     ) -> u64;
 
-    fn harness_text_column(text: *const u8, text_len: usize) -> u64;
+    fn tozbierdu_text_column(text: *const u8, text_len: usize) -> u64;
 
-    fn harness_write_table(
+    fn tozbierdu_write_table(
         measure: u64,
         n: u64,
         heads: *const u64,
@@ -57,7 +57,7 @@ pub fn read_table(text: &[u8], room: &Table, header: &[u64]) -> Result<Reading, 
     let mut lent = LentTable::lend(room);
     let mut head = Column::lend("header", header);
     let result = unsafe {
-        harness_read_table(
+        tozbierdu_read_table(
             text.pointer(),
             text.len(),
             lent.heads.pointer(),
@@ -84,7 +84,7 @@ pub fn read_table(text: &[u8], room: &Table, header: &[u64]) -> Result<Reading, 
 /// The column at which a text is refused, 0 if it is not.
 pub fn text_column(text: &[u8]) -> Result<u64, String> {
     let mut text = Column::lend("text", text);
-    let column = unsafe { harness_text_column(text.pointer(), text.len()) };
+    let column = unsafe { tozbierdu_text_column(text.pointer(), text.len()) };
     text.kept().map_err(|wrong| format!("text_column, {wrong}"))?;
     Ok(column)
 }
@@ -94,7 +94,7 @@ pub fn write_table(measure: u64, table: &Table, room: &[u8]) -> Result<(u64, Vec
     let mut lent = LentTable::lend(table);
     let mut text = Column::lend("room", room);
     let result = unsafe {
-        harness_write_table(
+        tozbierdu_write_table(
             measure,
             table.n,
             lent.heads.pointer(),

@@ -1,5 +1,5 @@
-//! The calls of `libcounter.a` beside the library's own calls from the other archive: the same
-//! refusal where both refuse, and answers that the library's check accepts where a call is accepted.
+//! The calls beside one another: the same refusal where both refuse, and answers that the answer
+//! check accepts where a call is accepted.
 
 use crate::calls::{bill, check_answers, reprice, restore, settle, strike};
 use crate::model::solver::solve;

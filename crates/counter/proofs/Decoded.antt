@@ -28,11 +28,11 @@ use Rattle.counter.proofs.Places.{lent-place, reprice-place, bill-place
 use Rattle.counter.specs.Decoded.{Names, Decoded, extentOf, settledExtent, repricedExtent, billedExtent}
 
 -- the length of an answer, or the place of its refusal
-abbrev reach : Extent → ℕ
+abbrev pub reach : Extent → ℕ
 reach (Length size) = size
 reach (Refused r) = placeOf r
 
-decoded : (x : Extent) → reach x ≤ lastPlace → Decoded x (extentResult x)
+pub decoded : (x : Extent) → reach x ≤ lastPlace → Decoded x (extentResult x)
 decoded (Length size) h =
     record {
       accepted = λ k e. let q : size ≡ k = cc in (q, omega arith);

@@ -17,3 +17,4 @@ pub mod Request10
 pub mod Request11
 pub mod Request12
 pub mod Request13
+pub mod Archive

@@ -3,7 +3,6 @@ use mathlib.Core.Path.{_≡_, refl}
 use mathlib.Core.Logic.{_↔_}
 use mathlib.Core.List.{List}
 use Prim.Native.Nat.{ℕ, _+_, _≤_, _<_}
-use native.Mathlib.Omega.{arith}
 use lib.ListN.{length}
 use Rattle.weights.specs.declared.Measure.{Measure}
 use Rattle.weights.specs.declared.Vertex.{Vertex}
@@ -13,17 +12,13 @@ use Rattle.refusal.specs.declared.Refusal.the-variants.{EventVertex, OpeningCou
 use Rattle.refusal.specs.declared.Acceptance.the-variants.{Accepted, Refused}
 use Rattle.refusal.specs.Refusals.{placeOf, code, codeOf, lastPlace}
 use Rattle.columns.specs.Columns.{Entries, Columns, cell}
-use Rattle.columns.specs.Acceptance.{mostVertices}
-use Rattle.columns.specs.Owed.{Owed}
-use Rattle.columns.proofs.Exactly.{lent-refused-exactly}
-use Rattle.columns.proofs.Refuses.{same-refusal}
-use Rattle.counter.proofs.Places.{lent-place}
+use Rattle.tozbierdu.proofs.Places.{replayed-places}
 use Rattle.inventory.specs.Shelf.{Low}
 use Rattle.inventory.specs.Replaying.{replayed}
-use Rattle.inventory.specs.Record.{listOf, Replays, Stops, receipts, issues, uses}
+use Rattle.inventory.specs.Record.{listOf, Replays, receipts, issues, uses}
 use Rattle.inventory.specs.Asked.{RightReplay, WrongReplay, ReplayOwes}
 use Rattle.inventory.specs.Worked.{Worked}
-use Rattle.inventory.proofs.Asked.{replay-owes, stops-place, owed-wrong}
+use Rattle.inventory.proofs.Asked.{replay-owes}
 use Rattle.inventory.proofs.Fixed.{replays-once, replay-never, replay-once}
 use Rattle.inventory.proofs.Replayed.{replay-meaning, conservation, outcome-received, final-low, final-sized, replay-keeps}
 use Rattle.inventory.proofs.Worked.{worked-records}
@@ -71,16 +66,7 @@ module _ (m : Measure) (c : Columns) (a : Entries) (parts received stock outcome
 
     -- the place fits the result in C
     pub replay-place : placeOf r ≤ lastPlace
-    replay-place = go (owed-wrong m c a parts received stock outcomes p)
-      where
-        go : {r : Refusal} → WrongReplay m c a parts received stock outcomes r → placeOf r ≤ lastPlace
-        go (WrongReplay.many n) = omega arith
-        go (WrongReplay.unlevel f n) = omega arith
-        go (WrongReplay.lent l w) = lent-place c a (lent-refused-exactly c a _ .1 w)
-        go (WrongReplay.shelf l t n) = omega arith
-        go (WrongReplay.answers l t e n) = omega arith
-        go (WrongReplay.opening l t e f v h) = omega (arith, h .within, e, t .table .few)
-        go (WrongReplay.event s w) = omega (arith, stops-place c (a .labels) w, s .level .events)
+    replay-place = replayed-places m c a parts received stock outcomes .holds p
 
 -- "the place is the part number for a bad opening count, otherwise the event's number from 0"
 pub opening-is : (v : Vertex) → codeOf (OpeningCount v) ≡ code 26 (v .0)

@@ -14,7 +14,7 @@ use Rattle.text.specs.Render.{digits, tailText}
 use Rattle.writing.specs.Written.{Written}
 use Rattle.writing.proofs.Written.{lent, written-part, written-as}
 use Rattle.report.specs.Report.{stateWord}
-use Rattle.report.proofs.Bounds.{width-20}
+use Rattle.writing.proofs.Widths.{width-20}
 use Rattle.quote.specs.Quote.{mostRow, mostLast, row, rows, lastRow}
 
 -- Pieces -----------------------------------------------------------------------------------------------------------------------------------------

@@ -1,15 +1,14 @@
 -- How long the pieces of an output can be: a number by its digits, a row by the range of a table's answers, the line of a refusal by the range of its place.
 -- Assumes nothing.
-use Prim.Native.Nat.{ℕ, zero, suc, _+_, _*_, _/_, _^_, _≤_, _<_}
-use mathlib.Core.Path.{_≡_, refl, sym, _∙_, subst}
+use Prim.Native.Nat.{ℕ, zero, suc, _+_, _*_, _^_, _≤_, _<_}
+use mathlib.Core.Path.{_≡_, refl, sym, subst}
 use mathlib.Core.List.{List, [], _∷_, _++_}
-use mathlib.Core.Bool.{Bool, true, false}
 use native.Mathlib.Omega.{arith}
 use native.Mathlib.Decide.{ℕ-discrete}
 use lib.ListN.{length, take, length-append}
 use lib.Seq.{length-take-le}
-use lib.Dec.{ltb, eqb}
-use borrow.Author.Tests.{ltb-true, ltb-false, ne-eqb}
+use lib.Dec.{eqb}
+use borrow.Author.Tests.{ne-eqb}
 use Rattle.weights.specs.declared.Label.{Label}
 use Rattle.weights.specs.declared.Entry.{Entry}
 use Rattle.weights.specs.declared.Measure.{Measure}
@@ -35,56 +34,13 @@ use Rattle.settle.specs.Settling.{answersOf, entriesOf, entryAt}
 use Rattle.provenance.specs.Pieces.{mostPieces}
 use Rattle.provenance.proofs.Pieces.{pieces-most}
 use Rattle.settle.proofs.Demands.{answers-fixpoint, answers-means, entries-at, entries-mean}
-use Rattle.text.specs.Tables.{Edge, Table}
 use Rattle.text.specs.Render.{digits, tailText}
 use Rattle.text.proofs.Digits.{pick-by}
-use Rattle.text.specs.Machine.{begun, withEdge, mayList, Parse, Whole, Wrong, begin, parse}
+use Rattle.text.specs.Machine.{begin}
 use Rattle.text.specs.Bytes.{failingAt, columnFrom, columnOf as textColumn}
 use Rattle.text.proofs.Bytes.{survived-inside}
-use Rattle.reading.specs.Lines.{Opening, Opens, Unopened, firstLine, Row, Holds, Fails, rowAt, onRow, scanFrom, onFirst, scan}
-use Rattle.reading.proofs.Scanned.{scan-is-parse}
-use Rattle.writing.proofs.Widths.{width-one, width-more}
+use Rattle.writing.proofs.Widths.{width-one, width-2, width-4, width-5, width-10, width-13, width-20}
 use Rattle.report.specs.Report.{mostOutput, mostRefusal, names, stateWord, row, rows, list, refusedWord, refusedWith, refusedLine}
-
--- Numbers ----------------------------------------------------------------------------------------------------------------------------------------
-
--- the least number of k + 2 digits
-unfoldable tens : ℕ → ℕ
-tens zero = 10
-tens (suc k) = 10 * tens k
-
-width-below : (k v : ℕ) → v < tens k → length (digits v) ≤ suc k
-unfolding tens
-width-below zero v h = let w = width-one v h in omega arith
-width-below (suc k) v h = go (ltb v 10) refl (width-below k (v / 10))
-  where
-    go : (b : Bool) → ltb v 10 ≡ b → (v / 10 < tens k → length (digits (v / 10)) ≤ suc k) → length (digits v) ≤ suc (suc k)
-    go true e rec = let w = width-one v (ltb-true v 10 e) in omega arith
-    go false e rec = let w = width-more v (ltb-false v 10 e) in let r = rec (omega arith) in omega arith
-
-width-2 : (v : ℕ) → v < 100 → length (digits v) ≤ 2
-unfolding tens
-width-2 v h = width-below 1 v h
-
-pub width-4 : (v : ℕ) → v < 10_000 → length (digits v) ≤ 4
-unfolding tens
-width-4 v h = width-below 3 v h
-
-width-5 : (v : ℕ) → v < 100_000 → length (digits v) ≤ 5
-unfolding tens
-width-5 v h = width-below 4 v h
-
-width-10 : (v : ℕ) → v < 10_000_000_000 → length (digits v) ≤ 10
-unfolding tens
-width-10 v h = width-below 9 v h
-
-pub width-20 : (v : ℕ) → v < 2 ^ 64 → length (digits v) ≤ 20
-unfolding tens
-width-20 v h = width-below 19 v (omega arith)
-
-width-13 : (v : ℕ) → v < 10_000_000_000_000 → length (digits v) ≤ 13
-unfolding tens
-width-13 v h = width-below 12 v h
 
 -- The answers of a table -----------------------------------------------------------------------------------------------------------------------
 
@@ -247,29 +203,3 @@ column-most s =
     let l = length-take-le (failingAt s) s (survived-inside begin s) in
     let i = survived-inside begin s in
     omega arith
-
--- the text line of a refusal is the first, one of a hyperedge, or the one behind the last that may stand
-abbrev PlacedLow : Parse → Type 0
-PlacedLow (Whole t) = Unit {0}
-PlacedLow (Wrong l) = l ≤ mostEdges + 2
-
-row-low : (t : Table) (R : Row) (rest : Table → ℕ → Parse) → length (t .edges) ≤ mostEdges → ((e : Edge) (next : ℕ) → PlacedLow (rest (withEdge t e) next)) → PlacedLow (onRow t R rest)
-row-low t (Holds e next) rest h k = k e next
-row-low t (Fails xs place) rest h k = omega arith
-
-scan-low : (left : ℕ) (s : List ℕ) (at : ℕ) (t : Table) → length (t .edges) + left ≤ mostEdges → PlacedLow (scanFrom left s at t)
-unfolding scanFrom
-scan-low zero s at t h = pick-by PlacedLow (ltb at (length s)) (λ _. omega arith) (λ _. tt)
-scan-low (suc left) s at t h =
-    let rest : Table → ℕ → Parse = λ u next. scanFrom left s next u in
-    pick-by PlacedLow (ltb at (length s))
-    (λ _. row-low t (rowAt s (t .vertices) (mayList t) at) rest (omega arith) (λ e next. scan-low left s next (withEdge t e) (let l = length-append (t .edges) (e ∷ []) in omega arith)))
-    (λ _. tt)
-
-first-low : (s : List ℕ) (F : Opening) → PlacedLow (onFirst s F)
-first-low s (Opens n m start) = scan-low mostEdges s start (begun n m) (omega arith)
-first-low s (Unopened place) = omega arith
-
-pub wrong-low : (s : List ℕ) (l : ℕ) → parse s ≡ Wrong l → l ≤ mostEdges + 2
-unfolding scan
-wrong-low s l e = subst PlacedLow (scan-is-parse s ∙ e) (first-low s (firstLine s))

@@ -29,6 +29,7 @@ use Rattle.text.specs.Permitted.{FirstWrong}
 use Rattle.text.specs.Bytes.{FirstByte}
 use Rattle.columns.proofs.Filled.{length-filled}
 use Rattle.reading.specs.Lines.{headerOf}
+use Rattle.reading.proofs.Low.{wrong-low}
 use Rattle.readtable.specs.Read.{ReadOutcome, columnsRead, roomFor, readInto}
 use Rattle.roundtrip.specs.RoundTrip.{Room, headerFor, filledWith}
 use Rattle.roundtrip.proofs.RoundTrip.{held, read-accepted, read-rendered}
@@ -36,7 +37,7 @@ use Rattle.roundtrip.proofs.Refused.{unpermitted-is-refused}
 use Rattle.report.specs.Report.{mostInput, mostOutput, list, refusedLine, priced, blankEntries, listedAs, listed, readInput, report}
 use Rattle.report.specs.Pieces.{Lent}
 use Rattle.report.proofs.Closed.{entries-closed, filled-back}
-use Rattle.report.proofs.Bounds.{answers-ranged, list-most, refused-most, column-most, wrong-low}
+use Rattle.report.proofs.Bounds.{answers-ranged, list-most, refused-most, column-most}
 
 -- A table that was read ------------------------------------------------------------------------------------------------------------------------
 

@@ -2,8 +2,9 @@
 use mathlib.Core.Path.{_≡_, refl, sym, _∙_, ap, ap₂, subst}
 use mathlib.Core.List.{List, [], _∷_, _++_, append-assoc, append-nil}
 use mathlib.Core.Bool.{true}
-use Prim.Native.Nat.{ℕ, suc, _+_, _*_, _-_, _≤_, _<_}
+use Prim.Native.Nat.{ℕ, zero, suc, _+_, _*_, _-_, _≤_, _<_}
 use native.Mathlib.Nat.{sub-zero, sub-eq-zero-of-le}
+use native.Mathlib.Numerals.{add-one}
 use native.Mathlib.Omega.{arith}
 use lib.ListN.{length, take, drop, length-append, length-take}
 use borrow.Author.Tests.{lt-ltb, le-leb, lt-leb}
@@ -22,7 +23,7 @@ use Rattle.text.specs.Render.{header, edgeText, edgesText, tableText, render}
 use Rattle.text.specs.Rows.{EdgeFits}
 use Rattle.writing.specs.Written.{Written}
 use Rattle.writing.proofs.Written.{lent-room, within, written-part, written-as}
-use Rattle.writing.proofs.Widths.{line-most}
+use Rattle.writing.proofs.Widths.{line-most, header-most}
 use Rattle.writetable.specs.Write.{writeOutcome, writeText, writeAs, writeTable}
 
 -- A hyperedge of an accepted table ----------------------------------------------------------------------------------------------------------
@@ -105,7 +106,7 @@ pub record Measured (c : Columns) (start width i : ℕ) : Type 0 where
   pub passed : Passed c i bytes
   pub is : width ≡ start + length bytes
   pub small : start ≤ 2000
-  pub most : width ≤ start + 2000000000 * i
+  pub most : width ≤ start + 100000 * i
 
 pub measured-none : (c : Columns) (start : ℕ) → start ≤ 2000 → Measured c start start 0
 measured-none c start h = record { bytes = []; passed = passed-none c; is = omega arith; small = h; most = omega arith }
@@ -124,6 +125,27 @@ measured-all m c start width i e h g =
     let b = render-length m c in
     let d = g .is in
     omega arith
+
+-- the whole text, measured: its length is below 2^32
+module _ (m : Measure) (c : Columns) (a : acceptance c ≡ Accepted) where
+  abbrev begins : ℕ
+  begins = length (header (c .vertices) m)
+
+  measured-to : (i : ℕ) → i ≤ length (c .heads) → (width : ℕ) × Measured c begins width i
+  measured-to zero h = (begins, measured-none c begins (header-most (c .vertices) m (table-accepted c a .few)))
+  measured-to (suc i) h =
+      let r = measured-to i (omega arith) in
+      let n = measured-next c begins (r .0) i (length (lineOf c i)) a h refl (r .1) in
+      (r .0 + length (lineOf c i), subst (Measured c begins (r .0 + length (lineOf c i))) (add-one i) n)
+
+  pub render-most : length (render m c) ≤ 4_294_967_295
+  render-most =
+      let r = measured-to (length (c .heads)) (omega arith) in
+      let e = measured-all m c begins (r .0) (length (c .heads)) refl (omega arith) (r .1) in
+      let s = r .1 .small in
+      let l = r .1 .most in
+      let t = table-accepted c a .edges in
+      omega arith
 
 -- Writing --------------------------------------------------------------------------------------------------------------------------------------
 

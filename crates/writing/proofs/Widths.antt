@@ -1,12 +1,14 @@
 -- How long the pieces of a text are, and how long they can be: none of an accepted table is so long that a sum of widths could wrap. Assumes nothing.
-use mathlib.Core.Path.{_≡_, sym, _∙_, ap}
+use mathlib.Core.Path.{_≡_, refl, sym, _∙_, ap}
 use mathlib.Core.List.{List, [], _∷_, _++_, append-assoc}
-use mathlib.Core.Bool.{true, false}
-use Prim.Native.Nat.{ℕ, zero, suc, _+_, _*_, _/_, _%_, _≤_, _<_}
+use mathlib.Core.Bool.{Bool, true, false}
+use Prim.Native.Nat.{ℕ, zero, suc, _+_, _*_, _/_, _%_, _≤_, _<_, _^_}
 use native.Mathlib.Numerals.{add-one}
 use native.Mathlib.Omega.{arith}
 use lib.ListN.{length, getD, take, length-append}
 use lib.Seq.{take-suc, take-all}
+use lib.Dec.{ltb}
+use borrow.Author.Tests.{ltb-true, ltb-false}
 use Rattle.weights.specs.declared.Measure.{Measure}
 use Rattle.weights.specs.declared.Measure.the-variants.{Cost, Days, Grade}
 use Rattle.weights.specs.Figures.{greatest, isStruckMark}
@@ -40,6 +42,44 @@ width-most =
     (λ d h. let e = width-one d h in omega arith)
     (λ v d pos h r. let e = ap length (digits-more v d pos h) in let l = length-append (digits v) ((48 + d) ∷ []) in omega arith)
 
+-- the least number of k + 2 digits
+unfoldable tens : ℕ → ℕ
+tens zero = 10
+tens (suc k) = 10 * tens k
+
+width-below : (k v : ℕ) → v < tens k → length (digits v) ≤ suc k
+unfolding tens
+width-below zero v h = let w = width-one v h in omega arith
+width-below (suc k) v h = go (ltb v 10) refl (width-below k (v / 10))
+  where
+    go : (b : Bool) → ltb v 10 ≡ b → (v / 10 < tens k → length (digits (v / 10)) ≤ suc k) → length (digits v) ≤ suc (suc k)
+    go true e rec = let w = width-one v (ltb-true v 10 e) in omega arith
+    go false e rec = let w = width-more v (ltb-false v 10 e) in let r = rec (omega arith) in omega arith
+
+pub width-2 : (v : ℕ) → v < 100 → length (digits v) ≤ 2
+unfolding tens
+width-2 v h = width-below 1 v h
+
+pub width-4 : (v : ℕ) → v < 10_000 → length (digits v) ≤ 4
+unfolding tens
+width-4 v h = width-below 3 v h
+
+pub width-5 : (v : ℕ) → v < 100_000 → length (digits v) ≤ 5
+unfolding tens
+width-5 v h = width-below 4 v h
+
+pub width-10 : (v : ℕ) → v < 10_000_000_000 → length (digits v) ≤ 10
+unfolding tens
+width-10 v h = width-below 9 v h
+
+pub width-13 : (v : ℕ) → v < 10_000_000_000_000 → length (digits v) ≤ 13
+unfolding tens
+width-13 v h = width-below 12 v h
+
+pub width-20 : (v : ℕ) → v < 2 ^ 64 → length (digits v) ≤ 20
+unfolding tens
+width-20 v h = width-below 19 v (omega arith)
+
 -- Own figures --------------------------------------------------------------------------------------------------------------------------------
 
 pub own-struck : (o k : ℕ) → isStruckMark k ≡ true → ownText o k ≡ 45 ∷ digits o
@@ -50,12 +90,12 @@ pub own-plain : (o k : ℕ) → isStruckMark k ≡ false → ownText o k ≡ dig
 unfolding markText ownText
 own-plain o k e = rw e
 
--- it has at most so many bytes as keep a sum of them from wrapping
-pub own-most : (o k : ℕ) → o ≤ greatest → length (ownText o k) ≤ greatest + 2
+-- it has at most ten digits, and a mark
+pub own-most : (o k : ℕ) → o ≤ greatest → length (ownText o k) ≤ 11
 unfolding markText ownText
 own-most o k h =
-    let w = width-most o in
-    pick-by (λ (z : List ℕ). length (z ++ digits o) ≤ greatest + 2) (isStruckMark k) (λ e. omega arith) (λ e. omega arith)
+    let w = width-10 o (omega arith) in
+    pick-by (λ (z : List ℕ). length (z ++ digits o) ≤ 11) (isStruckMark k) (λ e. omega arith) (λ e. omega arith)
 
 -- Lists ----------------------------------------------------------------------------------------------------------------------------------------
 
@@ -111,8 +151,8 @@ line-width e =
 pub edge-tail : {e : Edge} → EdgeFits mostVertices e → TailFits (e .tail)
 edge-tail f = record { short = f .short; below = f .tail }
 
--- no line of an accepted table is so long that a sum of lines could wrap
-pub line-most : (e : Edge) → EdgeFits mostVertices e → length (edgeText e ++ 10 ∷ []) ≤ 2000000000
+-- no line of an accepted table is so long that a sum of lines could wrap, or be taken for a refusal in C
+pub line-most : (e : Edge) → EdgeFits mostVertices e → length (edgeText e ++ 10 ∷ []) ≤ 100000
 line-most e f =
     let a = line-width e in
     let b = width-most (e .head) in
