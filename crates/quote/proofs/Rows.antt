@@ -4,17 +4,17 @@ use mathlib.Core.List.{List, [], _∷_, _++_, append-assoc, append-nil}
 use Prim.Native.Nat.{ℕ, _+_, _-_, _*_, _^_, _≤_, _<_}
 use native.Mathlib.Numerals.{add-one}
 use native.Mathlib.Omega.{arith}
-use lib.ListN.{length, getD, take, drop, length-append, length-drop}
+use lib.ListN.{length, getD, take, drop, length-append}
 use lib.Seq.{take-suc, take-all}
 use Rattle.weights.specs.declared.State.{State}
 use Rattle.weights.specs.declared.State.the-variants.{Made, Over, Unmade}
 use Rattle.columns.specs.Columns.{Columns, columns, headAt, ownAt}
-use Rattle.columns.proofs.Filled.{part-whole}
 use Rattle.text.specs.Render.{digits, tailText}
 use Rattle.writing.specs.Written.{Written}
-use Rattle.writing.proofs.Written.{lent, written-part, written-as}
+use Rattle.writing.proofs.Written.{lent, written-as}
 use Rattle.report.specs.Report.{stateWord}
 use Rattle.writing.proofs.Widths.{width-20}
+use Rattle.reply.proofs.Room.{behind-starts, behind-room, written-behind}
 use Rattle.quote.specs.Quote.{mostRow, mostLast, row, rows, lastRow}
 
 -- Pieces -----------------------------------------------------------------------------------------------------------------------------------------
@@ -70,28 +70,6 @@ last-most v s w x y =
     let r = length-append (a ++ []) (10 ∷ []) in
     let t = length-append a [] in
     omega arith
-
--- Room -------------------------------------------------------------------------------------------------------------------------------------------
-
--- what is behind n bytes has k places, and a piece of at most k bytes is written there
-module _ (bytes old : List ℕ) (n : ℕ) (room : List ℕ) (w : Written bytes old n room) (k : ℕ) (h : n + k ≤ length old) where
-  pub behind-starts : n ≤ length room
-  behind-starts = let l = w .long in omega arith
-
-  pub behind-room : k ≤ length (lent bytes old n room w)
-  behind-room =
-      let d = length-drop n room in
-      let l = w .long in
-      let p : length (lent bytes old n room w) ≡ length (drop n room) = ap length (part-whole room n) in
-      omega arith
-
-  pub written-behind : (more : List ℕ) (r : ℕ) (new : List ℕ) → r ≤ k → Written more (lent bytes old n room w) r new
-      → Written (bytes ++ more) old (n + r) (take n room ++ (new ++ drop (length room - n) (drop n room)))
-  written-behind more r new g m =
-      let a = length-append bytes more in
-      let b = w .count in
-      let d = m .count in
-      written-part bytes old n room w more r new (omega arith) m
 
 -- Rows -------------------------------------------------------------------------------------------------------------------------------------------
 

@@ -137,7 +137,7 @@ pub fn index_uses(spans: &[u64], tails: &[u64], index: &mut [u64], list: &mut [u
 }
 
 // Whether v stands in a list.
-fn stands_in(list: &[u64], v: Vertex) -> bool
+pub fn stands_in(list: &[u64], v: Vertex) -> bool
     ensures { λ r. ⌜ r ≡ member (v .0) (now (list .entry)) ⌝ }
 {
     let mut i = 0;

@@ -6,7 +6,7 @@ use borrow.Author.Needs.{needs}
 use lib.ListN.{length}
 use Rattle.columns.specs.Columns.{columns}
 use Rattle.quote.specs.Quote.{mostLast, rows}
-use Rattle.quote.proofs.Rows.{behind-starts, behind-room, written-behind}
+use Rattle.reply.proofs.Room.{behind-starts, behind-room, written-behind}
 use Rattle.quote.proofs.put_sheet.Statement.{statement}
 use Rattle.quote.proofs.put_sheet.Tie as tie
 
