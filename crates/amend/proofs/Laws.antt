@@ -72,7 +72,7 @@ same-answer answer.Accepted text x y e =
     ∙ sym (answer-by (leb (length text) (length y)) (length text) (filled text y) y)
 same-answer (answer.Refused r) text x y e = refl
 
-pub said-by : (m : Measure) (c : Columns) (room : List ℕ) → length room ≡ mostInput → textSaid m c ≡ onExtent (writeTable m c room .answer) (λ _. answered (render m c))
+said-by : (m : Measure) (c : Columns) (room : List ℕ) → length room ≡ mostInput → textSaid m c ≡ onExtent (writeTable m c room .answer) (λ _. answered (render m c))
 unfolding textSaid
 said-by m c room e =
     ap (λ (z : Extent). onExtent z (λ _. answered (render m c)))
@@ -85,7 +85,7 @@ no-refusal e = let z : _≡_ {A = ℕ} 0 1 = cc in absurd (omega arith)
 same-length : {n k : ℕ} → extent.Length n ≡ extent.Length k → k ≡ n
 same-length e = cc
 
-pub record Whole (text room : List ℕ) (n : ℕ) (new : List ℕ) : Type 0 where
+record Whole (text room : List ℕ) (n : ℕ) (new : List ℕ) : Type 0 where
   pub count : n ≡ length text
   pub fits : length text ≤ length room
   pub room-is : new ≡ filled text room
