@@ -21,7 +21,9 @@ use Rattle.command.specs.declared.Next.the-variants.{Number, End, Neithe
 use Rattle.command.specs.declared.Numbers.{Numbers}
 use Rattle.command.specs.declared.Numbers.the-variants.{Count, Wrong}
 use Rattle.command.specs.declared.Command.{Command}
-use Rattle.command.specs.declared.Command.the-variants.{Price, Bill, Uses, Reprice, Strike, Restore, Append, Check, CheckOrder, Misuse}
+use Rattle.command.specs.declared.Question.the-variants.{Price, Bill, Reprice, Strike, Restore}
+use Rattle.command.specs.declared.Query.the-variants.{Settled, Uses, Check, CheckOrder}
+use Rattle.command.specs.declared.Command.the-variants.{Ask, Append, Misuse}
 use Rattle.command.specs.declared.Line.{Line}
 
 -- the most numbers of a command, and the least number that no argument is: it has nineteen digits
@@ -103,15 +105,15 @@ takes name.CheckOrder k = eqb k 0
 takes name.Unknown k = false
 
 abbrev pub asCommand : Name → (a b : ℕ) → Command
-asCommand name.Price a b = Price
-asCommand name.Bill a b = Bill (record { 0 = a })
-asCommand name.Uses a b = Uses (record { 0 = a })
-asCommand name.Reprice a b = Reprice (record { 0 = a }) (record { 0 = b })
-asCommand name.Strike a b = Strike (record { 0 = a })
-asCommand name.Restore a b = Restore (record { 0 = a })
+asCommand name.Price a b = Ask (Settled Price)
+asCommand name.Bill a b = Ask (Settled (Bill (record { 0 = a })))
+asCommand name.Uses a b = Ask (Uses (record { 0 = a }))
+asCommand name.Reprice a b = Ask (Settled (Reprice (record { 0 = a }) (record { 0 = b })))
+asCommand name.Strike a b = Ask (Settled (Strike (record { 0 = a })))
+asCommand name.Restore a b = Ask (Settled (Restore (record { 0 = a })))
 asCommand name.Append a b = Append (record { 0 = a }) (record { 0 = b })
-asCommand name.Check a b = Check
-asCommand name.CheckOrder a b = CheckOrder
+asCommand name.Check a b = Ask Check
+asCommand name.CheckOrder a b = Ask CheckOrder
 asCommand name.Unknown a b = Misuse
 
 abbrev pub line : Command → ℕ → Line

@@ -51,17 +51,27 @@ pub enum Numbers {
     Wrong,
 }
 
-// A command. The vertices that an appended line lists are its numbers from the third on.
-pub enum Command {
+// What is asked of a table and its answers.
+pub enum Question {
     Price,
     Bill(Vertex),
-    Uses(Vertex),
     Reprice(Hyperedge, Weight),
     Strike(Hyperedge),
     Restore(Hyperedge),
-    Append(Vertex, Weight),
+}
+
+// What is asked of a table.
+pub enum Query {
+    Settled(Question),
+    Uses(Vertex),
     Check,
     CheckOrder,
+}
+
+// A command. The vertices that an appended line lists are its numbers from the third on.
+pub enum Command {
+    Ask(Query),
+    Append(Vertex, Weight),
     Misuse,
 }
 
@@ -210,15 +220,18 @@ fn as_command(name: Name, a: u64, b: u64) -> Command
     ensures { λ r. ⌜ r ≡ asCommand name a b ⌝ }
 {
     match name {
-        Name::Price => Command::Price,
-        Name::Bill => Command::Bill(Vertex(a)),
-        Name::Uses => Command::Uses(Vertex(a)),
-        Name::Reprice => Command::Reprice(Hyperedge(a), Weight(b)),
-        Name::Strike => Command::Strike(Hyperedge(a)),
-        Name::Restore => Command::Restore(Hyperedge(a)),
+        Name::Price => Command::Ask(Query::Settled(Question::Price)),
+        Name::Bill => Command::Ask(Query::Settled(Question::Bill(Vertex(a)))),
+        Name::Uses => Command::Ask(Query::Uses(Vertex(a))),
+        Name::Reprice => {
+            let question = Question::Reprice(Hyperedge(a), Weight(b));
+            Command::Ask(Query::Settled(question))
+        }
+        Name::Strike => Command::Ask(Query::Settled(Question::Strike(Hyperedge(a)))),
+        Name::Restore => Command::Ask(Query::Settled(Question::Restore(Hyperedge(a)))),
         Name::Append => Command::Append(Vertex(a), Weight(b)),
-        Name::Check => Command::Check,
-        Name::CheckOrder => Command::CheckOrder,
+        Name::Check => Command::Ask(Query::Check),
+        Name::CheckOrder => Command::Ask(Query::CheckOrder),
         Name::Unknown => Command::Misuse,
     }
 }

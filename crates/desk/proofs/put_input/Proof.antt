@@ -1,0 +1,64 @@
+-- `desk::put_input` meets its contract, by the length of the input and by what reading it returned. Assumes nothing.
+use mathlib.Core.Path.{_≡_}
+use Prim.Native.Nat.{_≤_}
+use native.Mathlib.Omega.{arith}
+use borrow.Author.Needs.{needs}
+use lib.ListN.{length}
+use Rattle.report.specs.Report.{mostInput, readInput}
+use Rattle.desk.proofs.Laws.{replied-as, long-said, unread-said, table-said, input-stands}
+use Rattle.desk.proofs.put_input.Statement.{statement}
+use Rattle.desk.proofs.put_input.Tie as tie
+
+-- an input that is not too long
+short : (c : tie.Else1) → length (c .before .before .before .before .args .input .now) ≤ mostInput
+short c = let h = c .if1 .left in omega arith
+
+returns : tie.Need-returns
+returns c = let s = c .before .before .before .before .before .before .before .before in
+    replied-as _ _ _ (long-said (s .args .command) (s .args .count) (s .args .numbers .now) (s .args .input .now) (let h = c .before .before .before .before .if1 .taken in omega arith)) (c .before .before .put-refusal .ensures)
+
+put-command-requires : tie.Need-put-command-requires
+unfolding readInput
+put-command-requires c κs = let s = c .before .before .before .before .before .before .before .before .before .before .before .before .before .before .before .before .before .before .before .before .before .before .before .before in
+    (s .pre .0, (input-stands (s .args .input .now) (short (c .before .before .before .before .before .before .before .before .before .before .before .before .before .before .before .before .before .before .before .before)) _ _ _ _ _ _ (c .before .before .before .before .before .before .before .before .before .before .before .before .before .before .read-table .ensures) _ (c .before .before .before .before .before .before .before .reading2 .given .1), s .pre .1))
+
+returns-2 : tie.Need-returns-2
+unfolding readInput
+returns-2 c = let s = c .before .before .before .before .before .before .before .before .before .before .before .before .before .before .before .before .before .before .before .before .before .before in
+    replied-as _ _ _
+    (unread-said (s .args .command) (s .args .count) (s .args .numbers .now) (s .args .input .now) (short (c .before .before .before .before .before .before .before .before .before .before .before .before .before .before .before .before .before .before)) _ _ _ _ _ _ (c .before .before .before .before .before .before .before .before .before .before .before .before .read-table .ensures) _ (c .before .before .before .before .before .reading .given .1))
+    (c .before .before .put-refusal2 .ensures)
+
+returns-3 : tie.Need-returns-3
+unfolding readInput
+returns-3 c = let s = c .before .before .before .before .before .before .before .before .before .before .before .before .before .before .before .before .before .before .before .before .before .before .before .before .before .before .before .before .before .before .before .before in
+    replied-as _ _ _
+    (table-said (s .args .command) (s .args .count) (s .args .numbers .now) (s .args .input .now) (short (c .before .before .before .before .before .before .before .before .before .before .before .before .before .before .before .before .before .before .before .before .before .before .before .before .before .before .before .before)) _ _ _ _ _ _ (c .before .before .before .before .before .before .before .before .before .before .before .before .before .before .before .before .before .before .before .before .before .before .read-table .ensures) _ (c .before .before .before .before .before .before .before .before .before .before .before .before .before .before .before .reading2 .given .1))
+    (c .before .before .before .before .before .before .before .put-command .ensures)
+
+pub put-input-spec : {M : Type 1} → statement M
+put-input-spec =
+    tie.close
+    (tie.spec
+    (λ c κs. search needs)
+    (λ c. search needs)
+    returns
+    (λ c. search needs)
+    (λ c. search needs)
+    (λ c. search needs)
+    (λ c. search needs)
+    (λ c. search needs)
+    (λ c κs. search needs)
+    (λ c. search needs)
+    (λ c κs. search needs)
+    (λ c. search needs)
+    (λ c. search needs)
+    (λ c. search needs)
+    (λ c. search needs)
+    (λ c. search needs)
+    (λ c. search needs)
+    put-command-requires
+    (λ c. search needs)
+    returns-2
+    (λ c. search needs)
+    returns-3)

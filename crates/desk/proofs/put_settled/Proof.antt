@@ -1,0 +1,40 @@
+-- `desk::put_settled` meets its contract, by what settling returned. Assumes nothing.
+use borrow.Author.Needs.{needs}
+use Rattle.desk.proofs.Laws.{replied-as, settled-refused, settled-accepted, settled-holds}
+use Rattle.desk.proofs.put_settled.Statement.{statement}
+use Rattle.desk.proofs.put_settled.Tie as tie
+
+returns : tie.Need-returns
+returns c = replied-as _ _ _ (settled-refused _ _ _ _ _ (c .before .before .before .before .before .before .before .before .before .before .before .before .before .before .before .settle .ensures) _ _ (c .before .before .before .before .before .answer .given .1)) (c .before .before .put-refusal .ensures)
+
+put-answer-requires : tie.Need-put-answer-requires
+put-answer-requires c κs = settled-holds _ _ _ _ _ (c .before .before .before .before .before .before .before .before .before .before .before .before .before .before .before .before .before .settle .ensures) _ (c .before .before .before .before .before .before .before .enum-told .given .1) (c .before .before .before .before .before .before .before .before .before .before .before .before .before .before .before .before .before .before .before .before .before .before .before .before .before .before .before .before .before .before .before .before .before .before .pre)
+
+returns-2 : tie.Need-returns-2
+returns-2 c = replied-as _ _ _ (settled-accepted _ _ _ _ _ (c .before .before .before .before .before .before .before .before .before .before .before .before .before .before .before .before .before .before .before .before .before .before .before .before .before .before .before .before .before .before .before .before .settle .ensures) _ (c .before .before .before .before .before .before .before .before .before .before .before .before .before .before .before .before .before .before .before .before .before .before .enum-told .given .1)) (c .before .before .before .before .before .before .before .before .before .before .before .before .before .before .put-answer .ensures)
+
+pub put-settled-spec : {M : Type 1} → statement M
+put-settled-spec =
+    tie.close
+    (tie.spec
+    (λ c κs. search needs)
+    (λ c. search needs)
+    (λ c κs. search needs)
+    (λ c. search needs)
+    (λ c. search needs)
+    (λ c. search needs)
+    (λ c. search needs)
+    (λ c. search needs)
+    (λ c. search needs)
+    (λ c. search needs)
+    returns
+    (λ c. search needs)
+    put-answer-requires
+    (λ c. search needs)
+    (λ c. search needs)
+    (λ c. search needs)
+    (λ c. search needs)
+    (λ c. search needs)
+    (λ c. search needs)
+    (λ c. search needs)
+    returns-2)
