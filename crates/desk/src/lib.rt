@@ -538,6 +538,13 @@ fn put_input(
     }
 }
 
+// A room for a reply.
+pub fn blank_room() -> [u8; MOST_REPLY]
+    ensures { λ r. ⌜ mostReply ≡ length r ⌝ }
+{
+    [0; MOST_REPLY]
+}
+
 // The reply to a line of words over an input is put at the room's start.
 pub fn reply(words: &[u8], input: &[u8], room: &mut [u8; MOST_REPLY]) -> Reply
     ensures { λ r. ⌜ Replied (deskSaid (now (words .entry)) (now (input .entry))) (now (room .entry)) r (now (room .exit)) ⌝ }

@@ -4,7 +4,6 @@
 use input::read_input;
 use libc::STDERR_FILENO;
 use libc::STDOUT_FILENO;
-use reply::MOST_REPLY;
 use reply::Status;
 ghost use Prim.Native.Nat.{_≤_};
 ghost use lib.ListN.{length};
@@ -12,8 +11,27 @@ ghost use lib.ListN.{length};
 // Longer than the line of every command.
 const MOST_WORDS: usize = 512;
 
-// The arguments as a line: a space between two, and an LF behind the last. Where they do not fit,
-// the line is empty, which is no command.
+// Puts an argument into the line at a place, and a space behind it; the place behind that, or 0 where
+// they do not fit.
+fn put_argument(i: usize, words: &mut [u8], at: usize) -> usize
+    requires { ⌜ at ≤ length (now words) ⌝ }
+    ensures { λ r. ⌜ r ≤ length (now (words .exit)) ⌝ }
+{
+    let width = os::arg(i, &mut words[at..]);
+    let error = os::errno();
+    if error != 0 {
+        return 0;
+    }
+    let stop = at + width;
+    if stop >= words.len() {
+        return 0;
+    }
+    words[stop] = b' ';
+    stop + 1
+}
+
+// The arguments as a line: a space between two, and an LF behind the last. Where they do not fit, the
+// line is empty, which is no command.
 fn gather(words: &mut [u8]) -> usize
     ensures { λ r. ⌜ r ≤ length (now (words .exit)) ⌝ }
 {
@@ -21,22 +39,16 @@ fn gather(words: &mut [u8]) -> usize
     let mut at: usize = 0;
     let mut i: usize = 1;
     while i < count {
-        let width = os::arg(i, &mut words[at..]);
-        let error = os::errno();
-        at += width;
-        if error != 0 {
+        at = put_argument(i, words, at);
+        if at == 0 {
             return 0;
         }
-        if at >= words.len() {
-            return 0;
-        }
-        words[at] = b' ';
-        at += 1;
         i += 1;
     }
-    if at > 0 {
-        words[at - 1] = b'\n';
+    if at == 0 {
+        return 0;
     }
+    words[at - 1] = b'\n';
     at
 }
 
@@ -44,16 +56,18 @@ fn main() {
     let mut words = [0u8; MOST_WORDS];
     let stop = gather(&mut words);
     let mut input = io::large_buffer();
-    let mut room = [0u8; MOST_REPLY];
+    let mut room = desk::blank_room();
     // whether the words are a command is known before the input is waited for
     let told = desk::reply(&words[..stop], &input[..0], &mut room);
-    if let Status::Misused = told.status {
+    let status = told.status;
+    if let Status::Misused = status {
         io::write_all(STDERR_FILENO, b"parts: these words are no command\n");
         return;
     }
     let read = read_input(&mut input);
     let count = read.count;
-    if read.last < 0 {
+    let last = read.last;
+    if last < 0 {
         io::write_all(STDERR_FILENO, b"parts: the input could not be read\n");
         return;
     }

@@ -8,10 +8,11 @@ use borrow.Author.Needs.{needs}
 use mir.Syntax.{w64}
 use mir.Val.{toZ, ofZ}
 use lib.IntN.{ℤ, pos, negsuc}
-use lib.ListN.{length, take, drop, length-append, length-drop}
+use lib.ListN.{length, take, drop, length-drop}
 use lib.Seq.{length-take-le}
 use Rattle.io.specs.Counts.{clamped}
-use Rattle.columns.proofs.Filled.{part-whole, part-back}
+use Rattle.columns.proofs.Filled.{part-whole}
+use Rattle.input.proofs.Parts.{part-long}
 use Rattle.input.specs.Input.{bufferLength, Ended}
 use Rattle.input.proofs.read_input.Statement.{statement}
 use Rattle.input.proofs.read_input.Tie as tie
@@ -31,14 +32,6 @@ stopped (negsuc k) most count h e = tt
 full : (got : ℤ) (count : ℕ) → count ≡ bufferLength → Ended count got
 full (pos k) count e = inr e
 full (negsuc k) count e = tt
-
--- a read into the part from a place on keeps the length
-part-long : (xs ys : List ℕ) (n : ℕ) → n ≤ length xs → length ys ≡ length (take (length xs - n) (drop n xs)) → length (take n xs ++ (ys ++ drop (length xs - n) (drop n xs))) ≡ length xs
-part-long xs ys n h e =
-    let a = ap length (part-whole xs n) in
-    let b = length-drop n xs in
-    let d = length-take-le n xs h in
-    ap length (part-back xs ys n) ∙ length-append (take n xs) ys ∙ omega arith
 
 -- the buffer after a read
 abbrev after : tie.After-read Inv-loop μ-loop → List ℕ
