@@ -24,11 +24,8 @@ use Rattle.report.proofs.Laws.{take-zeros, zeros-long}
 use Rattle.reply.specs.declared.Reply.{Reply}
 use Rattle.reply.specs.Reply.{Said, refusedBy, onAcceptance, onExtent, Replied}
 use Rattle.amend.specs.Amend.{appendedSaid}
-use Rattle.desk.specs.Desk.{settledSaid, lentWhole, inUseOf, indexedSaid, appendSaid}
-
--- a reply that says this says what is equal to it
-pub said-as : (s s′ : Said) (old : List ℕ) (r : Reply) (room : List ℕ) → s ≡ s′ → Replied s old r room → Replied s′ old r room
-said-as s s′ old r room e p = record { status = p .status ∙ ap (λ (z : Said). z .status) e; written = written-as old (r .width) room (ap (λ (z : Said). z .bytes) e) (p .written) }
+use Rattle.desk.specs.Desk.{lentWhole, inUseOf, indexedSaid, appendSaid}
+use Rattle.desk.proofs.Laws.{settled-refused, settled-accepted}
 
 -- The index ------------------------------------------------------------------------------------------------------------------------------------
 
@@ -70,19 +67,6 @@ pub entries-back : {w w′ d d′ e e′ p p′ : List ℕ} → w ≡ w′ → d
 entries-back {w} {w′} {d} {d′} {e} {e′} {p} {p′} i j k l =
     ap (λ (z : List ℕ). entries z d e p) i ∙ ap (λ (z : List ℕ). entries w′ z e p) j ∙ ap (λ (z : List ℕ). entries w′ d′ z p) k ∙ ap (entries w′ d′ e′) l
 
-module _ (m : Measure) (c : Columns) (a : Entries) (f : Entries → Said) (x : Acceptance) (b : Entries) (q : record { result = x; left = b } ≡ settled m c a) where
-  by-settling : settledSaid m c a f ≡ onAcceptance x (f b)
-  unfolding settledSaid
-  by-settling = ap (λ (z : SettleOutcome). onAcceptance (z .result) (f (z .left))) (sym q)
-
-  table-refused : (r : Refusal) → x ≡ answer.Refused r → settledSaid m c a f ≡ refusedBy r
-  unfolding onAcceptance
-  table-refused r e = by-settling ∙ ap (λ (z : Acceptance). onAcceptance z (f b)) e
-
-  table-accepted : x ≡ answer.Accepted → settledSaid m c a f ≡ f b
-  unfolding onAcceptance
-  table-accepted e = by-settling ∙ ap (λ (z : Acceptance). onAcceptance z (f b)) e
-
 module _ (g : Header) (t : ReadOutcome) (l : NewLine) (few : g .vertices ≤ mostVertices) (x : Acceptance) (b : Entries)
     (q : record { result = x; left = b }
     ≡ settled (g .measure) (columnsRead g t) (entries (zeros (g .vertices)) (zeros (g .vertices)) (zeros (g .vertices)) (zeros (g .vertices)))) where
@@ -92,8 +76,12 @@ module _ (g : Header) (t : ReadOutcome) (l : NewLine) (few : g .vertices ≤ mos
 
   pub append-refused : (r : Refusal) → x ≡ answer.Refused r → appendSaid g t l ≡ refusedBy r
   unfolding appendSaid
-  append-refused = table-refused (g .measure) (columnsRead g t) (blankEntries (g .vertices)) (λ a. indexedSaid g t a (replicate (2 * mostVertices) 0) (replicate mostListed 0) l) x b from-blank
+  append-refused r e =
+      sym (settled-refused (g .measure) (columnsRead g t) (blankEntries (g .vertices)) x b from-blank
+      (λ a. indexedSaid g t a (replicate (2 * mostVertices) 0) (replicate mostListed 0) l) r e)
 
   pub append-accepted : x ≡ answer.Accepted → appendSaid g t l ≡ indexedSaid g t b (replicate (2 * mostVertices) 0) (replicate mostListed 0) l
   unfolding appendSaid
-  append-accepted = table-accepted (g .measure) (columnsRead g t) (blankEntries (g .vertices)) (λ a. indexedSaid g t a (replicate (2 * mostVertices) 0) (replicate mostListed 0) l) x b from-blank
+  append-accepted e =
+      sym (settled-accepted (g .measure) (columnsRead g t) (blankEntries (g .vertices)) x b from-blank
+      (λ a. indexedSaid g t a (replicate (2 * mostVertices) 0) (replicate mostListed 0) l) e)

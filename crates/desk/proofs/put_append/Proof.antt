@@ -14,7 +14,8 @@ use Rattle.readtable.specs.Read.{ReadOutcome, readOutcome}
 use Rattle.report.proofs.Laws.{zeros-long}
 use Rattle.reply.specs.Reply.{Said, refusedBy}
 use Rattle.desk.specs.Desk.{indexedSaid, appendSaid}
-use Rattle.desk.proofs.Appending.{said-as, append-refused, append-accepted, start-room, start-back, start-long, entries-back}
+use Rattle.desk.proofs.Laws.{replied-as}
+use Rattle.desk.proofs.Appending.{append-refused, append-accepted, start-room, start-back, start-long, entries-back}
 use Rattle.desk.proofs.put_append.Statement.{statement}
 use Rattle.desk.proofs.put_append.Tie as tie
 
@@ -93,7 +94,7 @@ slice-aggregate-settle-9 c = let s = c .before .before .before .before .before .
 
 returns : tie.Need-returns
 returns c = let p = c .before .before in
-    said-as _ _ _ _ _ (sym (refused (p .before .before .before))) (p .put-refusal .ensures)
+    replied-as _ _ _ (sym (refused (p .before .before .before))) (p .put-refusal .ensures)
 
 array-borrow-prefix-weights-2 : tie.Need-array-borrow-prefix-weights-2
 array-borrow-prefix-weights-2 c = let k = c .before .before .before .before .before .before .before .before .before .before .before .before in
@@ -170,7 +171,7 @@ returns-2 c = let p = replied c in
     let t = p .before .before .before .before .before .before .before .before .before .before .before .before .before in
     let k = t .before .before .before .before .before .before in
     let s = entry k in
-    said-as _ _ (s .args .room .now) _ (p .put-indexed .last .0)
+    replied-as (s .args .room .now) _ (p .put-indexed .last .0)
     (ap (λ (z : Entries). indexedSaid (s .args .header) (lent s) z (replicate (2 * mostVertices) 0) (replicate mostListed 0) (line s)) (passed k) ∙ sym (accepted t))
     (p .put-indexed .ensures)
 

@@ -11,7 +11,8 @@ use Rattle.readtable.specs.Read.{ReadOutcome, readOutcome}
 use Rattle.reply.specs.Reply.{Said, refusedBy}
 use Rattle.amend.specs.Amend.{appendedSaid}
 use Rattle.desk.specs.Desk.{lentWhole, inUseOf, indexedSaid}
-use Rattle.desk.proofs.Appending.{said-as, index-refused, index-made}
+use Rattle.desk.proofs.Laws.{replied-as}
+use Rattle.desk.proofs.Appending.{index-refused, index-made}
 use Rattle.desk.proofs.put_indexed.Statement.{statement}
 use Rattle.desk.proofs.put_indexed.Tie as tie
 
@@ -68,7 +69,7 @@ slice-aggregate-index-table-5 c = let s = c .before .before .before .before .bef
 
 returns : tie.Need-returns
 returns c = let p = c .before .before in
-    said-as _ _ _ _ _ (sym (refused (p .before .before .before))) (p .put-refusal .ensures)
+    replied-as _ _ _ (sym (refused (p .before .before .before))) (p .put-refusal .ensures)
 
 -- the place behind the last call
 abbrev appended : tie.After-slice-known27 → tie.After-put-appended
@@ -116,7 +117,7 @@ same-length-20 c = appended c .put-appended .kept .1 .1 .1 .1 .1 .1 .1 .1 .1 .1 
 
 returns-2 : tie.Need-returns-2
 returns-2 c = let p = appended c in
-    said-as _ _ (entry (indexed p) .args .room .now) _ (p .put-appended .last .0)
+    replied-as (entry (indexed p) .args .room .now) _ (p .put-appended .last .0)
     (sym (made (p .before .before .before .before .before .before .before .before .before .before .before .before .before)))
     (p .put-appended .ensures)
 

@@ -1,0 +1,96 @@
+# desk: what it prints and says, its status, and the file that it replaces.
+
+desk() { ends "$1" "$2" "$3" bash desk "${@:4}"; }
+week=examples/week.parts
+
+desk 'desk prices the week' 0 '' "$week" price <<<"$list"
+desk 'desk prints a bill' 0 '' "$week" bill 3 <<'END_OF_BILL'
+4 3 0
+2 2 500
+0 0 1200
+1 1 300
+1 1 300
+1 1 300
+3 made 2600
+END_OF_BILL
+desk 'desk finds the lines that need a part' 0 '' "$week" uses 1 <<'END_OF_USES'
+2 2 500 0 1
+4 3 0 2 1 1
+END_OF_USES
+desk 'desk reprices' 0 '' "$week" reprice 1 350 < <(sed 's/^1 300$/1 350/' "$week")
+desk 'desk strikes' 0 '' "$week" strike 2 < <(sed 's/^2 500 0 1$/2 -500 0 1/' "$week")
+desk 'desk appends' 0 '' "$week" append 4 100 0 0 1 < <(cat "$week"; echo '4 100 0 0 1')
+desk 'desk checks' 0 '' "$week" check </dev/null
+desk 'desk checks the order' 1 "desk: $week: $(cell 24 3)*$(cell 24 5)" "$week" check-order <<<'refused 24 5'
+input=$week desk 'desk reads standard input' 0 '' - uses 0 <<<'2 2 500 0 1'
+
+# Refusals and words that are no command --------------------------------------------------------------------------------------------------------
+
+desk 'desk explains a refusal' 1 "desk: $week: $(cell 12 3)*$(cell 12 5)" "$week" bill 4 <<<'refused 12 0'
+desk 'desk explains a broken text' 1 "desk: examples/broken.parts, line 4, column 9: $(cell 14 3)*line 4 is 2 500 0 9<LF>*" examples/broken.parts bill 0 <<<'refused 14 4 9'
+for words in 'sell' 'bill' 'bill 1 2' 'bill x' 'bill 01' 'bill -1' 'bill 18446744073709551616' 'price 1' 'append 1' 'reprice 1'; do
+    desk "desk does not know $words" 2 'parts: these words are no command*' "$week" $words </dev/null
+done
+desk 'desk wants a command' 2 'desk: a file and a command are needed*' "$week" </dev/null
+desk 'desk knows its options' 2 'desk: there is no option --days*' --days "$week" price </dev/null
+desk 'desk names a file that is missing' 2 'desk: there is no file examples/missing.parts' examples/missing.parts price </dev/null
+bash desk --help >"$work/help"
+holds 'desk helps' "it prints $(shown "$work/help")" grep -q '^usage: bash desk' "$work/help"
+# an example for each command, and each of them is carried out
+while read -r _ _ file command numbers; do
+    # shellcheck disable=SC2086
+    bash desk "$file" "$command" $numbers >"$work/printed" 2>"$work/errors"
+    [ $? -le 1 ] || fail "desk's example of $command" "$(shown "$work/errors")"
+    pass "desk's example of $command"
+done < <(grep '^  bash desk' "$work/help")
+
+# --write --------------------------------------------------------------------------------------------------------------------------------------------
+
+table=$work/table
+mkdir "$work/beside"
+written() { cp "$week" "$table"; chmod 640 "$table"; }
+written
+desk 'desk replaces the file' 0 '' --write "$table" reprice 1 350 </dev/null
+holds 'by the repriced table' "it holds $(shown "$table")" cmp -s "$table" <(sed 's/^1 300$/1 350/' "$week")
+holds 'with the mode that it had' "its mode is $(stat -c %a "$table")" [ "$(stat -c %a "$table")" = 640 ]
+desk 'desk replaces it again' 0 '' "$table" strike 2 --write </dev/null
+desk 'desk restores the line' 0 '' "$table" restore 2 --write </dev/null
+desk 'desk appends a line to the file' 0 '' "$table" append 4 100 0 --write </dev/null
+holds 'and every change is there' "it holds $(shown "$table")" cmp -s "$table" <(sed 's/^1 300$/1 350/' "$week"; echo '4 100 0')
+ln -s "$table" "$work/link"
+desk 'desk replaces what a link names' 0 '' --write "$work/link" reprice 1 300 </dev/null
+holds 'and the link stays' "it is $(stat -c %F "$work/link")" [ -L "$work/link" ]
+
+written
+desk 'desk leaves a file whose change is refused' 1 '*' --write "$table" reprice 9 5 <<<'refused 9 0'
+desk 'desk writes no list' 2 'desk: price changes no table*' --write "$table" price </dev/null
+desk 'desk replaces no standard input' 2 'desk: standard input is no file*' --write - strike 1 </dev/null
+# 4,096 bytes, which a price with one digit more passes
+full() { echo 'parts 10 cost'; echo '0 500'; yes '0 5' | head -n 1019; }
+full >"$table"
+ends 'desk at the limit of a file' 2 "*desk: the new file can't be written: * is as it was" bash -c 'ulimit -f 4; bash desk --write "$1" reprice 1 10' - "$table" </dev/null
+holds 'the file is the old one' "it holds $(shown "$table")" cmp -s "$table" <(full)
+holds 'and nothing lies beside it' "$(ls -A "$work" | grep '^\.table')" [ -z "$(ls -A "$work" | grep '^\.table')" ]
+if [ "$(id -u)" -ne 0 ]; then
+    cp "$week" "$work/beside/table"
+    chmod 555 "$work/beside"
+    desk 'desk in a folder that can not be written' 2 "*desk: there is no room beside*" --write "$work/beside/table" reprice 1 350 </dev/null
+    chmod 755 "$work/beside"
+fi
+
+# interrupted at many moments, the file is the old one or the new one
+sed 's/^1 300$/1 350/' "$week" >"$work/new"
+whole=yes
+for pause in 0.01 0.02 0.03 0.04 0.05 0.06 0.08 0.1 0.12; do
+    written
+    bash desk --write "$table" reprice 1 350 >/dev/null 2>&1 &
+    sleep "$pause"
+    kill -INT $! 2>/dev/null || kill -TERM $! 2>/dev/null
+    wait $! 2>/dev/null
+    cmp -s "$table" "$week" || cmp -s "$table" "$work/new" || whole=no
+done
+holds 'interrupted, desk leaves the old table or the new one' "it holds $(shown "$table")" [ "$whole" = yes ]
+
+# The man page ------------------------------------------------------------------------------------------------------------------------------------------
+
+holds 'the man page is made of the help' 'docs/parts.1 is not what docs/manual prints' cmp -s docs/parts.1 <(bash docs/manual)
