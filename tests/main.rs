@@ -5,6 +5,7 @@ mod answers;
 mod append;
 mod bill;
 mod calls;
+mod desk;
 mod index;
 mod inventory;
 mod model;
@@ -55,6 +56,9 @@ const TESTS: &[&[Test]] = &[
     ordered::refusals::TESTS,
     inventory::TESTS,
     shuffle::TESTS,
+    desk::TESTS,
+    desk::limits::TESTS,
+    desk::words::TESTS,
 ];
 
 const SEED: u64 = 1;
