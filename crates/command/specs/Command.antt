@@ -39,17 +39,45 @@ abbrev pub named : Name → ℕ → Named
 named x k = record { name = x; stop = k }
 
 -- `price`, `bill`, `uses`, `reprice`, `strike`, `restore`, `append`, `check-order`, `check`
+abbrev pub priceWord : List ℕ
+priceWord = 112 ∷ 114 ∷ 105 ∷ 99 ∷ 101 ∷ []
+
+abbrev pub billWord : List ℕ
+billWord = 98 ∷ 105 ∷ 108 ∷ 108 ∷ []
+
+abbrev pub usesWord : List ℕ
+usesWord = 117 ∷ 115 ∷ 101 ∷ 115 ∷ []
+
+abbrev pub repriceWord : List ℕ
+repriceWord = 114 ∷ 101 ∷ 112 ∷ 114 ∷ 105 ∷ 99 ∷ 101 ∷ []
+
+abbrev pub strikeWord : List ℕ
+strikeWord = 115 ∷ 116 ∷ 114 ∷ 105 ∷ 107 ∷ 101 ∷ []
+
+abbrev pub restoreWord : List ℕ
+restoreWord = 114 ∷ 101 ∷ 115 ∷ 116 ∷ 111 ∷ 114 ∷ 101 ∷ []
+
+abbrev pub appendWord : List ℕ
+appendWord = 97 ∷ 112 ∷ 112 ∷ 101 ∷ 110 ∷ 100 ∷ []
+
+abbrev pub checkOrderWord : List ℕ
+checkOrderWord = 99 ∷ 104 ∷ 101 ∷ 99 ∷ 107 ∷ 45 ∷ 111 ∷ 114 ∷ 100 ∷ 101 ∷ 114 ∷ []
+
+abbrev pub checkWord : List ℕ
+checkWord = 99 ∷ 104 ∷ 101 ∷ 99 ∷ 107 ∷ []
+
+-- the first of them with which a line starts, and the place behind it; `check-order` before `check`, with which it starts
 abbrev pub nameIn : List ℕ → Named
 nameIn s =
-    pick (eqb (agreeing (112 ∷ 114 ∷ 105 ∷ 99 ∷ 101 ∷ []) s) 5) (named name.Price 5)
-    (pick (eqb (agreeing (98 ∷ 105 ∷ 108 ∷ 108 ∷ []) s) 4) (named name.Bill 4)
-    (pick (eqb (agreeing (117 ∷ 115 ∷ 101 ∷ 115 ∷ []) s) 4) (named name.Uses 4)
-    (pick (eqb (agreeing (114 ∷ 101 ∷ 112 ∷ 114 ∷ 105 ∷ 99 ∷ 101 ∷ []) s) 7) (named name.Reprice 7)
-    (pick (eqb (agreeing (115 ∷ 116 ∷ 114 ∷ 105 ∷ 107 ∷ 101 ∷ []) s) 6) (named name.Strike 6)
-    (pick (eqb (agreeing (114 ∷ 101 ∷ 115 ∷ 116 ∷ 111 ∷ 114 ∷ 101 ∷ []) s) 7) (named name.Restore 7)
-    (pick (eqb (agreeing (97 ∷ 112 ∷ 112 ∷ 101 ∷ 110 ∷ 100 ∷ []) s) 6) (named name.Append 6)
-    (pick (eqb (agreeing (99 ∷ 104 ∷ 101 ∷ 99 ∷ 107 ∷ 45 ∷ 111 ∷ 114 ∷ 100 ∷ 101 ∷ 114 ∷ []) s) 11) (named name.CheckOrder 11)
-    (pick (eqb (agreeing (99 ∷ 104 ∷ 101 ∷ 99 ∷ 107 ∷ []) s) 5) (named name.Check 5)
+    pick (eqb (agreeing priceWord s) 5) (named name.Price 5)
+    (pick (eqb (agreeing billWord s) 4) (named name.Bill 4)
+    (pick (eqb (agreeing usesWord s) 4) (named name.Uses 4)
+    (pick (eqb (agreeing repriceWord s) 7) (named name.Reprice 7)
+    (pick (eqb (agreeing strikeWord s) 6) (named name.Strike 6)
+    (pick (eqb (agreeing restoreWord s) 7) (named name.Restore 7)
+    (pick (eqb (agreeing appendWord s) 6) (named name.Append 6)
+    (pick (eqb (agreeing checkOrderWord s) 11) (named name.CheckOrder 11)
+    (pick (eqb (agreeing checkWord s) 5) (named name.Check 5)
     (named name.Unknown 0)))))))))
 
 -- The numbers ----------------------------------------------------------------------------------------------------------------------------------

@@ -8,31 +8,54 @@ put-entries-requires : tie.Need-put-entries-requires
 put-entries-requires c κs = list-fits _ _ _ _ (c .before .before .before .before .before .before .before .before .before .before .before .before .before .before .before .before .before .pre)
 
 put-bill-requires : tie.Need-put-bill-requires
-put-bill-requires c κs = c .before .before .before .before .before .before .before .before .before .before .before .before .before .before .before .before .before .before .before .before .pre .large
+put-bill-requires c κs =
+    let q = c .before .before .before .before .before .before .before .before in
+    q .before .before .before .before .before .before .before .before .before .before .before .before .pre .large
 
 put-repriced-requires : tie.Need-put-repriced-requires
-put-repriced-requires c κs = c .before .before .before .before .before .before .before .before .before .before .before .before .before .before .before .before .before .before .before .before .pre .large
+put-repriced-requires c κs =
+    let q = c .before .before .before .before .before .before .before .before in
+    q .before .before .before .before .before .before .before .before .before .before .before .before .pre .large
 
 put-stricken-requires : tie.Need-put-stricken-requires
-put-stricken-requires c κs = c .before .before .before .before .before .before .before .before .before .before .before .before .before .before .before .before .before .before .before .before .pre .large
+put-stricken-requires c κs =
+    let q = c .before .before .before .before .before .before .before .before in
+    q .before .before .before .before .before .before .before .before .before .before .before .before .pre .large
 
 put-restored-requires : tie.Need-put-restored-requires
-put-restored-requires c κs = c .before .before .before .before .before .before .before .before .before .before .before .before .before .before .before .before .before .before .before .before .pre .large
+put-restored-requires c κs =
+    let q = c .before .before .before .before .before .before .before .before in
+    q .before .before .before .before .before .before .before .before .before .before .before .before .pre .large
 
 returns : tie.Need-returns
-returns c = replied-as _ _ _ (price-said _ _ _ _ _ (c .before .before .before .before .before .before .before .before .enum-told .given .1) (c .before .before .before .before .before .before .before .before .before .before .before .before .before .before .before .before .before .before .before .before .pre)) (c .before .before .put-entries .ensures)
+returns c =
+    let p = c .before .before .before .before .before .before .before .before in
+    let q = p .before .before .before .before .before .before .before .before .before .before .before .before in
+    replied-as _ _ _ (price-said _ _ _ _ _ (p .enum-told .given .1) (q .pre)) (c .before .before .put-entries .ensures)
 
 returns-2 : tie.Need-returns-2
-returns-2 c = replied-as _ _ _ (bill-said _ _ _ _ _ (c .before .before .before .before .before .before .before .before .before .before .before .question .given .1)) (c .before .before .put-bill .ensures)
+returns-2 c =
+    replied-as _ _ _
+    (bill-said _ _ _ _ _ (c .before .before .before .before .before .before .before .before .before .before .before .question .given .1))
+    (c .before .before .put-bill .ensures)
 
 returns-3 : tie.Need-returns-3
-returns-3 c = replied-as _ _ _ (reprice-said _ _ _ _ _ _ (c .before .before .before .before .before .before .before .before .before .before .before .before .before .before .before .before .before .before .before .before .before .question2 .given .1)) (c .before .before .before .before .before .before .before .before .before .before .before .before .put-repriced .ensures)
+returns-3 c =
+    let p = c .before .before .before .before .before .before .before .before .before .before .before .before in
+    let q = p .before .before .before .before .before .before .before .before .before in
+    replied-as _ _ _ (reprice-said _ _ _ _ _ _ (q .question2 .given .1)) (p .put-repriced .ensures)
 
 returns-4 : tie.Need-returns-4
-returns-4 c = replied-as _ _ _ (strike-said _ _ _ _ _ (c .before .before .before .before .before .before .before .before .before .before .before .before .before .before .before .before .before .before .before .before .before .question3 .given .1)) (c .before .before .before .before .before .before .before .before .before .before .before .before .put-stricken .ensures)
+returns-4 c =
+    let p = c .before .before .before .before .before .before .before .before .before .before .before .before in
+    let q = p .before .before .before .before .before .before .before .before .before in
+    replied-as _ _ _ (strike-said _ _ _ _ _ (q .question3 .given .1)) (p .put-stricken .ensures)
 
 returns-5 : tie.Need-returns-5
-returns-5 c = replied-as _ _ _ (restore-said _ _ _ _ _ (c .before .before .before .before .before .before .before .before .before .before .before .before .before .before .before .before .before .before .before .before .before .question4 .given .1)) (c .before .before .before .before .before .before .before .before .before .before .before .before .put-restored .ensures)
+returns-5 c =
+    let p = c .before .before .before .before .before .before .before .before .before .before .before .before in
+    let q = p .before .before .before .before .before .before .before .before .before in
+    replied-as _ _ _ (restore-said _ _ _ _ _ (q .question4 .given .1)) (p .put-restored .ensures)
 
 pub put-answer-spec : {M : Type 1} → statement M
 put-answer-spec =

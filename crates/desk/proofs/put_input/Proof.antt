@@ -14,27 +14,42 @@ short : (c : tie.Else1) → length (c .before .before .before .before .args .inp
 short c = let h = c .if1 .left in omega arith
 
 returns : tie.Need-returns
-returns c = let s = c .before .before .before .before .before .before .before .before in
-    replied-as _ _ _ (long-said (s .args .command) (s .args .count) (s .args .numbers .now) (s .args .input .now) (let h = c .before .before .before .before .if1 .taken in omega arith)) (c .before .before .put-refusal .ensures)
+returns c =
+    let p = c .before .before .before .before in
+    let s = p .before .before .before .before in
+    replied-as _ _ _ (long-said (s .args .command) (s .args .count) (s .args .numbers .now) (s .args .input .now) (let h = p .if1 .taken in omega arith)) (c .before .before .put-refusal .ensures)
 
 put-command-requires : tie.Need-put-command-requires
 unfolding readInput
-put-command-requires c κs = let s = c .before .before .before .before .before .before .before .before .before .before .before .before .before .before .before .before .before .before .before .before .before .before .before .before in
-    (s .pre .0, (input-stands (s .args .input .now) (short (c .before .before .before .before .before .before .before .before .before .before .before .before .before .before .before .before .before .before .before .before)) _ _ _ _ _ _ (c .before .before .before .before .before .before .before .before .before .before .before .before .before .before .read-table .ensures) _ (c .before .before .before .before .before .before .before .reading2 .given .1), s .pre .1))
+put-command-requires c κs =
+    let p = c .before .before .before .before .before .before .before in
+    let q = p .before .before .before .before .before .before .before in
+    let r = q .before .before .before .before .before .before in
+    let s = r .before .before .before .before in
+    (s .pre .0, (input-stands (s .args .input .now) (short r) _ _ _ _ _ _ (q .read-table .ensures) _ (p .reading2 .given .1), s .pre .1))
 
 returns-2 : tie.Need-returns-2
 unfolding readInput
-returns-2 c = let s = c .before .before .before .before .before .before .before .before .before .before .before .before .before .before .before .before .before .before .before .before .before .before in
+returns-2 c =
+    let p = c .before .before .before .before .before in
+    let q = p .before .before .before .before .before .before .before in
+    let r = q .before .before .before .before .before .before in
+    let s = r .before .before .before .before in
     replied-as _ _ _
-    (unread-said (s .args .command) (s .args .count) (s .args .numbers .now) (s .args .input .now) (short (c .before .before .before .before .before .before .before .before .before .before .before .before .before .before .before .before .before .before)) _ _ _ _ _ _ (c .before .before .before .before .before .before .before .before .before .before .before .before .read-table .ensures) _ (c .before .before .before .before .before .reading .given .1))
+    (unread-said (s .args .command) (s .args .count) (s .args .numbers .now) (s .args .input .now) (short r) _ _ _ _ _ _ (q .read-table .ensures) _ (p .reading .given .1))
     (c .before .before .put-refusal2 .ensures)
 
 returns-3 : tie.Need-returns-3
 unfolding readInput
-returns-3 c = let s = c .before .before .before .before .before .before .before .before .before .before .before .before .before .before .before .before .before .before .before .before .before .before .before .before .before .before .before .before .before .before .before .before in
+returns-3 c =
+    let p = c .before .before .before .before .before .before .before in
+    let q = p .before .before .before .before .before .before .before .before in
+    let r = q .before .before .before .before .before .before .before in
+    let e = r .before .before .before .before .before .before in
+    let s = e .before .before .before .before in
     replied-as _ _ _
-    (table-said (s .args .command) (s .args .count) (s .args .numbers .now) (s .args .input .now) (short (c .before .before .before .before .before .before .before .before .before .before .before .before .before .before .before .before .before .before .before .before .before .before .before .before .before .before .before .before)) _ _ _ _ _ _ (c .before .before .before .before .before .before .before .before .before .before .before .before .before .before .before .before .before .before .before .before .before .before .read-table .ensures) _ (c .before .before .before .before .before .before .before .before .before .before .before .before .before .before .before .reading2 .given .1))
-    (c .before .before .before .before .before .before .before .put-command .ensures)
+    (table-said (s .args .command) (s .args .count) (s .args .numbers .now) (s .args .input .now) (short e) _ _ _ _ _ _ (r .read-table .ensures) _ (q .reading2 .given .1))
+    (p .put-command .ensures)
 
 pub put-input-spec : {M : Type 1} → statement M
 put-input-spec =

@@ -5,13 +5,24 @@ use Rattle.desk.proofs.put_settled.Statement.{statement}
 use Rattle.desk.proofs.put_settled.Tie as tie
 
 returns : tie.Need-returns
-returns c = replied-as _ _ _ (settled-refused _ _ _ _ _ (c .before .before .before .before .before .before .before .before .before .before .before .before .before .before .before .settle .ensures) _ _ (c .before .before .before .before .before .answer .given .1)) (c .before .before .put-refusal .ensures)
+returns c =
+    let p = c .before .before .before .before .before in
+    let q = p .before .before .before .before .before .before .before .before .before .before in
+    replied-as _ _ _ (settled-refused _ _ _ _ _ (q .settle .ensures) _ _ (p .answer .given .1)) (c .before .before .put-refusal .ensures)
 
 put-answer-requires : tie.Need-put-answer-requires
-put-answer-requires c κs = settled-holds _ _ _ _ _ (c .before .before .before .before .before .before .before .before .before .before .before .before .before .before .before .before .before .settle .ensures) _ (c .before .before .before .before .before .before .before .enum-told .given .1) (c .before .before .before .before .before .before .before .before .before .before .before .before .before .before .before .before .before .before .before .before .before .before .before .before .before .before .before .before .before .before .before .before .before .before .pre)
+put-answer-requires c κs =
+    let p = c .before .before .before .before .before .before .before in
+    let q = p .before .before .before .before .before .before .before .before .before .before in
+    let r = q .before .before .before .before .before .before .before .before .before .before .before .before .before .before .before .before .before in
+    settled-holds _ _ _ _ _ (q .settle .ensures) _ (p .enum-told .given .1) (r .pre)
 
 returns-2 : tie.Need-returns-2
-returns-2 c = replied-as _ _ _ (settled-accepted _ _ _ _ _ (c .before .before .before .before .before .before .before .before .before .before .before .before .before .before .before .before .before .before .before .before .before .before .before .before .before .before .before .before .before .before .before .before .settle .ensures) _ (c .before .before .before .before .before .before .before .before .before .before .before .before .before .before .before .before .before .before .before .before .before .before .enum-told .given .1)) (c .before .before .before .before .before .before .before .before .before .before .before .before .before .before .put-answer .ensures)
+returns-2 c =
+    let p = c .before .before .before .before .before .before .before .before .before .before .before .before .before .before in
+    let q = p .before .before .before .before .before .before .before .before in
+    let r = q .before .before .before .before .before .before .before .before .before .before in
+    replied-as _ _ _ (settled-accepted _ _ _ _ _ (r .settle .ensures) _ (q .enum-told .given .1)) (p .put-answer .ensures)
 
 pub put-settled-spec : {M : Type 1} → statement M
 put-settled-spec =

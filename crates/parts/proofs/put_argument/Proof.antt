@@ -56,7 +56,11 @@ same-length-3 : tie.Need-same-length-3
 same-length-3 c = length-set (after (c .before .before .before .before .before)) _ _ ∙ long (c .before .before .before .before .before)
 
 returns-3 : tie.Need-returns-3
-returns-3 c = let t = c .if2 .left in let e = length-set (after (c .before .before .before .before .before)) (c .before .before .before .before .before .before .before .before .args .at + c .before .before .before .before .before .arg .result) 32 in omega arith
+returns-3 c =
+    let a = c .before .before .before .before .before in
+    let t = c .if2 .left in
+    let e = length-set (after a) (a .before .before .before .args .at + a .arg .result) 32 in
+    omega arith
 
 pub put-argument-spec : {M : Type 1} → statement M
 put-argument-spec =
