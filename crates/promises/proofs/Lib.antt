@@ -18,3 +18,4 @@ pub mod Request11
 pub mod Request12
 pub mod Request13
 pub mod Archive
+pub mod Desks

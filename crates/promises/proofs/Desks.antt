@@ -1,0 +1,52 @@
+-- The program for the desks: what its commands print, over the calls. Assumes nothing.
+use mathlib.Core.Path.{_≡_}
+use mathlib.Core.List.{List}
+use Prim.Native.Nat.{ℕ, _≤_}
+use lib.ListN.{length}
+use Rattle.weights.specs.declared.Measure.{Measure}
+use Rattle.refusal.specs.declared.Acceptance.the-variants.{Accepted}
+use Rattle.refusal.specs.declared.Counts.{Counts}
+use Rattle.columns.specs.Columns.{Entries, Columns}
+use Rattle.columns.specs.Acceptance.{acceptance}
+use Rattle.columns.specs.Longer.{NewLine}
+use Rattle.text.specs.Render.{render}
+use Rattle.report.specs.Report.{mostInput}
+use Rattle.reply.specs.Reply.{mostReply, Said}
+use Rattle.quote.specs.Quoted.{Quoted}
+use Rattle.quote.proofs.Quoted.{quoted}
+use Rattle.whereused.specs.WhereUsed.{usesSaid}
+use Rattle.whereused.proofs.Said.{uses-fit}
+use Rattle.amend.specs.Printed.{Printed, Reprices, Strikes, Restores, Appends}
+use Rattle.amend.proofs.Printed.{reprices, strikes, restores, appends}
+use Rattle.desk.specs.Priced.{PricesAsListed, PricesAgain}
+use Rattle.desk.proofs.Priced.{prices-as-listed, prices-again}
+
+-- "`price`: what `listing` prints"
+pub desk-price : (input : List ℕ) → PricesAsListed input
+desk-price = prices-as-listed
+
+-- "`bill PART`: a row for each line of the bill, in the bill's order: line, its part, its own figure; last a row with the part's figure, to quote from"
+pub desk-bill : (m : Measure) (c : Columns) (a : Entries) (v : ℕ) → Quoted m c a v
+desk-bill = quoted
+
+-- "`uses PART`: the rows of the table that need the part": all of them fit the room of a reply
+pub desk-uses : (c : Columns) (v : ℕ) → acceptance c ≡ Accepted → length (usesSaid c v .bytes) ≤ mostReply
+desk-uses = uses-fit
+
+-- "`reprice LINE FIGURE`, `strike LINE`, `restore LINE`, `append HEAD FIGURE PARTS…`: the text of the table as it then is"
+module _ (m : Measure) (c : Columns) (a : Entries) where
+  pub desk-reprice : (e w : ℕ) → Reprices m c a e w
+  desk-reprice e w = reprices m c a e w
+
+  pub desk-strike : (e : ℕ) → Strikes m c a e
+  desk-strike e = strikes m c a e
+
+  pub desk-restore : (e : ℕ) → Restores m c a e
+  desk-restore e = restores m c a e
+
+  pub desk-append : (k : Counts) (index list : List ℕ) (l : NewLine) → Appends m c k a index list l
+  desk-append k index list l = appends m c k a index list l
+
+-- "so that it can replace the file": fed back, it is listed with the answers of the table that it is
+pub desk-again : (m : Measure) (t : Columns) (s : Said) → Printed m t s → acceptance t ≡ Accepted → length (render m t) ≤ mostInput → PricesAgain m t s
+desk-again = prices-again
