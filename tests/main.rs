@@ -58,6 +58,7 @@ const TESTS: &[&[Test]] = &[
     shuffle::TESTS,
     desk::TESTS,
     desk::limits::TESTS,
+    desk::mean::TESTS,
     desk::words::TESTS,
 ];
 

@@ -1,6 +1,7 @@
 //! The program for the desks: every reply compared with the model's, on sound texts and broken ones.
 
 pub mod limits;
+pub mod mean;
 mod program;
 mod replies;
 pub mod words;

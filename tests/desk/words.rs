@@ -18,7 +18,7 @@ pub const TESTS: &[Test] = &[
 const TABLE: &str = "examples/week.parts";
 
 /// Each command with the least and the most numbers that it takes.
-const COMMANDS: [(&str, usize, usize); 9] = [
+const COMMANDS: [(&str, usize, usize); 10] = [
     ("price", 0, 0),
     ("bill", 1, 1),
     ("uses", 1, 1),
@@ -28,6 +28,7 @@ const COMMANDS: [(&str, usize, usize); 9] = [
     ("append", 2, 18),
     ("check", 0, 0),
     ("check-order", 0, 0),
+    ("mean", 0, 0),
 ];
 
 /// A command's name, and a number so often.

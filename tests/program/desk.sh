@@ -22,13 +22,14 @@ desk 'desk strikes' 0 '' "$week" strike 2 < <(sed 's/^2 500 0 1$/2 -500 0 1/' "$
 desk 'desk appends' 0 '' "$week" append 4 100 0 0 1 < <(cat "$week"; echo '4 100 0 0 1')
 desk 'desk checks' 0 '' "$week" check </dev/null
 desk 'desk checks the order' 1 "desk: $week: $(cell 24 3)*$(cell 24 5)" "$week" check-order <<<'refused 24 5'
+desk 'desk tells mean and variance' 0 '' examples/year.results mean <<<$'111 1\n1441 6'
 input=$week desk 'desk reads standard input' 0 '' - uses 0 <<<'2 2 500 0 1'
 
 # Refusals and words that are no command --------------------------------------------------------------------------------------------------------
 
 desk 'desk explains a refusal' 1 "desk: $week: $(cell 12 3)*$(cell 12 5)" "$week" bill 4 <<<'refused 12 0'
 desk 'desk explains a broken text' 1 "desk: examples/broken.parts, line 4, column 9: $(cell 14 3)*line 4 is 2 500 0 9<LF>*" examples/broken.parts bill 0 <<<'refused 14 4 9'
-for words in 'sell' 'bill' 'bill 1 2' 'bill x' 'bill 01' 'bill -1' 'bill 18446744073709551616' 'price 1' 'append 1' 'reprice 1'; do
+for words in 'sell' 'mean 1' 'bill' 'bill 1 2' 'bill x' 'bill 01' 'bill -1' 'bill 18446744073709551616' 'price 1' 'append 1' 'reprice 1'; do
     desk "desk does not know $words" 2 'parts: these words are no command*' "$week" $words </dev/null
 done
 desk 'desk wants a command' 2 'desk: a file and a command are needed*' "$week" </dev/null

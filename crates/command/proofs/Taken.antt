@@ -17,7 +17,7 @@ use Rattle.command.specs.declared.Next.the-variants.{Number, End, Neithe
 use Rattle.command.specs.declared.Numbers.{Numbers}
 use Rattle.command.specs.declared.Numbers.the-variants.{Count, Wrong}
 use Rattle.command.specs.declared.Command.{Command}
-use Rattle.command.specs.declared.Command.the-variants.{Ask, Append, Misuse}
+use Rattle.command.specs.declared.Command.the-variants.{Ask, Append, Mean, Misuse}
 use Rattle.command.specs.declared.Line.{Line}
 use Rattle.command.specs.Command.{Gathered, gathered, nextAt, onNext, numbersFrom, nameIn, takes, asCommand, line, lineWith, lineOf, commandIn}
 
@@ -64,6 +64,7 @@ pub record Taken (n : ℕ) (l : Line) : Type 0 where
 abbrev Appends : Command → Type 0
 Appends (Append h w) = Unit {0}
 Appends (Ask q) = ⊥
+Appends Mean = ⊥
 Appends Misuse = ⊥
 
 misuse-taken : (n : ℕ) → Taken n (line Misuse 0)
@@ -79,6 +80,7 @@ appended-takes name.Restore a b k t h = absurd h
 appended-takes name.Append a b k t h = leb-true 2 k t
 appended-takes name.Check a b k t h = absurd h
 appended-takes name.CheckOrder a b k t h = absurd h
+appended-takes name.Mean a b k t h = absurd h
 appended-takes name.Unknown a b k t h = absurd h
 
 with-taken : (n : ℕ) (x : Name) (k : ℕ) (c : List ℕ) → k ≤ n → Taken n (lineWith x k c)

@@ -23,7 +23,7 @@ use Rattle.command.specs.declared.Numbers.the-variants.{Count, Wrong}
 use Rattle.command.specs.declared.Command.{Command}
 use Rattle.command.specs.declared.Question.the-variants.{Price, Bill, Reprice, Strike, Restore}
 use Rattle.command.specs.declared.Query.the-variants.{Settled, Uses, Check, CheckOrder}
-use Rattle.command.specs.declared.Command.the-variants.{Ask, Append, Misuse}
+use Rattle.command.specs.declared.Command.the-variants.{Ask, Append, Mean, Misuse}
 use Rattle.command.specs.declared.Line.{Line}
 
 -- the most numbers of a command, and the least number that no argument is: it has nineteen digits
@@ -38,7 +38,7 @@ numberLimit = 1_000_000_000_000_000_000
 abbrev pub named : Name → ℕ → Named
 named x k = record { name = x; stop = k }
 
--- `price`, `bill`, `uses`, `reprice`, `strike`, `restore`, `append`, `check-order`, `check`
+-- `price`, `bill`, `uses`, `reprice`, `strike`, `restore`, `append`, `check-order`, `check`, `mean`
 abbrev pub priceWord : List ℕ
 priceWord = 112 ∷ 114 ∷ 105 ∷ 99 ∷ 101 ∷ []
 
@@ -66,6 +66,9 @@ checkOrderWord = 99 ∷ 104 ∷ 101 ∷ 99 ∷ 107 ∷ 45 ∷ 111 ∷ 114 ∷ 10
 abbrev pub checkWord : List ℕ
 checkWord = 99 ∷ 104 ∷ 101 ∷ 99 ∷ 107 ∷ []
 
+abbrev pub meanWord : List ℕ
+meanWord = 109 ∷ 101 ∷ 97 ∷ 110 ∷ []
+
 -- the first of them with which a line starts, and the place behind it; `check-order` before `check`, with which it starts
 abbrev pub nameIn : List ℕ → Named
 nameIn s =
@@ -78,7 +81,8 @@ nameIn s =
     (pick (eqb (agreeing appendWord s) 6) (named name.Append 6)
     (pick (eqb (agreeing checkOrderWord s) 11) (named name.CheckOrder 11)
     (pick (eqb (agreeing checkWord s) 5) (named name.Check 5)
-    (named name.Unknown 0)))))))))
+    (pick (eqb (agreeing meanWord s) 4) (named name.Mean 4)
+    (named name.Unknown 0))))))))))
 
 -- The numbers ----------------------------------------------------------------------------------------------------------------------------------
 
@@ -130,6 +134,7 @@ takes name.Restore k = eqb k 1
 takes name.Append k = leb 2 k
 takes name.Check k = eqb k 0
 takes name.CheckOrder k = eqb k 0
+takes name.Mean k = eqb k 0
 takes name.Unknown k = false
 
 abbrev pub asCommand : Name → (a b : ℕ) → Command
@@ -142,6 +147,7 @@ asCommand name.Restore a b = Ask (Settled (Restore (record { 0 = a })))
 asCommand name.Append a b = Append (record { 0 = a }) (record { 0 = b })
 asCommand name.Check a b = Ask Check
 asCommand name.CheckOrder a b = Ask CheckOrder
+asCommand name.Mean a b = Mean
 asCommand name.Unknown a b = Misuse
 
 abbrev pub line : Command → ℕ → Line

@@ -28,6 +28,7 @@ pub enum Name {
     Append,
     Check,
     CheckOrder,
+    Mean,
     Unknown,
 }
 
@@ -72,6 +73,7 @@ pub enum Query {
 pub enum Command {
     Ask(Query),
     Append(Vertex, Weight),
+    Mean,
     Misuse,
 }
 
@@ -136,6 +138,12 @@ fn name_of(words: &[u8]) -> Named
         return Named {
             name: Name::Check,
             stop: 5,
+        };
+    }
+    if agree(words, b"mean") == 4 {
+        return Named {
+            name: Name::Mean,
+            stop: 4,
         };
     }
     Named {
@@ -212,6 +220,7 @@ fn takes(name: Name, count: usize) -> bool
         Name::Append => count >= 2,
         Name::Check => count == 0,
         Name::CheckOrder => count == 0,
+        Name::Mean => count == 0,
         Name::Unknown => false,
     }
 }
@@ -232,6 +241,7 @@ fn as_command(name: Name, a: u64, b: u64) -> Command
         Name::Append => Command::Append(Vertex(a), Weight(b)),
         Name::Check => Command::Ask(Query::Check),
         Name::CheckOrder => Command::Ask(Query::CheckOrder),
+        Name::Mean => Command::Mean,
         Name::Unknown => Command::Misuse,
     }
 }

@@ -34,7 +34,7 @@ use Rattle.reply.specs.Reply.{mostReply, Said, answered, refusedBy, misused, on
 use Rattle.whereused.specs.WhereUsed.{usesSaid}
 use Rattle.topological.specs.Ordering.{orderedAcceptance}
 use Rattle.command.specs.declared.Command.{Command}
-use Rattle.command.specs.declared.Command.the-variants.{Ask, Append, Misuse}
+use Rattle.command.specs.declared.Command.the-variants.{Ask, Append, Mean, Misuse}
 use Rattle.command.specs.declared.Line.{Line}
 use Rattle.command.specs.Command.{mostNumbers, CommandLine, commandIn}
 use Rattle.command.proofs.Taken.{Taken, command-taken, column-kept}
@@ -42,9 +42,10 @@ use Rattle.command.specs.declared.Query.{Query}
 use Rattle.command.specs.declared.Query.the-variants.{Settled, Uses, Check, CheckOrder}
 use Rattle.command.specs.declared.Question.{Question}
 use Rattle.command.specs.declared.Question.the-variants.{Price, Bill, Reprice, Strike, Restore}
+use Rattle.sample.specs.Sample.{meanSaid}
 use Rattle.quote.specs.Quote.{billSaid}
 use Rattle.amend.specs.Amend.{repricedSaid, strickenSaid, restoredSaid}
-use Rattle.desk.specs.Desk.{settledSaid, answerSaid, tableSaid, appendSaid, neededIn, readSaid, onReading, inputSaid, commandSaid, deskSaid, Answered, Stands, Takes}
+use Rattle.desk.specs.Desk.{settledSaid, answerSaid, tableSaid, appendSaid, neededIn, readSaid, onReading, inputSaid, sampleSaid, commandSaid, deskSaid, Answered, Stands, Takes}
 
 -- a reply that says what is to be said
 pub replied-as : {s t : Said} (old : List ℕ) (r : Reply) (room : List ℕ) → s ≡ t → Replied s old r room → Replied t old r room
@@ -141,6 +142,9 @@ module _ (y : Command) (k : ℕ) (ns : List ℕ) (g : Header) (x : ReadOutcome) 
   pub append-said : (h : Vertex) (w : Weight) → y ≡ Append h w → appendSaid g x (newLine (h .0) (w .0) standing (neededIn k ns)) ≡ readSaid y k ns g x
   append-said h w e = ap (λ (z : Command). readSaid z k ns g x) (sym e)
 
+  pub mean-misused : y ≡ Mean → misused ≡ readSaid y k ns g x
+  mean-misused e = ap (λ (z : Command). readSaid z k ns g x) (sym e)
+
   pub misuse-said : y ≡ Misuse → misused ≡ readSaid y k ns g x
   misuse-said e = ap (λ (z : Command). readSaid z k ns g x) (sym e)
 
@@ -165,6 +169,15 @@ module _ (y : Command) (k : ℕ) (ns input : List ℕ) where
     pub table-said : (g : Header) → a ≡ reading.Table g → readSaid y k ns g (readOutcome (reading.Table g) h o ms s t) ≡ inputSaid y k ns input
     table-said g e = ap (λ (z : Reading). onReading y k ns z (readOutcome z h o ms s t)) (sym e) ∙ by-reading
 
+-- a sample's text
+pub long-sample : (input : List ℕ) → mostInput < length input → refusedBy InputLength ≡ sampleSaid input
+unfolding sampleSaid
+long-sample input h = rw (lt-ltb mostInput (length input) h)
+
+pub short-sample : (input : List ℕ) → length input ≤ mostInput → meanSaid input ≡ sampleSaid input
+unfolding sampleSaid
+short-sample input h = rw (le-ltb mostInput (length input) h)
+
 -- a table that was read stands at the start of the columns
 pub input-stands : (input : List ℕ) → length input ≤ mostInput → (a : Reading) (h o ms s t : List ℕ) → readOutcome a h o ms s t ≡ readInput input
     → (g : Header) → a ≡ reading.Table g → Stands g h o ms s t
@@ -184,6 +197,9 @@ module _ (words input : List ℕ) (l : Line) (ns : List ℕ) (q : record { line 
 
   pub words-misused : l .command ≡ Misuse → misused ≡ deskSaid words input
   words-misused e = ap (λ (z : Command). commandSaid z (l .count) ns input) (sym e) ∙ by-line
+
+  pub words-mean : l .command ≡ Mean → sampleSaid input ≡ deskSaid words input
+  words-mean e = ap (λ (z : Command). commandSaid z (l .count) ns input) (sym e) ∙ by-line
 
   pub words-ask : (x : Query) → l .command ≡ Ask x → inputSaid (l .command) (l .count) ns input ≡ deskSaid words input
   words-ask x e =

@@ -26,12 +26,13 @@ use Rattle.report.specs.Report.{mostInput, list, blankEntries, readInput}
 use Rattle.report.specs.Pieces.{lentColumns}
 use Rattle.reply.specs.Reply.{mostReply, Said, answered, refusedBy, misused, onAcceptance, onExtent}
 use Rattle.command.specs.declared.Command.{Command}
-use Rattle.command.specs.declared.Command.the-variants.{Ask, Append, Misuse}
+use Rattle.command.specs.declared.Command.the-variants.{Ask, Append, Mean, Misuse}
 use Rattle.command.specs.declared.Query.{Query}
 use Rattle.command.specs.declared.Query.the-variants.{Settled, Uses, Check, CheckOrder}
 use Rattle.command.specs.declared.Question.{Question}
 use Rattle.command.specs.declared.Question.the-variants.{Price, Bill, Reprice, Strike, Restore}
 use Rattle.command.specs.Command.{mostNumbers, CommandLine, commandIn}
+use Rattle.sample.specs.Sample.{meanSaid}
 use Rattle.quote.specs.Quote.{billSaid}
 use Rattle.whereused.specs.WhereUsed.{usesSaid}
 use Rattle.amend.specs.Amend.{repricedSaid, strickenSaid, restoredSaid, appendedSaid}
@@ -80,6 +81,7 @@ neededIn k ns = take (k - 2) (drop 2 ns)
 abbrev pub readSaid : Command → (count : ℕ) → (numbers : List ℕ) → Header → ReadOutcome → Said
 readSaid (Ask q) k ns g x = tableSaid q (g .measure) (columnsRead g x) (blankEntries (g .vertices))
 readSaid (Append h w) k ns g x = appendSaid g x (newLine (h .0) (w .0) standing (neededIn k ns))
+readSaid Mean k ns g x = misused
 readSaid Misuse k ns g x = misused
 
 -- by what reading the input returned
@@ -91,10 +93,15 @@ onReading y k ns (reading.Table g) x = readSaid y k ns g x
 unfoldable pub inputSaid : Command → (count : ℕ) → (numbers input : List ℕ) → Said
 inputSaid y k ns input = pick (ltb mostInput (length input)) (refusedBy InputLength) (onReading y k ns (readInput input .answer) (readInput input))
 
+-- `mean` takes its input for a sample's text and not for a table's
+unfoldable pub sampleSaid : List ℕ → Said
+sampleSaid input = pick (ltb mostInput (length input)) (refusedBy InputLength) (meanSaid input)
+
 -- words that are no command are told before the input is looked at
 abbrev pub commandSaid : Command → (count : ℕ) → (numbers input : List ℕ) → Said
 commandSaid (Ask q) k ns input = inputSaid (Ask q) k ns input
 commandSaid (Append h w) k ns input = inputSaid (Append h w) k ns input
+commandSaid Mean k ns input = sampleSaid input
 commandSaid Misuse k ns input = misused
 
 -- the whole

@@ -33,7 +33,7 @@ ghost use Rattle.columns.specs.Longer.{newLine};
 ghost use Rattle.readtable.specs.Read.{readOutcome};
 ghost use Rattle.report.specs.Report.{list, blankEntries};
 ghost use Rattle.report.specs.Pieces.{lentColumns};
-ghost use Rattle.desk.specs.Desk.{answerSaid, settledSaid, tableSaid, indexedSaid, appendSaid, readSaid, inputSaid, deskSaid, Answered, Stands, Takes};
+ghost use Rattle.desk.specs.Desk.{answerSaid, settledSaid, tableSaid, indexedSaid, appendSaid, readSaid, inputSaid, sampleSaid, deskSaid, Answered, Stands, Takes};
 
 // Nothing is printed on acceptance, and on a refusal its line.
 fn put_acceptance(room: &mut [u8], answer: Acceptance) -> Reply
@@ -490,6 +490,10 @@ fn put_command(
             width: 0,
             status: Status::Misused,
         },
+        Command::Mean => Reply {
+            width: 0,
+            status: Status::Misused,
+        },
     }
 }
 
@@ -538,6 +542,17 @@ fn put_input(
     }
 }
 
+// The mean and the variance of an input that is a sample's text.
+fn put_sample(room: &mut [u8], input: &[u8]) -> Reply
+    requires { ⌜ mostReply ≤ length (now room) ⌝ }
+    ensures { λ r. ⌜ Replied (sampleSaid (now (input .entry))) (now (room .entry)) r (now (room .exit)) ⌝ }
+{
+    if input.len() <= MOST_INPUT {
+        return sample::put_mean(room, input);
+    }
+    put_refusal(room, Refusal::InputLength)
+}
+
 // A room for a reply.
 pub fn blank_room() -> [u8; MOST_REPLY]
     ensures { λ r. ⌜ mostReply ≡ length r ⌝ }
@@ -560,5 +575,6 @@ pub fn reply(words: &[u8], input: &[u8], room: &mut [u8; MOST_REPLY]) -> Reply
         },
         Command::Ask(_) => put_input(room, command, count, &numbers, input),
         Command::Append(_, _) => put_input(room, command, count, &numbers, input),
+        Command::Mean => put_sample(room, input),
     }
 }

@@ -7,7 +7,7 @@ use lib.Dec.{eqb}
 use borrow.Author.Needs.{needs}
 use borrow.Author.Tests.{eq-eqb, ne-eqb}
 use Rattle.reading.specs.Lines.{agreeing}
-use Rattle.command.specs.Command.{priceWord, billWord, usesWord, repriceWord, strikeWord, restoreWord, appendWord, checkOrderWord, checkWord}
+use Rattle.command.specs.Command.{priceWord, billWord, usesWord, repriceWord, strikeWord, restoreWord, appendWord, checkOrderWord, checkWord, meanWord}
 use Rattle.command.proofs.name_of.Statement.{statement}
 use Rattle.command.proofs.name_of.Tie as tie
 
@@ -38,6 +38,9 @@ line-8 c = line-7 (c .before .before .before)
 
 abbrev line-9 : tie.After-agree9 → List ℕ
 line-9 c = line-8 (c .before .before .before)
+
+abbrev line-10 : tie.After-agree10 → List ℕ
+line-10 c = line-9 (c .before .before .before)
 
 -- where a word stands, and where it does not
 yes-1 : (c : tie.Then1) → eqb (agreeing priceWord (line-1 (c .before))) 5 ≡ true
@@ -93,6 +96,12 @@ yes-9 c = eq-eqb _ _ (sym (c .before .agree9 .ensures) ∙ c .if9 .taken)
 
 no-9 : (c : tie.Else9) → eqb (agreeing checkWord (line-9 (c .before))) 5 ≡ false
 no-9 c = ne-eqb _ _ (λ e. c .if9 .left (c .before .agree9 .ensures ∙ e))
+
+yes-10 : (c : tie.Then10) → eqb (agreeing meanWord (line-10 (c .before))) 4 ≡ true
+yes-10 c = eq-eqb _ _ (sym (c .before .agree10 .ensures) ∙ c .if10 .taken)
+
+no-10 : (c : tie.Else10) → eqb (agreeing meanWord (line-10 (c .before))) 4 ≡ false
+no-10 c = ne-eqb _ _ (λ e. c .if10 .left (c .before .agree10 .ensures ∙ e))
 
 returns : tie.Need-returns
 returns c = rw (yes-1 c)
@@ -167,7 +176,8 @@ returns-9 c =
 
 returns-10 : tie.Need-returns-10
 returns-10 c =
-    let e8 = c .before .before .before in
+    let e9 = c .before .before .before in
+    let e8 = e9 .before .before .before in
     let e7 = e8 .before .before .before in
     let e6 = e7 .before .before .before in
     let e5 = e6 .before .before .before in
@@ -175,7 +185,20 @@ returns-10 c =
     let e3 = e4 .before .before .before in
     let e2 = e3 .before .before .before in
     let e1 = e2 .before .before .before in
-    rw (no-1 e1, no-2 e2, no-3 e3, no-4 e4, no-5 e5, no-6 e6, no-7 e7, no-8 e8, no-9 c)
+    rw (no-1 e1, no-2 e2, no-3 e3, no-4 e4, no-5 e5, no-6 e6, no-7 e7, no-8 e8, no-9 e9, yes-10 c)
+
+returns-11 : tie.Need-returns-11
+returns-11 c =
+    let e9 = c .before .before .before in
+    let e8 = e9 .before .before .before in
+    let e7 = e8 .before .before .before in
+    let e6 = e7 .before .before .before in
+    let e5 = e6 .before .before .before in
+    let e4 = e5 .before .before .before in
+    let e3 = e4 .before .before .before in
+    let e2 = e3 .before .before .before in
+    let e1 = e2 .before .before .before in
+    rw (no-1 e1, no-2 e2, no-3 e3, no-4 e4, no-5 e5, no-6 e6, no-7 e7, no-8 e8, no-9 e9, no-10 c)
 
 pub name-of-spec : {M : Type 1} → statement M
 name-of-spec =
@@ -208,4 +231,7 @@ name-of-spec =
     (λ c. search needs)
     (λ c κs. search needs)
     returns-9
-    returns-10)
+    (λ c. search needs)
+    (λ c κs. search needs)
+    returns-10
+    returns-11)

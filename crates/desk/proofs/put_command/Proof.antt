@@ -3,7 +3,7 @@ use mathlib.Core.Path.{refl}
 use native.Mathlib.Omega.{arith}
 use borrow.Author.Needs.{needs}
 use Rattle.writing.proofs.Written.{written-none}
-use Rattle.desk.proofs.Laws.{replied-as, ask-said, append-said, misuse-said}
+use Rattle.desk.proofs.Laws.{replied-as, ask-said, append-said, mean-misused, misuse-said}
 use Rattle.desk.proofs.put_command.Statement.{statement}
 use Rattle.desk.proofs.put_command.Tie as tie
 
@@ -48,6 +48,11 @@ returns-3 c = let s = c .before .before .before .before .before .before .before 
     replied-as _ _ _ (misuse-said _ (s .args .count) (s .args .numbers .now) _ _ (c .enum-told .given .1))
     (record { status = refl; written = written-none _ })
 
+returns-4 : tie.Need-returns-4
+returns-4 c = let s = c .before .before .before .before .before .before .before .before .before in
+    replied-as _ _ _ (mean-misused _ (s .args .count) (s .args .numbers .now) _ _ (c .enum-told2 .given .1))
+    (record { status = refl; written = written-none _ })
+
 pub put-command-spec : {M : Type 1} → statement M
 put-command-spec =
     tie.close
@@ -66,6 +71,7 @@ put-command-spec =
     (λ c. search needs)
     (λ c. search needs)
     (λ c. search needs)
+    (λ c. search needs)
     returns
     (λ c. search needs)
     (λ c. search needs)
@@ -74,4 +80,5 @@ put-command-spec =
     (λ c. search needs)
     (λ c. search needs)
     returns-2
-    returns-3)
+    returns-3
+    returns-4)

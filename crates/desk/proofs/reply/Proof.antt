@@ -3,7 +3,7 @@ use mathlib.Core.Path.{refl}
 use native.Mathlib.Omega.{arith}
 use borrow.Author.Needs.{needs}
 use Rattle.writing.proofs.Written.{written-none}
-use Rattle.desk.proofs.Laws.{replied-as, words-misused, words-ask, words-append, words-take, numbers-long}
+use Rattle.desk.proofs.Laws.{replied-as, words-misused, words-mean, words-ask, words-append, words-take, numbers-long}
 use Rattle.desk.proofs.reply.Statement.{statement}
 use Rattle.desk.proofs.reply.Tie as tie
 
@@ -49,6 +49,15 @@ returns-3 c =
     let s = k .before .before .before .before in
     replied-as _ _ _ (words-append (s .args .words .now) (s .args .input .now) _ _ (k .read-command .ensures) _ _ (c .before .before .before .enum-told3 .given .1)) (c .put-input2 .ensures)
 
+put-sample-requires : tie.Need-put-sample-requires
+put-sample-requires c κs = let l = c .put-sample-arg .given .0 .1 in omega arith
+
+returns-4 : tie.Need-returns-4
+returns-4 c =
+    let k = c .before .before .before .before in
+    let s = k .before .before .before .before in
+    replied-as _ _ _ (words-mean (s .args .words .now) (s .args .input .now) _ _ (k .read-command .ensures) (c .before .before .enum-told4 .given .1)) (c .put-sample .ensures)
+
 pub reply-spec : {M : Type 1} → statement M
 reply-spec =
     tie.close
@@ -61,6 +70,9 @@ reply-spec =
     (λ c. search needs)
     slice-aggregate-put-input-2
     put-input-requires-2
+    (λ c. search needs)
+    put-sample-requires
     returns
     returns-2
-    returns-3)
+    returns-3
+    returns-4)
