@@ -10,7 +10,7 @@ use Rattle.refusal.specs.declared.Extent.the-variants as extent
 use Rattle.writing.specs.Written.{Written}
 use Rattle.report.specs.Report.{refusedLine}
 use Rattle.reply.specs.declared.Status.{Status}
-use Rattle.reply.specs.declared.Status.the-variants.{Answered, Refused, Misused}
+use Rattle.reply.specs.declared.Status.the-variants.{Answered, Refused, RefusedSecond, Misused}
 use Rattle.reply.specs.declared.Reply.{Reply}
 
 -- the room that every reply is put into
@@ -28,6 +28,10 @@ answered bytes = record { bytes = bytes; status = Answered }
 abbrev pub refusedBy : Refusal → Said
 refusedBy r = record { bytes = refusedLine r; status = Refused }
 
+-- the same line where it is the second input that is turned away
+abbrev pub secondRefused : Refusal → Said
+secondRefused r = record { bytes = refusedLine r; status = RefusedSecond }
+
 -- words that are no command: nothing is printed
 abbrev pub misused : Said
 misused = record { bytes = []; status = Misused }
@@ -36,6 +40,10 @@ misused = record { bytes = []; status = Misused }
 unfoldable pub onAcceptance : Acceptance → Said → Said
 onAcceptance answer.Accepted s = s
 onAcceptance (answer.Refused r) s = refusedBy r
+
+unfoldable pub onSecond : Acceptance → Said → Said
+onSecond answer.Accepted s = s
+onSecond (answer.Refused r) s = secondRefused r
 
 unfoldable pub onExtent : Extent → (ℕ → Said) → Said
 onExtent (extent.Length k) f = f k

@@ -4,7 +4,7 @@ use refusal::Refusal;
 use report::put_refused;
 ghost use Prim.Native.Nat.{_≤_};
 ghost use lib.ListN.{length};
-ghost use Rattle.reply.specs.Reply.{refusedBy, Replied};
+ghost use Rattle.reply.specs.Reply.{refusedBy, secondRefused, Replied};
 ghost use Rattle.report.specs.Report.{mostRefusal};
 
 // The room that every reply is put into.
@@ -15,6 +15,8 @@ pub enum Status {
     Answered,
     // A call turned its input away.
     Refused,
+    // A call turned its second input away.
+    RefusedSecond,
     // The words are no command.
     Misused,
 }
@@ -34,5 +36,17 @@ pub fn put_refusal(room: &mut [u8], refusal: Refusal) -> Reply
     Reply {
         width,
         status: Status::Refused,
+    }
+}
+
+// The line of a refusal of the second input.
+pub fn put_second_refusal(room: &mut [u8], refusal: Refusal) -> Reply
+    requires { ⌜ mostRefusal ≤ length (now room) ⌝ }
+    ensures { λ r. ⌜ Replied (secondRefused refusal) (now (room .entry)) r (now (room .exit)) ⌝ }
+{
+    let width = put_refused(room, refusal);
+    Reply {
+        width,
+        status: Status::RefusedSecond,
     }
 }
