@@ -11,11 +11,11 @@ use Rattle.columns.specs.Acceptance.{acceptance}
 use Rattle.columns.specs.Longer.{NewLine}
 use Rattle.text.specs.Render.{render}
 use Rattle.report.specs.Report.{mostInput}
-use Rattle.reply.specs.Reply.{mostReply, Said}
+use Rattle.reply.specs.Reply.{Said}
 use Rattle.quote.specs.Quoted.{Quoted}
 use Rattle.quote.proofs.Quoted.{quoted}
-use Rattle.whereused.specs.WhereUsed.{usesSaid}
-use Rattle.whereused.proofs.Said.{uses-fit}
+use Rattle.whereused.specs.Listed.{UsesTold}
+use Rattle.whereused.proofs.Listed.{uses-told}
 use Rattle.amend.specs.Printed.{Printed, Reprices, Strikes, Restores, Appends}
 use Rattle.amend.proofs.Printed.{reprices, strikes, restores, appends}
 use Rattle.desk.specs.Priced.{PricesAsListed, PricesAgain}
@@ -29,9 +29,9 @@ desk-price = prices-as-listed
 pub desk-bill : (m : Measure) (c : Columns) (a : Entries) (v : ℕ) → Quoted m c a v
 desk-bill = quoted
 
--- "`uses PART`: the rows of the table that need the part": all of them fit the room of a reply
-pub desk-uses : (c : Columns) (v : ℕ) → acceptance c ≡ Accepted → length (usesSaid c v .bytes) ≤ mostReply
-desk-uses = uses-fit
+-- "`uses PART`: the rows of the table that need the part, as they stand in the text, each behind its line number"
+pub desk-uses : (c : Columns) (v : ℕ) → UsesTold c v
+desk-uses = uses-told
 
 -- "`reprice LINE FIGURE`, `strike LINE`, `restore LINE`, `append HEAD FIGURE PARTS…`: the text of the table as it then is"
 module _ (m : Measure) (c : Columns) (a : Entries) where

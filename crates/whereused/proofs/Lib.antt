@@ -1,3 +1,4 @@
 pub mod Rows
 pub mod Said
 pub mod Example
+pub mod Listed

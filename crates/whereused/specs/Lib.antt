@@ -1,1 +1,2 @@
 pub mod WhereUsed
+pub mod Listed
