@@ -14,6 +14,8 @@ use Rattle.report.specs.Report.{mostInput}
 use Rattle.reply.specs.Reply.{Said}
 use Rattle.quote.specs.Quoted.{Quoted}
 use Rattle.quote.proofs.Quoted.{quoted}
+use Rattle.sample.specs.Told.{MeanTold}
+use Rattle.sample.proofs.Told.{mean-told}
 use Rattle.whereused.specs.Listed.{UsesTold}
 use Rattle.whereused.proofs.Listed.{uses-told}
 use Rattle.amend.specs.Printed.{Printed, Reprices, Strikes, Restores, Appends}
@@ -32,6 +34,10 @@ desk-bill = quoted
 -- "`uses PART`: the rows of the table that need the part, as they stand in the text, each behind its line number"
 pub desk-uses : (c : Columns) (v : ℕ) → UsesTold c v
 desk-uses = uses-told
+
+-- "`mean`: mean and variance of the numbers on standard input, a line each"
+pub desk-mean : (xs : List ℕ) → MeanTold xs
+desk-mean = mean-told
 
 -- "`reprice LINE FIGURE`, `strike LINE`, `restore LINE`, `append HEAD FIGURE PARTS…`: the text of the table as it then is"
 module _ (m : Measure) (c : Columns) (a : Entries) where

@@ -1,3 +1,4 @@
 pub mod Laws
 pub mod Results
 pub mod Said
+pub mod Told
