@@ -2,15 +2,16 @@
 use mathlib.Core.Path.{_≡_, sym, _∙_, ap, subst}
 use mathlib.Core.List.{List}
 use mathlib.Core.Logic.{_≢_}
-use Prim.Native.Nat.{ℕ, zero, suc, _+_, _≤_, _<_}
+use Prim.Native.Nat.{ℕ, zero, suc, _+_, _*_, _≤_, _<_}
 use native.Mathlib.Omega.{arith}
 use native.Mathlib.Decide.{ℕ-discrete, decLe}
-use lib.ListN.{length, set, length-set, List·getD-eq-default}
+use lib.ListN.{length, set, drop, length-set, length-take, List·getD-eq-default}
 use lib.Seq.{getD-set-same, getD-set-other}
-use Rattle.provenance.specs.Pieces.{piecesAt, pieceLocal, AllUnder, empty, also}
+use Rattle.provenance.specs.Pieces.{mostPieces, piecesAt, pieceLocal, AllUnder, empty, also}
 use Rattle.provenance.proofs.Pieces.{pieces-local, local-under}
 use Rattle.columns.specs.Columns.{cell, tailOf}
-use Rattle.pieces.specs.Counting.{lists, choices, countOf, lastOf, Within, Countable, Linked, Staged}
+use Rattle.columns.specs.Acceptance.{mostVertices}
+use Rattle.pieces.specs.Counting.{lists, choices, countOf, lastOf, Low, Summable, Countable, Linked, Staged}
 use Rattle.pieces.proofs.Links.{last-le, last-above, last-is}
 
 -- a made vertex has its place
@@ -26,9 +27,14 @@ under-within depths empty i h = absurd (omega arith)
 under-within depths (also {v = v} a l rest) zero h = made-within depths v a
 under-within depths (also a l rest) (suc i) h = under-within depths rest i (omega arith)
 
--- what the chosen line of a made vertex lists has its place
-pub tail-within : {spans tails depths edges pieces : List ℕ} → Countable spans tails depths edges pieces → (v : ℕ) → 0 < cell depths v → Within (tailOf spans tails (cell edges v)) (length pieces)
-tail-within {depths = depths} c v a = record { each = λ i h. omega (arith, c .pieces-level, under-within depths (c .founded .under v a) i h) }
+-- what the chosen line of a made vertex lists can be added up
+pub tail-summable : {spans tails depths edges pieces : List ℕ} → Countable spans tails depths edges pieces → Low pieces → (v : ℕ) → 0 < cell depths v
+    → Summable (tailOf spans tails (cell edges v)) pieces
+tail-summable {spans} {tails} {depths} {edges} c l v a = record {
+  each = λ i h. omega (arith, c .pieces-level, under-within depths (c .founded .under v a) i h);
+  short = let e = cell edges v in omega (arith, c .placed v a .short, length-take (cell spans (2 * e + 1)) (drop (cell spans (2 * e)) tails));
+  low = l;
+}
 
 pub countable-still : {spans tails depths edges pieces pieces′ : List ℕ} → Countable spans tails depths edges pieces → length pieces′ ≡ length pieces → Countable spans tails depths edges pieces′
 countable-still c e = record { few = c .few; edges-level = c .edges-level; pieces-level = e ∙ c .pieces-level; shallow = c .shallow; placed = c .placed; founded = c .founded }
@@ -81,6 +87,24 @@ module _ {depths : List ℕ} {count : ℕ → ℕ} {d : ℕ} {pieces : List ℕ}
       lower : (u : ℕ) → u < length depths → cell depths u < d + 1 → Dec (cell depths u ≡ d) → cell pieces u ≡ count u
       lower u h l (yes e) = s .here u h e (omega arith)
       lower u h l (no n) = s .lower u h (omega arith)
+
+-- what stands in the column is a count, or the place of a vertex: never above the greatest count
+pub staged-low : {depths : List ℕ} {count : ℕ → ℕ} {d next : ℕ} {pieces : List ℕ} → length depths ≤ mostVertices → ((u : ℕ) → count u ≤ mostPieces)
+    → Staged depths count d next pieces → Low pieces
+staged-low {depths} {count} {d} {next} {pieces} few most s u = go (decLe (length depths) u)
+  where
+    linked : (x : ℕ) → u < length depths → cell pieces u ≡ lastOf (cell depths) x u → cell pieces u ≤ mostPieces
+    linked x h e = omega (arith, e, few, last-le (cell depths) x u)
+
+    placed : u < length depths → Dec (cell depths u ≡ d) → Dec (d ≤ cell depths u) → Dec (next ≤ u) → cell pieces u ≤ mostPieces
+    placed h (yes e) _ (yes l) = omega (arith, s .here u h e l, most u)
+    placed h (yes e) _ (no n) = linked d h (s .waiting u h e (omega arith))
+    placed h (no n) (yes g) _ = linked (cell depths u) h (s .deeper u h (omega arith))
+    placed h (no n) (no g) _ = omega (arith, s .lower u h (omega arith), most u)
+
+    go : Dec (length depths ≤ u) → cell pieces u ≤ mostPieces
+    go (yes h) = omega (arith, List·getD-eq-default pieces 0 {n = u} (omega (arith, s .level)))
+    go (no n) = placed (omega arith) (ℕ-discrete (cell depths u) d) (decLe d (cell depths u)) (decLe next u)
 
 -- the first depth
 pub staged-none : {depths last pieces : List ℕ} {layers : ℕ} (count : ℕ → ℕ) → Linked depths layers (length depths) last pieces → Staged depths count 0 (length depths) pieces

@@ -4,15 +4,17 @@ use mathlib.Core.Bool.{Bool, true, false}
 use mathlib.Core.List.{List}
 use Prim.Native.Nat.{ℕ, _+_, _≤_, _<_}
 use native.Mathlib.Omega.{arith}
-use native.Mathlib.Decide.{ℕ-discrete}
+use native.Mathlib.Decide.{ℕ-discrete, decLe}
 use lib.ListN.{length, List·getD-eq-default}
 use borrow.Author.Tests.{eq-eqb, ne-eqb}
-use Rattle.provenance.specs.Pieces.{pieceCount, pieceLocal, pieceColumn}
-use Rattle.provenance.proofs.Pieces.{below-is, column-unique, column-local}
+use Rattle.weights.proofs.Choice.{apart}
+use Rattle.provenance.specs.Pieces.{mostPieces, pieceCount, pieceLocal, pieceColumn}
+use Rattle.provenance.proofs.Pieces.{pieces-most, length-below, below-at, below-is, column-unique, column-local}
 use Rattle.columns.specs.Columns.{cell, tailOf}
 use Rattle.columns.specs.Same.{equal}
 use Rattle.columns.proofs.Same.{equal-refl, equal-true}
-use Rattle.pieces.specs.Counting.{lists, choices, countOf, counted, Countable, Staged}
+use Rattle.pieces.specs.Counting.{lists, choices, countOf, counted, Low, low, Countable, Staged}
+use Rattle.pieces.proofs.Sums.{is-low}
 
 module _ (tail : ℕ → List ℕ) (depth edge p : ℕ → ℕ) (v : ℕ) where
   pub local-unmade : depth v ≡ 0 → 0 ≡ pieceLocal tail depth edge p v
@@ -59,6 +61,28 @@ module _ {spans tails depths edges pieces : List ℕ} (c : Countable spans tails
       go true e =
           let holds = column-local (lists spans tails) (choices depths edges) (c .founded) (length depths) beyond v h in
           absurd (n (subst (λ (x : List ℕ). cell x v ≡ rule x v) (sym (equal-true pieces whole e)) holds))
+
+-- no count of the whole column is above the greatest, so a column that has such a count is wrong
+pub high-wrong : (spans tails depths edges pieces : List ℕ) → low pieces ≡ false → false ≡ equal pieces (counted spans tails depths edges)
+unfolding counted
+high-wrong spans tails depths edges pieces h = go (equal pieces whole) refl
+  where
+    whole : List ℕ
+    whole = pieceColumn (lists spans tails) (choices depths edges) (length depths)
+
+    whole-low : Low whole
+    whole-low v = at (decLe (length depths) v)
+      where
+        count : ℕ → ℕ
+        count = countOf spans tails depths edges
+
+        at : Dec (length depths ≤ v) → cell whole v ≤ mostPieces
+        at (yes k) = omega (arith, List·getD-eq-default whole 0 {n = v} (omega (arith, length-below count (length depths))))
+        at (no n) = omega (arith, below-at count (length depths) v (omega arith), pieces-most (lists spans tails) (choices depths edges) v)
+
+    go : (b : Bool) → equal pieces whole ≡ b → false ≡ b
+    go false e = refl
+    go true e = apart (sym h ∙ ap low (equal-true pieces whole e) ∙ is-low whole whole-low)
 
 -- one vertex more
 pub passed-more : (P : ℕ → Type 0) (v : ℕ) → ((u : ℕ) → u < v → P u) → P v → (u : ℕ) → u < v + 1 → P u

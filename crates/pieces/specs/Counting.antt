@@ -1,17 +1,18 @@
 -- What counting pieces reads of a table and its answers, what it asks of them, and what its passes leave. Assumes nothing: these are definitions.
 use mathlib.Core.Path.{_≡_}
-use mathlib.Core.List.{List, []}
+use mathlib.Core.Bool.{Bool, true, false}
+use mathlib.Core.List.{List, [], _∷_}
 use Prim.Native.Nat.{ℕ, zero, suc, _+_, _≤_, _<_}
 use lib.ListN.{length}
-use lib.Dec.{eqb}
+use lib.Dec.{eqb, leb}
 use Rattle.weights.specs.declared.Label.{Label}
 use Rattle.weights.specs.Choice.{pick}
 use Rattle.provenance.specs.Hypergraph.{Hypergraph}
 use Rattle.provenance.specs.BestFirst.{labels}
-use Rattle.provenance.specs.Pieces.{piecesAt, pieceColumn, Founded}
+use Rattle.provenance.specs.Pieces.{mostPieces, piecesAt, pieceColumn, Founded}
 use Rattle.tables.specs.Table.{hypergraph}
 use Rattle.columns.specs.Columns.{columns, answers, cell, tailOf}
-use Rattle.columns.specs.Acceptance.{mostVertices}
+use Rattle.columns.specs.Acceptance.{mostVertices, longestTail}
 use Rattle.columns.specs.Lent.{Placed}
 
 -- of a table and its answers, what counting reads: the lists of the lines, and the depth and the chosen line of each part
@@ -28,9 +29,19 @@ countOf spans tails depths edges = piecesAt (lists spans tails) (choices depths 
 unfoldable pub counted : (spans tails depths edges : List ℕ) → List ℕ
 counted spans tails depths edges = pieceColumn (lists spans tails) (choices depths edges) (length depths)
 
--- every listed vertex is below n
-pub record Within (tail : List ℕ) (n : ℕ) : Type 0 where
-  pub each : (i : ℕ) → i < length tail → cell tail i < n
+-- no count of a column is above the greatest; and whether that is so
+abbrev pub Low : List ℕ → Type 0
+Low pieces = (v : ℕ) → cell pieces v ≤ mostPieces
+
+unfoldable pub low : List ℕ → Bool
+low [] = true
+low (p ∷ ps) = pick (leb p mostPieces) (low ps) false
+
+-- the counts of a tail can be added up: few vertices that have their places, and low counts
+pub record Summable (tail pieces : List ℕ) : Type 0 where
+  pub each : (i : ℕ) → i < length tail → cell tail i < length pieces
+  pub short : length tail ≤ longestTail
+  pub low : Low pieces
 
 -- what counting asks: columns of one length, no depth above it, and of each made part that its chosen line has its place and lists only made parts that are less deep
 pub record Countable (spans tails depths edges pieces : List ℕ) : Type 0 where

@@ -4,30 +4,30 @@
 use weights::Hyperedge;
 use weights::Vertex;
 ghost use mathlib.Core.Path.{_≡_};
-ghost use Prim.Native.Nat.{_+_, _<_, _≤_, min};
+ghost use Prim.Native.Nat.{_<_, min};
 ghost use lib.ListN.{length};
 ghost use Rattle.provenance.specs.Pieces.{mostPieces, pieceCount, pieceLocal};
 ghost use Rattle.columns.specs.Columns.{cell, tailOf};
 ghost use Rattle.columns.specs.Same.{equal};
-ghost use Rattle.pieces.specs.Counting.{counted, countOf, Within, Countable, Linkable, Linked, Staged, Layer};
+ghost use Rattle.pieces.specs.Counting.{counted, countOf, low, Low, Summable, Countable, Linkable, Linked, Staged, Layer};
 
 // The greatest count; more are counted as so many.
 pub const MOST_PIECES: u64 = 1000000000;
 
-// The capped sum of two counts. The second may be anything.
-fn plus(a: u64, b: u64) -> u64
-    requires { ⌜ a ≤ mostPieces ⌝ }
-    ensures { λ r. ⌜ r ≡ min (a + b) mostPieces ⌝ }
+// At most the greatest count.
+fn capped(sum: u64) -> u64
+    ensures { λ r. ⌜ r ≡ min sum mostPieces ⌝ }
 {
-    if b > MOST_PIECES - a {
+    if sum > MOST_PIECES {
         return MOST_PIECES;
     }
-    a + b
+    sum
 }
 
-// What a tail counts by the counts in a column: 1 where it lists nothing.
+// What a tail counts by the counts in a column: 1 where it lists nothing. The sum of so few counts
+// does not wrap, and is capped at the end.
 fn count_tail(tail: &[u64], pieces: &[u64]) -> u64
-    requires { ⌜ Within (now tail) (length (now pieces)) ⌝ }
+    requires { ⌜ Summable (now tail) (now pieces) ⌝ }
     ensures { λ r. ⌜ r ≡ pieceCount (cell (now (pieces .entry))) (now (tail .entry)) ⌝ }
 {
     if tail.len() == 0 {
@@ -38,10 +38,10 @@ fn count_tail(tail: &[u64], pieces: &[u64]) -> u64
     while i < tail.len() {
         let v = tail[i] as usize;
         let count = pieces[v];
-        sum = plus(sum, count);
+        sum += count;
         i += 1;
     }
-    sum
+    capped(sum)
 }
 
 // What vertex v counts by the counts in a column: 0 where it is unmade.
@@ -53,7 +53,7 @@ fn count_vertex(
     edges: &[u64],
     pieces: &[u64],
 ) -> u64
-    requires { ⌜ (Countable (now spans) (now tails) (now depths) (now edges) (now pieces)) × (v .0 < length (now depths)) ⌝ }
+    requires { ⌜ (Countable (now spans) (now tails) (now depths) (now edges) (now pieces)) × (Low (now pieces)) × (v .0 < length (now depths)) ⌝ }
     ensures { λ r. ⌜ r ≡ pieceLocal (tailOf (now (spans .entry)) (now (tails .entry))) (cell (now (depths .entry))) (cell (now (edges .entry))) (cell (now (pieces .entry))) (v .0) ⌝ }
 {
     let i = v.0 as usize;
@@ -120,6 +120,20 @@ pub fn count_pieces(spans: &[u64], tails: &[u64], depths: &[u64], edges: &[u64],
     }
 }
 
+// Whether no count of a column is above the greatest.
+fn low(pieces: &[u64]) -> bool
+    ensures { λ r. ⌜ r ≡ low (now (pieces .entry)) ⌝ }
+{
+    let mut i = 0;
+    while i < pieces.len() {
+        if pieces[i] > MOST_PIECES {
+            return false;
+        }
+        i += 1;
+    }
+    true
+}
+
 // Whether `pieces` holds the piece counts, whoever wrote it.
 pub fn pieces_right(
     spans: &[u64],
@@ -131,6 +145,9 @@ pub fn pieces_right(
     requires { ⌜ Countable (now spans) (now tails) (now depths) (now edges) (now pieces) ⌝ }
     ensures { λ r. ⌜ r ≡ equal (now (pieces .entry)) (counted (now (spans .entry)) (now (tails .entry)) (now (depths .entry)) (now (edges .entry))) ⌝ }
 {
+    if !low(pieces) {
+        return false;
+    }
     let mut i = 0;
     while i < depths.len() {
         let lent = pieces[i];

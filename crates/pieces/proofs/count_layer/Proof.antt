@@ -4,8 +4,9 @@ use Prim.Native.Nat.{ℕ, suc, _-_, _<_}
 use native.Mathlib.Omega.{arith}
 use borrow.Author.Needs.{needs}
 use lib.ListN.{length}
-use Rattle.pieces.specs.Counting.{countOf, Countable, Staged}
-use Rattle.pieces.proofs.Stages.{countable-still, count-is, Walked, walked-from, walked-less, walked-more, walked-end}
+use Rattle.provenance.proofs.Pieces.{pieces-most}
+use Rattle.pieces.specs.Counting.{lists, choices, countOf, Countable, Staged}
+use Rattle.pieces.proofs.Stages.{countable-still, staged-low, count-is, Walked, walked-from, walked-less, walked-more, walked-end}
 use Rattle.pieces.proofs.count_layer.Statement.{statement}
 use Rattle.pieces.proofs.count_layer.Tie as tie
 
@@ -42,7 +43,10 @@ slice-read-next : tie.Need-slice-read-next Inv-loop μ-loop
 slice-read-next c = omega (arith, inside (c .before), c .before .before .loop .inv .staged .level)
 
 count-vertex-requires : tie.Need-count-vertex-requires Inv-loop μ-loop
-count-vertex-requires c κs = let k = c .before .before in (ready (k .before), inside k)
+count-vertex-requires c κs = let k = c .before .before in
+    let a = entry (k .before) .args in
+    let most = pieces-most (lists (a .spans .now) (a .tails .now)) (choices (a .depths .now) (a .edges .now)) in
+    (ready (k .before), staged-low (ready (k .before) .few) most (k .before .loop .inv .staged), inside k)
 
 mul-pieces : tie.Need-mul-pieces Inv-loop μ-loop
 mul-pieces c = let k = c .before .before .before in omega (arith, inside k, k .before .loop .inv .staged .level)

@@ -7,8 +7,8 @@ use lib.ListN.{length}
 use borrow.Author.Needs.{needs}
 use Rattle.provenance.specs.Pieces.{pieceCount}
 use Rattle.columns.specs.Columns.{cell}
-use Rattle.pieces.specs.Counting.{Within}
-use Rattle.pieces.proofs.Stages.{tail-within}
+use Rattle.pieces.specs.Counting.{Summable}
+use Rattle.pieces.proofs.Stages.{tail-summable}
 use Rattle.pieces.proofs.Whole.{local-unmade, local-made}
 use Rattle.pieces.proofs.count_vertex.Statement.{statement}
 use Rattle.pieces.proofs.count_vertex.Tie as tie
@@ -29,7 +29,7 @@ tail-of-requires c κs = let s = entry c in s .pre .0 .placed (s .args .v .0) (m
 count-tail-requires : tie.Need-count-tail-requires
 count-tail-requires c κs =
     let s = entry (c .before) in
-    subst (λ (t : List ℕ). Within t (length (s .args .pieces .now))) (sym (c .tail-of .ensures)) (tail-within (s .pre .0) (s .args .v .0) (made (c .before)))
+    subst (λ (t : List ℕ). Summable t (s .args .pieces .now)) (sym (c .tail-of .ensures)) (tail-summable (s .pre .0) (s .pre .1) (s .args .v .0) (made (c .before)))
 
 returns-2 : tie.Need-returns-2
 returns-2 c =
