@@ -13,11 +13,17 @@ slice-aggregate-summarize : tie.Need-slice-aggregate-summarize
 slice-aggregate-summarize c = sym (length-take-le _ _ (array-share-prefix-column (c .before)))
 
 returns : tie.Need-returns
-returns c = said-as _ _ _ (mean-refused _ _ _ (c .before .before .before .before .before .before .before .before .read-sample .ensures) _ (c .before .before .before .before .before .sample .given .1)) (c .before .before .put-refusal .ensures)
+returns c =
+    let p = c .before .before .before .before .before in
+    let q = p .before .before .before in
+    said-as _ _ _ (mean-refused _ _ _ (q .read-sample .ensures) _ (p .sample .given .1)) (c .before .before .put-refusal .ensures)
 
 returns-2 : tie.Need-returns-2
 returns-2 c =
-    said-as _ _ _ (mean-said _ _ _ (c .before .before .before .before .before .before .before .before .before .before .read-sample .ensures) _ _ (c .before .before .before .before .before .before .before .sample2 .given .1) (c .before .before .before .before .summarize .ensures)) (c .before .before .put-summary .ensures)
+    let p = c .before .before .before .before in
+    let q = p .before .before .before in
+    let r = q .before .before .before in
+    said-as _ _ _ (mean-said _ _ _ (r .read-sample .ensures) _ _ (q .sample2 .given .1) (p .summarize .ensures)) (c .before .before .put-summary .ensures)
 
 pub put-mean-spec : {M : Type 1} → statement M
 put-mean-spec =

@@ -14,16 +14,23 @@ returns-2 : tie.Need-returns-2
 returns-2 c = result-none _ _ (c .before .before .number-at .result) (c .before .before .before .if1 .left) (c .before .before .number-at .ensures) (c .enum-told .given .1)
 
 add-next : tie.Need-add-next
-add-next c = let a = c .before .before .before .before .before .before .before .before .args in
-    omega (arith, byte-within (a .text .now) (c .before .before .before .before .before .number-at .result .stop) 10 (sym (c .before .byte-at .ensures) ∙ c .if2 .taken) (omega arith))
+add-next c =
+    let p = c .before .before .before .before .before in
+    let q = p .before .before .before in
+    let a = q .args in
+    omega (arith, byte-within (a .text .now) (p .number-at .result .stop) 10 (sym (c .before .byte-at .ensures) ∙ c .if2 .taken) (omega arith))
 
 returns-3 : tie.Need-returns-3
 returns-3 c =
-    result-number _ _ (c .before .before .before .before .before .number-at .result) _ (c .before .before .before .before .before .before .if1 .left) (c .before .before .before .before .before .number-at .ensures) (c .before .before .before .found .given .1) (sym (c .before .byte-at .ensures) ∙ c .if2 .taken)
+    let p = c .before .before .before .before .before in
+    let q = p .before in
+    result-number _ _ (p .number-at .result) _ (q .if1 .left) (p .number-at .ensures) (c .before .before .before .found .given .1) (sym (c .before .byte-at .ensures) ∙ c .if2 .taken)
 
 returns-4 : tie.Need-returns-4
 returns-4 c =
-    result-other _ _ (c .before .before .before .before .before .number-at .result) _ (c .before .before .before .before .before .before .if1 .left) (c .before .before .before .before .before .number-at .ensures) (c .before .before .before .found .given .1) (λ e. c .if2 .left (c .before .byte-at .ensures ∙ e))
+    let p = c .before .before .before .before .before in
+    let q = p .before in
+    result-other _ _ (p .number-at .result) _ (q .if1 .left) (p .number-at .ensures) (c .before .before .before .found .given .1) (λ e. c .if2 .left (c .before .byte-at .ensures ∙ e))
 
 pub result-at-spec : {M : Type 1} → statement M
 result-at-spec =
