@@ -1,2 +1,3 @@
 pub mod Compare
 pub mod Pieces
+pub mod Compared

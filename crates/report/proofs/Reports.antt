@@ -133,11 +133,12 @@ module _ (m : Measure) (c : Columns) (a : acceptance c ≡ Accepted) where
       let r = length-replicate {A = ℕ} mostListed 0 in
       record { heads = omega arith; own = omega arith; strikes = omega arith; spans = omega arith; tails = omega arith }
 
-  rendered : readInput (render m c) ≡ filledWith (closed c) m (zeros mostEdges) (zeros mostEdges) (zeros mostEdges) (zeros (2 * mostEdges)) (zeros mostListed)
+  -- its text is read: the answer, and the table with its gaps closed
+  pub rendered : readInput (render m c) ≡ filledWith (closed c) m (zeros mostEdges) (zeros mostEdges) (zeros mostEdges) (zeros (2 * mostEdges)) (zeros mostListed)
   unfolding readInput
   rendered = read-rendered m c (zeros mostEdges) (zeros mostEdges) (zeros mostEdges) (zeros (2 * mostEdges)) (zeros mostListed) a roomy
 
-  columns-back : columnsRead (headerFor m (closed c)) (readInput (render m c)) ≡ closed c
+  pub columns-back : columnsRead (headerFor m (closed c)) (readInput (render m c)) ≡ closed c
   columns-back = ap (columnsRead (headerFor m (closed c))) rendered ∙ filled-back m c a (zeros mostEdges) (zeros mostEdges) (zeros mostEdges) (zeros (2 * mostEdges)) (zeros mostListed)
 
   -- of an accepted table whose text is short enough: the list of its best-first answers
