@@ -1,5 +1,5 @@
 -- What is said of two tables, in the paper's terms; and how long that can be. Assumes nothing.
-use mathlib.Core.Path.{_≡_, refl, sym, _∙_, ap, ap₂, subst}
+use mathlib.Core.Path.{_≡_, refl, sym, _∙_, ap, ap₂}
 use mathlib.Core.Bool.{Bool, true, false}
 use mathlib.Core.List.{List, [], _++_}
 use Prim.Native.Nat.{ℕ, zero, suc, max, _*_, _^_, _≤_, _<_}
@@ -15,7 +15,6 @@ use Rattle.weights.specs.declared.Weight.{Weight}
 use Rattle.weights.specs.declared.Entry.{Entry}
 use Rattle.weights.specs.Choice.{pick}
 use Rattle.weights.specs.Figures.{isOver}
-use Rattle.refusal.specs.declared.Refusal.the-variants.{InputLength}
 use Rattle.refusal.specs.declared.Acceptance.{Acceptance}
 use Rattle.refusal.specs.declared.Acceptance.the-variants.{Accepted}
 use Rattle.refusal.specs.declared.Header.{Header}
@@ -25,19 +24,19 @@ use Rattle.columns.specs.Columns.{Entries, Columns}
 use Rattle.columns.specs.Acceptance.{mostVertices, acceptance}
 use Rattle.columns.proofs.Accepted.{table-accepted}
 use Rattle.provenance.specs.BestFirst.{labels}
-use Rattle.settle.specs.Settling.{entriesOf, entryAt, settled}
+use Rattle.settle.specs.Settling.{entriesOf, entryAt}
 use Rattle.settle.proofs.Demands.{entries-sized, settled-result, settled-left}
 use Rattle.text.specs.Tables.{closed}
-use Rattle.text.specs.Render.{tailText, render}
+use Rattle.text.specs.Render.{render}
 use Rattle.text.proofs.Digits.{pick-by}
 use Rattle.readtable.specs.Read.{ReadOutcome, columnsRead}
 use Rattle.roundtrip.specs.RoundTrip.{headerFor}
 use Rattle.roundtrip.proofs.Refused.{unpermitted-is-refused}
-use Rattle.report.specs.Report.{mostInput, mostOutput, refusedLine, blankEntries, listedAs, readInput}
+use Rattle.report.specs.Report.{mostInput, blankEntries, listedAs, readInput}
 use Rattle.report.proofs.Closed.{entries-closed}
 use Rattle.report.proofs.Reports.{input-accepted, read-settles, report-short, report-fits, report-long, rendered, columns-back}
 use Rattle.report.proofs.Bounds.{answers-ranged}
-use Rattle.reply.specs.Reply.{mostReply, Said, answered, secondRefused, onSecond}
+use Rattle.reply.specs.Reply.{mostReply, Said, answered, onSecond}
 use Rattle.compare.specs.Compare.{mostRow, differenceRow, sameState, agrees, rowIf, differences, comparedWith, comparedSaid}
 use Rattle.compare.specs.Compared.{RowExactly, Absent, Compared, ComparedAny}
 use Rattle.compare.specs.Pieces.{half, rest}
@@ -213,6 +212,6 @@ unfolding readInput
 compared-any n a second = record {
   long = λ h. sym (long-said n a second h);
   wrong = λ h p. let u = unpermitted-is-refused second _ _ _ _ _ p in
-    (u .0, u .1, short-said n a second h ∙ ap (λ (z : ReadOutcome). comparedWith n a (z .answer) z) (u .2), u .3, u .4);
+      (u .0, u .1, short-said n a second h ∙ ap (λ (z : ReadOutcome). comparedWith n a (z .answer) z) (u .2), u .3, u .4);
   fits = λ few f. fits n a second few f;
 }

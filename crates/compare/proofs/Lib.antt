@@ -1,3 +1,4 @@
 pub mod Rows
 pub mod Said
 pub mod Compared
+pub mod Example
