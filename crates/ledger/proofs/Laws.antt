@@ -29,7 +29,35 @@ use Rattle.ledger.specs.declared.Events.{Events}
 use Rattle.ledger.specs.declared.Events.the-variants as events
 use Rattle.ledger.specs.declared.Record.{Record}
 use Rattle.ledger.specs.declared.Record.the-variants as read
-use Rattle.ledger.specs.Record.{numberLimit, wrongAt, stockWord, asNext, foundNumber, onSeparator, nextAt, Gathered, gathered, onNext, onFull, countsFrom, shelfIn, onPieces, piecesAt, onPart, eventAt, Listed, listed, onEvent, eventsFrom, Entered, entered, withCounts, onEvents, onCounts, readRecord}
+use Rattle.ledger.specs.Record.{
+  numberLimit,
+  wrongAt,
+  stockWord,
+  asNext,
+  foundNumber,
+  onSeparator,
+  nextAt,
+  Gathered,
+  gathered,
+  onNext,
+  onFull,
+  countsFrom,
+  shelfIn,
+  onPieces,
+  piecesAt,
+  onPart,
+  eventAt,
+  Listed,
+  listed,
+  onEvent,
+  eventsFrom,
+  Entered,
+  entered,
+  withCounts,
+  onEvents,
+  onCounts,
+  readRecord,
+}
 
 -- What stands behind a word or a number --------------------------------------------------------------------------------------------------------------
 

@@ -8,13 +8,19 @@ returns : tie.Need-returns
 returns c = outcome-written _ _ _ _ _ (received-is _ (c .before .before .before .before .before .if1 .taken)) (c .before .before .put-bytes .ensures)
 
 returns-2 : tie.Need-returns-2
-returns-2 c = outcome-written _ _ _ _ _ (issued-is _ (c .before .before .before .before .before .before .if1 .left) (c .before .before .before .before .before .if2 .taken)) (c .before .before .put-bytes2 .ensures)
+returns-2 c =
+    let t = c .before .before .before .before .before in
+    outcome-written _ _ _ _ _ (issued-is _ (t .before .if1 .left) (t .if2 .taken)) (c .before .before .put-bytes2 .ensures)
 
 returns-3 : tie.Need-returns-3
-returns-3 c = outcome-written _ _ _ _ _ (built-is _ (c .before .before .before .before .before .before .before .if1 .left) (c .before .before .before .before .before .before .if2 .left) (c .before .before .before .before .before .if3 .taken)) (c .before .before .put-bytes3 .ensures)
+returns-3 c =
+    let t = c .before .before .before .before .before in
+    outcome-written _ _ _ _ _ (built-is _ (t .before .before .if1 .left) (t .before .if2 .left) (t .if3 .taken)) (c .before .before .put-bytes3 .ensures)
 
 returns-4 : tie.Need-returns-4
-returns-4 c = outcome-written _ _ _ _ _ (late-is _ (c .before .before .before .before .before .before .before .if1 .left) (c .before .before .before .before .before .before .if2 .left) (c .before .before .before .before .before .if3 .left)) (c .before .before .put-bytes4 .ensures)
+returns-4 c =
+    let t = c .before .before .before .before .before in
+    outcome-written _ _ _ _ _ (late-is _ (t .before .before .if1 .left) (t .before .if2 .left) (t .if3 .left)) (c .before .before .put-bytes4 .ensures)
 
 pub put-outcome-spec : {M : Type 1} → statement M
 put-outcome-spec =

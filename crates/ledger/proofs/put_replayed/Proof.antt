@@ -17,18 +17,20 @@ came s = let a = s .args in entries (a .weights .now) (a .depths .now) (a .edges
 
 returns : tie.Need-returns
 returns c =
-    let p = c .before .before .before .before .before .before .before .before .before .before .before in
+    let k = c .before .before .before .before .before in
+    let p = k .before .before .before .before .before .before in
     let s = entry p in
     let a = s .args in
-    let q = replay-refused (a .measure) (tableOf s) (came s) (a .parts .now) (a .received .now) (a .stock .now) (a .outcomes .now) _ _ _ (p .replay .ensures) _ (c .before .before .before .before .before .a .given .1) in
+    let q = replay-refused (a .measure) (tableOf s) (came s) (a .parts .now) (a .received .now) (a .stock .now) (a .outcomes .now) _ _ _ (p .replay .ensures) _ (k .a .given .1) in
     said-as _ _ _ q (c .before .before .put-second-refusal .ensures)
 
 returns-2 : tie.Need-returns-2
 returns-2 c =
-    let p = c .before .before .before .before .before .before .before .before .before .before .before .before in
+    let k = c .before .before .before .before .before .before in
+    let p = k .before .before .before .before .before .before in
     let s = entry p in
     let a = s .args in
-    let q = replay-answered (a .measure) (tableOf s) (came s) (a .parts .now) (a .received .now) (a .stock .now) (a .outcomes .now) _ _ _ (p .replay .ensures) (c .before .before .before .before .before .before .enum-told .given .1) in
+    let q = replay-answered (a .measure) (tableOf s) (came s) (a .parts .now) (a .received .now) (a .stock .now) (a .outcomes .now) _ _ _ (p .replay .ensures) (k .enum-told .given .1) in
     said-as _ _ _ q (record { status = refl; written = c .before .before .put-ledger .ensures })
 
 pub put-replayed-spec : {M : Type 1} → statement M

@@ -32,7 +32,8 @@ returns-2 c =
     sym (counts-wrong _ _ (l .i) (l .column) _ (n .before .loop-test .taken) (sym (n .next-at .ensures) ∙ c .before .next2 .given .1)) ∙ l .inv .2
 
 -- the column is as long with one count more
-longer : (c : tie.After-known-told3 Inv-loop μ-loop) → let l = c .before .before .before .before .before .loop in length (set (l .column) (l .i) (c .before .next3 .given .0 .0)) ≡ length (l .column)
+longer : (c : tie.After-known-told3 Inv-loop μ-loop) →
+    let l = c .before .before .before .before .before .loop in length (set (l .column) (l .i) (c .before .next3 .given .0 .0)) ≡ length (l .column)
 longer c = let l = c .before .before .before .before .before .loop in length-set (l .column) (l .i) (c .before .next3 .given .0 .0)
 
 loop-less : tie.Need-loop-less Inv-loop μ-loop

@@ -33,15 +33,16 @@ returns c =
 
 add-wrong-at : tie.Need-add-wrong-at Inv-loop μ-loop
 add-wrong-at c =
-    let t = c .before .before .before .before .loop-test .taken in
-    let e = c .before .before .before .before .before .loop .inv .1 in
-    omega (arith, c .before .before .before .before .before .before .before .before .before .good)
+    let l = c .before .before .before .before in
+    let t = l .loop-test .taken in
+    let e = l .before .loop .inv .1 in
+    omega (arith, l .before .before .before .before .before .good)
 
 wrong-at-requires : tie.Need-wrong-at-requires Inv-loop μ-loop
 wrong-at-requires c κs =
     let n = c .before .before .before in
     let l = n .before .before .loop in
-    let s = c .before .before .before .before .before .before .before .before .before in
+    let s = n .before .before .before .before .before .before in
     let w = wrong-placed (s .args .text .now) (l .at) _ (sym (n .event-at .ensures) ∙ c .before .next .given .1) in
     let p = w .1 in
     (w .0, omega (arith, s .good))
@@ -54,15 +55,17 @@ returns-2 c =
     ∙ sym (events-wrong _ _ (l .i) (l .parts) (l .received) _ (n .before .loop-test .taken) (sym (n .event-at .ensures) ∙ c .before .before .next .given .1)) ∙ l .inv .4
 
 -- the columns are as long with one event more
-longer : (c : tie.After-known-told2 Inv-loop μ-loop) → let l = c .before .before .before .before .before .loop in length (set (l .parts) (l .i) (c .before .next2 .given .0 .0)) ≡ length (l .parts)
+longer : (c : tie.After-known-told2 Inv-loop μ-loop) →
+    let l = c .before .before .before .before .before .loop in length (set (l .parts) (l .i) (c .before .next2 .given .0 .0)) ≡ length (l .parts)
 longer c = let l = c .before .before .before .before .before .loop in length-set (l .parts) (l .i) (c .before .next2 .given .0 .0)
 
-longer-received : (c : tie.After-known-told2 Inv-loop μ-loop) → let l = c .before .before .before .before .before .loop in length (set (l .received) (l .i) (c .before .next2 .given .0 .1 .0)) ≡ length (l .received)
+longer-received : (c : tie.After-known-told2 Inv-loop μ-loop) →
+    let l = c .before .before .before .before .before .loop in length (set (l .received) (l .i) (c .before .next2 .given .0 .1 .0)) ≡ length (l .received)
 longer-received c = let l = c .before .before .before .before .before .loop in length-set (l .received) (l .i) (c .before .next2 .given .0 .1 .0)
 
 -- and event i has its place in the other one
 level : (c : tie.After-known-told2 Inv-loop μ-loop) → let l = c .before .before .before .before .before .loop in length (l .received) ≡ length (l .parts)
-level c = let l = c .before .before .before .before .before .loop in l .inv .2 ∙ c .before .before .before .before .before .before .before .before .before .pre .1 ∙ sym (l .inv .1)
+level c = let l = c .before .before .before .before .before in l .loop .inv .2 ∙ l .before .before .before .before .pre .1 ∙ sym (l .loop .inv .1)
 
 write-received : tie.Need-slice-write-received Inv-loop μ-loop
 write-received c = let t = c .before .before .before .before .loop-test .taken in let e = level c in search (needs, t, e)

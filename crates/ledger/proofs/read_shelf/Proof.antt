@@ -7,8 +7,8 @@ use Rattle.ledger.proofs.read_shelf.Tie as tie
 
 returns : tie.Need-returns
 returns c =
-    let a = c .before .before .before .before .before in
-    c .before .before .read-counts .ensures ∙ shelf-word _ _ (sym (a .agree .ensures) ∙ c .before .before .before .before .if1 .taken)
+    let t = c .before .before .before .before in
+    c .before .before .read-counts .ensures ∙ shelf-word _ _ (sym (t .before .agree .ensures) ∙ t .if1 .taken)
 
 returns-2 : tie.Need-returns-2
 returns-2 c = let a = c .before in shelf-other _ _ (a .agree .result) (a .agree .ensures) (c .if1 .left)
