@@ -81,6 +81,8 @@ appended-takes name.Append a b k t h = leb-true 2 k t
 appended-takes name.Check a b k t h = absurd h
 appended-takes name.CheckOrder a b k t h = absurd h
 appended-takes name.Mean a b k t h = absurd h
+appended-takes name.Compare a b k t h = absurd h
+appended-takes name.Replay a b k t h = absurd h
 appended-takes name.Unknown a b k t h = absurd h
 
 with-taken : (n : ℕ) (x : Name) (k : ℕ) (c : List ℕ) → k ≤ n → Taken n (lineWith x k c)

@@ -1,9 +1,9 @@
 -- Which command a line of words is: its name and its numbers, single spaces between them and an LF behind the last. Numbers are written as the table's text
 -- writes them. Assumes nothing: these are definitions.
 use Prim.Native.Nat.{ℕ, zero, suc, _+_}
-use mathlib.Core.Bool.{Bool, false}
+use mathlib.Core.Bool.{Bool, true, false}
 use mathlib.Core.List.{List, [], _∷_}
-use lib.ListN.{length, getD, set}
+use lib.ListN.{length, getD, set, replicate}
 use lib.Dec.{eqb, leb}
 use Rattle.weights.specs.Choice.{pick}
 use Rattle.cursor.specs.declared.Found.{Found}
@@ -21,7 +21,9 @@ use Rattle.command.specs.declared.Next.the-variants.{Number, End, Neithe
 use Rattle.command.specs.declared.Numbers.{Numbers}
 use Rattle.command.specs.declared.Numbers.the-variants.{Count, Wrong}
 use Rattle.command.specs.declared.Command.{Command}
-use Rattle.command.specs.declared.Question.the-variants.{Price, Bill, Reprice, Strike, Restore}
+use Rattle.command.specs.declared.Question.{Question}
+use Rattle.command.specs.declared.Question.the-variants.{Price, Bill, Reprice, Strike, Restore, Compare, Replay}
+use Rattle.command.specs.declared.Query.{Query}
 use Rattle.command.specs.declared.Query.the-variants.{Settled, Uses, Check, CheckOrder}
 use Rattle.command.specs.declared.Command.the-variants.{Ask, Append, Mean, Misuse}
 use Rattle.command.specs.declared.Line.{Line}
@@ -38,7 +40,7 @@ numberLimit = 1_000_000_000_000_000_000
 abbrev pub named : Name → ℕ → Named
 named x k = record { name = x; stop = k }
 
--- `price`, `bill`, `uses`, `reprice`, `strike`, `restore`, `append`, `check-order`, `check`, `mean`
+-- `price`, `bill`, `uses`, `reprice`, `strike`, `restore`, `append`, `check-order`, `check`, `mean`, `compare`, `replay`
 abbrev pub priceWord : List ℕ
 priceWord = 112 ∷ 114 ∷ 105 ∷ 99 ∷ 101 ∷ []
 
@@ -69,6 +71,12 @@ checkWord = 99 ∷ 104 ∷ 101 ∷ 99 ∷ 107 ∷ []
 abbrev pub meanWord : List ℕ
 meanWord = 109 ∷ 101 ∷ 97 ∷ 110 ∷ []
 
+abbrev pub compareWord : List ℕ
+compareWord = 99 ∷ 111 ∷ 109 ∷ 112 ∷ 97 ∷ 114 ∷ 101 ∷ []
+
+abbrev pub replayWord : List ℕ
+replayWord = 114 ∷ 101 ∷ 112 ∷ 108 ∷ 97 ∷ 121 ∷ []
+
 -- the first of them with which a line starts, and the place behind it; `check-order` before `check`, with which it starts
 abbrev pub nameIn : List ℕ → Named
 nameIn s =
@@ -82,7 +90,9 @@ nameIn s =
     (pick (eqb (agreeing checkOrderWord s) 11) (named name.CheckOrder 11)
     (pick (eqb (agreeing checkWord s) 5) (named name.Check 5)
     (pick (eqb (agreeing meanWord s) 4) (named name.Mean 4)
-    (named name.Unknown 0))))))))))
+    (pick (eqb (agreeing compareWord s) 7) (named name.Compare 7)
+    (pick (eqb (agreeing replayWord s) 6) (named name.Replay 6)
+    (named name.Unknown 0))))))))))))
 
 -- The numbers ----------------------------------------------------------------------------------------------------------------------------------
 
@@ -135,6 +145,8 @@ takes name.Append k = leb 2 k
 takes name.Check k = eqb k 0
 takes name.CheckOrder k = eqb k 0
 takes name.Mean k = eqb k 0
+takes name.Compare k = eqb k 0
+takes name.Replay k = eqb k 0
 takes name.Unknown k = false
 
 abbrev pub asCommand : Name → (a b : ℕ) → Command
@@ -148,6 +160,8 @@ asCommand name.Append a b = Append (record { 0 = a }) (record { 0 = b })
 asCommand name.Check a b = Ask Check
 asCommand name.CheckOrder a b = Ask CheckOrder
 asCommand name.Mean a b = Mean
+asCommand name.Compare a b = Ask (Settled Compare)
+asCommand name.Replay a b = Ask (Settled Replay)
 asCommand name.Unknown a b = Misuse
 
 abbrev pub line : Command → ℕ → Line
@@ -170,3 +184,30 @@ unfoldable pub commandIn : List ℕ → (column : List ℕ) → CommandLine
 commandIn s c =
     let g = numbersFrom (length c) s (nameIn s .stop) 0 c in
     record { line = lineOf (nameIn s .name) (g .numbers) (g .column); numbers = g .column }
+
+-- The second input -----------------------------------------------------------------------------------------------------------------------------
+
+-- `compare` and `replay` have one
+abbrev pub questionSecond : Question → Bool
+questionSecond Price = false
+questionSecond (Bill v) = false
+questionSecond (Reprice e w) = false
+questionSecond (Strike e) = false
+questionSecond (Restore e) = false
+questionSecond Compare = true
+questionSecond Replay = true
+
+abbrev pub querySecond : Query → Bool
+querySecond (Settled q) = questionSecond q
+querySecond (Uses v) = false
+querySecond Check = false
+querySecond CheckOrder = false
+
+abbrev pub commandSecond : Command → Bool
+commandSecond (Ask q) = querySecond q
+commandSecond (Append h w) = false
+commandSecond Mean = false
+commandSecond Misuse = false
+
+unfoldable pub takesSecond : (words : List ℕ) → Bool
+takesSecond words = commandSecond (commandIn words (replicate mostNumbers 0) .line .command)

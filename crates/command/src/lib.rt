@@ -10,7 +10,7 @@ use weights::Vertex;
 use weights::Weight;
 ghost use mathlib.Core.Path.{_≡_};
 ghost use lib.ListN.{length};
-ghost use Rattle.command.specs.Command.{mostNumbers, nameIn, foundNumber, nextAt, numbersFrom, takes, asCommand, lineWith, commandIn};
+ghost use Rattle.command.specs.Command.{mostNumbers, named, nameIn, foundNumber, nextAt, numbersFrom, takes, asCommand, lineWith, commandIn, questionSecond, querySecond, commandSecond, takesSecond};
 
 // The most numbers of a command: a head, a figure and sixteen listed vertices.
 pub const MOST_NUMBERS: usize = 18;
@@ -29,6 +29,8 @@ pub enum Name {
     Check,
     CheckOrder,
     Mean,
+    Compare,
+    Replay,
     Unknown,
 }
 
@@ -59,6 +61,8 @@ pub enum Question {
     Reprice(Hyperedge, Weight),
     Strike(Hyperedge),
     Restore(Hyperedge),
+    Compare,
+    Replay,
 }
 
 // What is asked of a table.
@@ -83,73 +87,52 @@ pub struct Line {
     pub count: usize,
 }
 
+fn as_named(name: Name, stop: usize) -> Named
+    ensures { λ r. ⌜ r ≡ named name stop ⌝ }
+{
+    Named { name, stop }
+}
+
 fn name_of(words: &[u8]) -> Named
     ensures { λ r. ⌜ r ≡ nameIn (now (words .entry)) ⌝ }
 {
     if agree(words, b"price") == 5 {
-        return Named {
-            name: Name::Price,
-            stop: 5,
-        };
+        return as_named(Name::Price, 5);
     }
     if agree(words, b"bill") == 4 {
-        return Named {
-            name: Name::Bill,
-            stop: 4,
-        };
+        return as_named(Name::Bill, 4);
     }
     if agree(words, b"uses") == 4 {
-        return Named {
-            name: Name::Uses,
-            stop: 4,
-        };
+        return as_named(Name::Uses, 4);
     }
     if agree(words, b"reprice") == 7 {
-        return Named {
-            name: Name::Reprice,
-            stop: 7,
-        };
+        return as_named(Name::Reprice, 7);
     }
     if agree(words, b"strike") == 6 {
-        return Named {
-            name: Name::Strike,
-            stop: 6,
-        };
+        return as_named(Name::Strike, 6);
     }
     if agree(words, b"restore") == 7 {
-        return Named {
-            name: Name::Restore,
-            stop: 7,
-        };
+        return as_named(Name::Restore, 7);
     }
     if agree(words, b"append") == 6 {
-        return Named {
-            name: Name::Append,
-            stop: 6,
-        };
+        return as_named(Name::Append, 6);
     }
     if agree(words, b"check-order") == 11 {
-        return Named {
-            name: Name::CheckOrder,
-            stop: 11,
-        };
+        return as_named(Name::CheckOrder, 11);
     }
     if agree(words, b"check") == 5 {
-        return Named {
-            name: Name::Check,
-            stop: 5,
-        };
+        return as_named(Name::Check, 5);
     }
     if agree(words, b"mean") == 4 {
-        return Named {
-            name: Name::Mean,
-            stop: 4,
-        };
+        return as_named(Name::Mean, 4);
     }
-    Named {
-        name: Name::Unknown,
-        stop: 0,
+    if agree(words, b"compare") == 7 {
+        return as_named(Name::Compare, 7);
     }
+    if agree(words, b"replay") == 6 {
+        return as_named(Name::Replay, 6);
+    }
+    as_named(Name::Unknown, 0)
 }
 
 // The number at a place.
@@ -221,6 +204,8 @@ fn takes(name: Name, count: usize) -> bool
         Name::Check => count == 0,
         Name::CheckOrder => count == 0,
         Name::Mean => count == 0,
+        Name::Compare => count == 0,
+        Name::Replay => count == 0,
         Name::Unknown => false,
     }
 }
@@ -242,6 +227,8 @@ fn as_command(name: Name, a: u64, b: u64) -> Command
         Name::Check => Command::Ask(Query::Check),
         Name::CheckOrder => Command::Ask(Query::CheckOrder),
         Name::Mean => Command::Mean,
+        Name::Compare => Command::Ask(Query::Settled(Question::Compare)),
+        Name::Replay => Command::Ask(Query::Settled(Question::Replay)),
         Name::Unknown => Command::Misuse,
     }
 }
@@ -275,4 +262,51 @@ pub fn read_command(words: &[u8], numbers: &mut [u64; MOST_NUMBERS]) -> Line
         },
         Numbers::Count(k) => line_with(name, k, numbers),
     }
+}
+
+// Whether what is asked has a second input.
+fn question_second(question: Question) -> bool
+    ensures { λ r. ⌜ r ≡ questionSecond question ⌝ }
+{
+    match question {
+        Question::Price => false,
+        Question::Bill(_) => false,
+        Question::Reprice(_, _) => false,
+        Question::Strike(_) => false,
+        Question::Restore(_) => false,
+        Question::Compare => true,
+        Question::Replay => true,
+    }
+}
+
+fn query_second(query: Query) -> bool
+    ensures { λ r. ⌜ r ≡ querySecond query ⌝ }
+{
+    match query {
+        Query::Settled(question) => question_second(question),
+        Query::Uses(_) => false,
+        Query::Check => false,
+        Query::CheckOrder => false,
+    }
+}
+
+fn command_second(command: Command) -> bool
+    ensures { λ r. ⌜ r ≡ commandSecond command ⌝ }
+{
+    match command {
+        Command::Ask(query) => query_second(query),
+        Command::Append(_, _) => false,
+        Command::Mean => false,
+        Command::Misuse => false,
+    }
+}
+
+// Whether the command of a line has a second input.
+pub fn takes_second(words: &[u8]) -> bool
+    ensures { λ r. ⌜ r ≡ takesSecond (now (words .entry)) ⌝ }
+{
+    let mut numbers = [0u64; MOST_NUMBERS];
+    let line = read_command(words, &mut numbers);
+    let command = line.command;
+    command_second(command)
 }
