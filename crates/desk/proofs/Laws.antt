@@ -32,6 +32,7 @@ use Rattle.report.proofs.Bounds.{answers-ranged, list-most}
 use Rattle.reply.specs.declared.Reply.{Reply}
 use Rattle.reply.specs.Reply.{mostReply, Said, answered, refusedBy, misused, onAcceptance, Replied}
 use Rattle.whereused.specs.WhereUsed.{usesSaid}
+use Rattle.compare.specs.Compare.{comparedSaid}
 use Rattle.topological.specs.Ordering.{orderedAcceptance}
 use Rattle.command.specs.declared.Command.{Command}
 use Rattle.command.specs.declared.Command.the-variants.{Ask, Append, Mean, Misuse}
@@ -41,8 +42,9 @@ use Rattle.command.proofs.Taken.{Taken, command-taken, column-kept}
 use Rattle.command.specs.declared.Query.{Query}
 use Rattle.command.specs.declared.Query.the-variants.{Settled, Uses, Check, CheckOrder}
 use Rattle.command.specs.declared.Question.{Question}
-use Rattle.command.specs.declared.Question.the-variants.{Price, Bill, Reprice, Strike, Restore}
+use Rattle.command.specs.declared.Question.the-variants.{Price, Bill, Reprice, Strike, Restore, Compare, Replay}
 use Rattle.sample.specs.Sample.{meanSaid}
+use Rattle.ledger.specs.Ledger.{replaySaid}
 use Rattle.quote.specs.Quote.{billSaid}
 use Rattle.amend.specs.Amend.{repricedSaid, strickenSaid, restoredSaid}
 use Rattle.desk.specs.Desk.{settledSaid, answerSaid, tableSaid, appendSaid, neededIn, readSaid, onReading, inputSaid, sampleSaid, commandSaid, deskSaid, Answered, Stands, Takes}
@@ -88,6 +90,9 @@ module _ (m : Measure) (c : Columns) (a : Entries) (room : ℕ) (s : Answered m 
   pub answers-long : length (a .labels .depths) ≡ c .vertices
   answers-long = ap (λ (z : Entries). length (z .labels .depths)) (s .answers) ∙ entries-sized m c (s .table) .labels .depths
 
+  pub few-parts : c .vertices ≤ mostVertices
+  few-parts = table-accepted c (s .table) .few
+
   pub list-fits : length (list a (length (a .labels .depths))) ≤ room
   list-fits =
       let l = list-most (entriesOf m c) (answers-ranged m c (s .table)) (c .vertices) (table-accepted c (s .table) .few) in
@@ -98,76 +103,82 @@ module _ (m : Measure) (c : Columns) (a : Entries) (room : ℕ) (s : Answered m 
 
 -- What is asked ----------------------------------------------------------------------------------------------------------------------------------
 
-module _ (q : Query) (m : Measure) (c : Columns) (a : Entries) where
-  pub uses-said : (v : Vertex) → q ≡ Uses v → usesSaid c (v .0) ≡ tableSaid q m c a
-  uses-said v e = ap (λ (z : Query). tableSaid z m c a) (sym e)
+module _ (s : List ℕ) (q : Query) (m : Measure) (c : Columns) (a : Entries) where
+  pub uses-said : (v : Vertex) → q ≡ Uses v → usesSaid c (v .0) ≡ tableSaid s q m c a
+  uses-said v e = ap (λ (z : Query). tableSaid s z m c a) (sym e)
 
-  pub check-said : (x : Acceptance) → q ≡ Check → x ≡ acceptance c → onAcceptance x (answered []) ≡ tableSaid q m c a
-  check-said x e h = ap (λ (z : Acceptance). onAcceptance z (answered [])) h ∙ ap (λ (z : Query). tableSaid z m c a) (sym e)
+  pub check-said : (x : Acceptance) → q ≡ Check → x ≡ acceptance c → onAcceptance x (answered []) ≡ tableSaid s q m c a
+  check-said x e h = ap (λ (z : Acceptance). onAcceptance z (answered [])) h ∙ ap (λ (z : Query). tableSaid s z m c a) (sym e)
 
-  pub order-said : (x : Acceptance) → q ≡ CheckOrder → x ≡ orderedAcceptance c → onAcceptance x (answered []) ≡ tableSaid q m c a
-  order-said x e h = ap (λ (z : Acceptance). onAcceptance z (answered [])) h ∙ ap (λ (z : Query). tableSaid z m c a) (sym e)
+  pub order-said : (x : Acceptance) → q ≡ CheckOrder → x ≡ orderedAcceptance c → onAcceptance x (answered []) ≡ tableSaid s q m c a
+  order-said x e h = ap (λ (z : Acceptance). onAcceptance z (answered [])) h ∙ ap (λ (z : Query). tableSaid s z m c a) (sym e)
 
-  pub settled-said : (y : Question) → q ≡ Settled y → settledSaid m c a (answerSaid y m c) ≡ tableSaid q m c a
-  settled-said y e = ap (λ (z : Query). tableSaid z m c a) (sym e)
+  pub settled-said : (y : Question) → q ≡ Settled y → settledSaid m c a (answerSaid s y m c) ≡ tableSaid s q m c a
+  settled-said y e = ap (λ (z : Query). tableSaid s z m c a) (sym e)
 
-module _ (q : Question) (m : Measure) (c : Columns) (a : Entries) where
-  pub price-said : (room : ℕ) → q ≡ Price → Answered m c a room → answered (list a (length (a .labels .depths))) ≡ answerSaid q m c a
-  price-said room e s = ap (λ (k : ℕ). answered (list a k)) (answers-long m c a room s) ∙ ap (λ (z : Question). answerSaid z m c a) (sym e)
+module _ (s : List ℕ) (q : Question) (m : Measure) (c : Columns) (a : Entries) where
+  pub price-said : (room : ℕ) → q ≡ Price → Answered m c a room → answered (list a (length (a .labels .depths))) ≡ answerSaid s q m c a
+  price-said room e h = ap (λ (k : ℕ). answered (list a k)) (answers-long m c a room h) ∙ ap (λ (z : Question). answerSaid s z m c a) (sym e)
 
-  pub bill-said : (v : Vertex) → q ≡ Bill v → billSaid m c a (v .0) ≡ answerSaid q m c a
-  bill-said v e = ap (λ (z : Question). answerSaid z m c a) (sym e)
+  pub bill-said : (v : Vertex) → q ≡ Bill v → billSaid m c a (v .0) ≡ answerSaid s q m c a
+  bill-said v e = ap (λ (z : Question). answerSaid s z m c a) (sym e)
 
-  pub reprice-said : (e : Hyperedge) (w : Weight) → q ≡ Reprice e w → repricedSaid m c a (e .0) (w .0) ≡ answerSaid q m c a
-  reprice-said e w h = ap (λ (z : Question). answerSaid z m c a) (sym h)
+  pub reprice-said : (e : Hyperedge) (w : Weight) → q ≡ Reprice e w → repricedSaid m c a (e .0) (w .0) ≡ answerSaid s q m c a
+  reprice-said e w h = ap (λ (z : Question). answerSaid s z m c a) (sym h)
 
-  pub strike-said : (e : Hyperedge) → q ≡ Strike e → strickenSaid m c a (e .0) ≡ answerSaid q m c a
-  strike-said e h = ap (λ (z : Question). answerSaid z m c a) (sym h)
+  pub strike-said : (e : Hyperedge) → q ≡ Strike e → strickenSaid m c a (e .0) ≡ answerSaid s q m c a
+  strike-said e h = ap (λ (z : Question). answerSaid s z m c a) (sym h)
 
-  pub restore-said : (e : Hyperedge) → q ≡ Restore e → restoredSaid m c a (e .0) ≡ answerSaid q m c a
-  restore-said e h = ap (λ (z : Question). answerSaid z m c a) (sym h)
+  pub restore-said : (e : Hyperedge) → q ≡ Restore e → restoredSaid m c a (e .0) ≡ answerSaid s q m c a
+  restore-said e h = ap (λ (z : Question). answerSaid s z m c a) (sym h)
+
+  pub compare-said : q ≡ Compare → comparedSaid (c .vertices) a s ≡ answerSaid s q m c a
+  compare-said h = ap (λ (z : Question). answerSaid s z m c a) (sym h)
+
+  pub replay-said : q ≡ Replay → replaySaid m c a s ≡ answerSaid s q m c a
+  replay-said h = ap (λ (z : Question). answerSaid s z m c a) (sym h)
 
 -- answer columns of n zeros, taken from larger ones
-pub blank-said : (q : Query) (m : Measure) (c : Columns) (n : ℕ) → n ≤ mostVertices
-    → tableSaid q m c (entries (take n (replicate mostVertices 0)) (take n (replicate mostVertices 0)) (take n (replicate mostVertices 0)) (take n (replicate mostVertices 0)))
-    ≡ tableSaid q m c (blankEntries n)
-blank-said q m c n h = ap (λ (z : List ℕ). tableSaid q m c (entries z z z z)) (take-zeros n mostVertices h)
+pub blank-said : (s : List ℕ) (q : Query) (m : Measure) (c : Columns) (n : ℕ) → n ≤ mostVertices
+    → tableSaid s q m c (entries (take n (replicate mostVertices 0)) (take n (replicate mostVertices 0)) (take n (replicate mostVertices 0)) (take n (replicate mostVertices 0)))
+    ≡ tableSaid s q m c (blankEntries n)
+blank-said s q m c n h = ap (λ (z : List ℕ). tableSaid s q m c (entries z z z z)) (take-zeros n mostVertices h)
 
 -- By the command ---------------------------------------------------------------------------------------------------------------------------------
 
-module _ (y : Command) (k : ℕ) (ns : List ℕ) (g : Header) (x : ReadOutcome) where
-  pub ask-said : (q : Query) → y ≡ Ask q → tableSaid q (g .measure) (columnsRead g x) (blankEntries (g .vertices)) ≡ readSaid y k ns g x
-  ask-said q e = ap (λ (z : Command). readSaid z k ns g x) (sym e)
+module _ (s : List ℕ) (y : Command) (k : ℕ) (ns : List ℕ) (g : Header) (x : ReadOutcome) where
+  pub ask-said : (q : Query) → y ≡ Ask q → tableSaid s q (g .measure) (columnsRead g x) (blankEntries (g .vertices)) ≡ readSaid s y k ns g x
+  ask-said q e = ap (λ (z : Command). readSaid s z k ns g x) (sym e)
 
-  pub append-said : (h : Vertex) (w : Weight) → y ≡ Append h w → appendSaid g x (newLine (h .0) (w .0) standing (neededIn k ns)) ≡ readSaid y k ns g x
-  append-said h w e = ap (λ (z : Command). readSaid z k ns g x) (sym e)
+  pub append-said : (h : Vertex) (w : Weight) → y ≡ Append h w → appendSaid g x (newLine (h .0) (w .0) standing (neededIn k ns)) ≡ readSaid s y k ns g x
+  append-said h w e = ap (λ (z : Command). readSaid s z k ns g x) (sym e)
 
-  pub mean-misused : y ≡ Mean → misused ≡ readSaid y k ns g x
-  mean-misused e = ap (λ (z : Command). readSaid z k ns g x) (sym e)
+  pub mean-misused : y ≡ Mean → misused ≡ readSaid s y k ns g x
+  mean-misused e = ap (λ (z : Command). readSaid s z k ns g x) (sym e)
 
-  pub misuse-said : y ≡ Misuse → misused ≡ readSaid y k ns g x
-  misuse-said e = ap (λ (z : Command). readSaid z k ns g x) (sym e)
+  pub misuse-said : y ≡ Misuse → misused ≡ readSaid s y k ns g x
+  misuse-said e = ap (λ (z : Command). readSaid s z k ns g x) (sym e)
 
 -- By the input -----------------------------------------------------------------------------------------------------------------------------------
 
-module _ (y : Command) (k : ℕ) (ns input : List ℕ) where
-  pub long-said : mostInput < length input → refusedBy InputLength ≡ inputSaid y k ns input
+module _ (s : List ℕ) (y : Command) (k : ℕ) (ns input : List ℕ) where
+  pub long-said : mostInput < length input → refusedBy InputLength ≡ inputSaid s y k ns input
   unfolding inputSaid
   long-said h = rw (lt-ltb mostInput (length input) h)
 
-  short-said : length input ≤ mostInput → inputSaid y k ns input ≡ onReading y k ns (readInput input .answer) (readInput input)
+  short-said : length input ≤ mostInput → inputSaid s y k ns input ≡ onReading s y k ns (readInput input .answer) (readInput input)
   unfolding inputSaid
   short-said h = rw (le-ltb mostInput (length input) h)
 
-  module _ (short : length input ≤ mostInput) (a : Reading) (h o ms s t : List ℕ) (q : readOutcome a h o ms s t ≡ readInput input) where
-    by-reading : onReading y k ns a (readOutcome a h o ms s t) ≡ inputSaid y k ns input
-    by-reading = ap (λ (z : ReadOutcome). onReading y k ns (z .answer) z) q ∙ sym (short-said short)
+  module _ (short : length input ≤ mostInput) (a : Reading) (h o ms sp t : List ℕ) (q : readOutcome a h o ms sp t ≡ readInput input) where
+    by-reading : onReading s y k ns a (readOutcome a h o ms sp t) ≡ inputSaid s y k ns input
+    by-reading = ap (λ (z : ReadOutcome). onReading s y k ns (z .answer) z) q ∙ sym (short-said short)
 
-    pub unread-said : (r : Refusal) → a ≡ reading.Refused r → refusedBy r ≡ inputSaid y k ns input
-    unread-said r e = ap (λ (z : Reading). onReading y k ns z (readOutcome a h o ms s t)) (sym e) ∙ by-reading
+    pub unread-said : (r : Refusal) → a ≡ reading.Refused r → refusedBy r ≡ inputSaid s y k ns input
+    unread-said r e = ap (λ (z : Reading). onReading s y k ns z (readOutcome a h o ms sp t)) (sym e) ∙ by-reading
 
-    pub table-said : (g : Header) → a ≡ reading.Table g → readSaid y k ns g (readOutcome (reading.Table g) h o ms s t) ≡ inputSaid y k ns input
-    table-said g e = ap (λ (z : Reading). onReading y k ns z (readOutcome z h o ms s t)) (sym e) ∙ by-reading
+    pub table-said : (g : Header) → a ≡ reading.Table g → readSaid s y k ns g (readOutcome (reading.Table g) h o ms sp t) ≡ inputSaid s y k ns input
+    table-said g e = ap (λ (z : Reading). onReading s y k ns z (readOutcome z h o ms sp t)) (sym e) ∙ by-reading
 
 -- a sample's text
 pub long-sample : (input : List ℕ) → mostInput < length input → refusedBy InputLength ≡ sampleSaid input
@@ -190,24 +201,24 @@ input-stands input short a h o ms s t q g e =
 
 -- By the words -----------------------------------------------------------------------------------------------------------------------------------
 
-module _ (words input : List ℕ) (l : Line) (ns : List ℕ) (q : record { line = l; numbers = ns } ≡ commandIn words (replicate mostNumbers 0)) where
-  by-line : commandSaid (l .command) (l .count) ns input ≡ deskSaid words input
+module _ (words input s : List ℕ) (l : Line) (ns : List ℕ) (q : record { line = l; numbers = ns } ≡ commandIn words (replicate mostNumbers 0)) where
+  by-line : commandSaid s (l .command) (l .count) ns input ≡ deskSaid words input s
   unfolding deskSaid
-  by-line = ap (λ (z : CommandLine). commandSaid (z .line .command) (z .line .count) (z .numbers) input) q
+  by-line = ap (λ (z : CommandLine). commandSaid s (z .line .command) (z .line .count) (z .numbers) input) q
 
-  pub words-misused : l .command ≡ Misuse → misused ≡ deskSaid words input
-  words-misused e = ap (λ (z : Command). commandSaid z (l .count) ns input) (sym e) ∙ by-line
+  pub words-misused : l .command ≡ Misuse → misused ≡ deskSaid words input s
+  words-misused e = ap (λ (z : Command). commandSaid s z (l .count) ns input) (sym e) ∙ by-line
 
-  pub words-mean : l .command ≡ Mean → sampleSaid input ≡ deskSaid words input
-  words-mean e = ap (λ (z : Command). commandSaid z (l .count) ns input) (sym e) ∙ by-line
+  pub words-mean : l .command ≡ Mean → sampleSaid input ≡ deskSaid words input s
+  words-mean e = ap (λ (z : Command). commandSaid s z (l .count) ns input) (sym e) ∙ by-line
 
-  pub words-ask : (x : Query) → l .command ≡ Ask x → inputSaid (l .command) (l .count) ns input ≡ deskSaid words input
+  pub words-ask : (x : Query) → l .command ≡ Ask x → inputSaid s (l .command) (l .count) ns input ≡ deskSaid words input s
   words-ask x e =
-      ap (λ (z : Command). inputSaid z (l .count) ns input) e ∙ ap (λ (z : Command). commandSaid z (l .count) ns input) (sym e) ∙ by-line
+      ap (λ (z : Command). inputSaid s z (l .count) ns input) e ∙ ap (λ (z : Command). commandSaid s z (l .count) ns input) (sym e) ∙ by-line
 
-  pub words-append : (h : Vertex) (w : Weight) → l .command ≡ Append h w → inputSaid (l .command) (l .count) ns input ≡ deskSaid words input
+  pub words-append : (h : Vertex) (w : Weight) → l .command ≡ Append h w → inputSaid s (l .command) (l .count) ns input ≡ deskSaid words input s
   words-append h w e =
-      ap (λ (z : Command). inputSaid z (l .count) ns input) e ∙ ap (λ (z : Command). commandSaid z (l .count) ns input) (sym e) ∙ by-line
+      ap (λ (z : Command). inputSaid s z (l .count) ns input) e ∙ ap (λ (z : Command). commandSaid s z (l .count) ns input) (sym e) ∙ by-line
 
   pub numbers-long : mostNumbers ≡ length ns
   numbers-long =

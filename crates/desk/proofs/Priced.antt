@@ -34,10 +34,10 @@ unfolding onAcceptance
 by-answer n answer.Accepted a = refl
 by-answer n (answer.Refused r) a = refl
 
-by-reading : (k : ℕ) (ns : List ℕ) (a : Reading) (x : ReadOutcome) → onReading (Ask (Settled Price)) k ns a x .bytes ≡ listedAs a x
+by-reading : (s : List ℕ) (k : ℕ) (ns : List ℕ) (a : Reading) (x : ReadOutcome) → onReading s (Ask (Settled Price)) k ns a x .bytes ≡ listedAs a x
 unfolding listedAs settledSaid
-by-reading k ns (reading.Refused r) x = refl
-by-reading k ns (reading.Table g) x =
+by-reading s k ns (reading.Refused r) x = refl
+by-reading s k ns (reading.Table g) x =
     let o = settled (g .measure) (columnsRead g x) (blankEntries (g .vertices)) in
     by-answer (g .vertices) (o .result) (o .left)
 
@@ -45,12 +45,12 @@ by-length : (b : Bool) (s : Said) (t : List ℕ) → s .bytes ≡ t → pick b (
 by-length true s t e = refl
 by-length false s t e = e
 
-pub prices-as-listed : (input : List ℕ) → PricesAsListed input
+pub prices-as-listed : (input second : List ℕ) → PricesAsListed input second
 unfolding deskSaid inputSaid report
-prices-as-listed input =
-    ap (λ (z : CommandLine). commandSaid (z .line .command) (z .line .count) (z .numbers) input .bytes) price-line
-    ∙ by-length (ltb mostInput (length input)) (onReading (Ask (Settled Price)) 0 (replicate mostNumbers 0) (readInput input .answer) (readInput input)) (listed (readInput input))
-    (by-reading 0 (replicate mostNumbers 0) (readInput input .answer) (readInput input))
+prices-as-listed input second =
+    ap (λ (z : CommandLine). commandSaid second (z .line .command) (z .line .count) (z .numbers) input .bytes) price-line
+    ∙ by-length (ltb mostInput (length input)) (onReading second (Ask (Settled Price)) 0 (replicate mostNumbers 0) (readInput input .answer) (readInput input)) (listed (readInput input))
+    (by-reading second 0 (replicate mostNumbers 0) (readInput input .answer) (readInput input))
 
 pub prices-again : (m : Measure) (t : Columns) (s : Said) → Printed m t s → acceptance t ≡ answer.Accepted → length (render m t) ≤ mostInput → PricesAgain m t s
 prices-again m t s p a h = ap (λ (z : Said). report (z .bytes)) (p .fits h) ∙ report-rendered m t a h

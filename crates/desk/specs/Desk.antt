@@ -1,4 +1,4 @@
--- What the program for the desks prints, and its status, by the line of its words and its input. Assumes nothing: these are definitions.
+-- What the program for the desks prints, and its status, by the line of its words, its input and a second one. Assumes nothing: these are definitions.
 use Prim.Native.Nat.{ℕ, _*_, _-_, _≤_}
 use mathlib.Core.Path.{_≡_}
 use mathlib.Core.List.{List, []}
@@ -30,11 +30,13 @@ use Rattle.command.specs.declared.Command.the-variants.{Ask, Append, Mean, Misu
 use Rattle.command.specs.declared.Query.{Query}
 use Rattle.command.specs.declared.Query.the-variants.{Settled, Uses, Check, CheckOrder}
 use Rattle.command.specs.declared.Question.{Question}
-use Rattle.command.specs.declared.Question.the-variants.{Price, Bill, Reprice, Strike, Restore}
+use Rattle.command.specs.declared.Question.the-variants.{Price, Bill, Reprice, Strike, Restore, Compare, Replay}
 use Rattle.command.specs.Command.{mostNumbers, CommandLine, commandIn}
 use Rattle.sample.specs.Sample.{meanSaid}
+use Rattle.ledger.specs.Ledger.{replaySaid}
 use Rattle.quote.specs.Quote.{billSaid}
 use Rattle.whereused.specs.WhereUsed.{usesSaid}
+use Rattle.compare.specs.Compare.{comparedSaid}
 use Rattle.amend.specs.Amend.{repricedSaid, strickenSaid, restoredSaid, appendedSaid}
 
 -- the table that was read is settled into answer columns of zeros
@@ -59,54 +61,56 @@ appendSaid g x l =
     (λ a. indexedSaid g x a (replicate (2 * mostVertices) 0) (replicate mostListed 0) l)
 
 -- of a table and its answers
-abbrev pub answerSaid : Question → Measure → Columns → Entries → Said
-answerSaid Price m c a = answered (list a (c .vertices))
-answerSaid (Bill v) m c a = billSaid m c a (v .0)
-answerSaid (Reprice e w) m c a = repricedSaid m c a (e .0) (w .0)
-answerSaid (Strike e) m c a = strickenSaid m c a (e .0)
-answerSaid (Restore e) m c a = restoredSaid m c a (e .0)
+abbrev pub answerSaid : (second : List ℕ) → Question → Measure → Columns → Entries → Said
+answerSaid s Price m c a = answered (list a (c .vertices))
+answerSaid s (Bill v) m c a = billSaid m c a (v .0)
+answerSaid s (Reprice e w) m c a = repricedSaid m c a (e .0) (w .0)
+answerSaid s (Strike e) m c a = strickenSaid m c a (e .0)
+answerSaid s (Restore e) m c a = restoredSaid m c a (e .0)
+answerSaid s Compare m c a = comparedSaid (c .vertices) a s
+answerSaid s Replay m c a = replaySaid m c a s
 
 -- of a table, with answer columns to settle it into: `check` and `check-order` print nothing on acceptance
-abbrev pub tableSaid : Query → Measure → Columns → Entries → Said
-tableSaid (Settled q) m c a = settledSaid m c a (answerSaid q m c)
-tableSaid (Uses v) m c a = usesSaid c (v .0)
-tableSaid Check m c a = onAcceptance (acceptance c) (answered [])
-tableSaid CheckOrder m c a = onAcceptance (orderedAcceptance c) (answered [])
+abbrev pub tableSaid : (second : List ℕ) → Query → Measure → Columns → Entries → Said
+tableSaid s (Settled q) m c a = settledSaid m c a (answerSaid s q m c)
+tableSaid s (Uses v) m c a = usesSaid c (v .0)
+tableSaid s Check m c a = onAcceptance (acceptance c) (answered [])
+tableSaid s CheckOrder m c a = onAcceptance (orderedAcceptance c) (answered [])
 
 -- the parts that an appended line lists: a command's numbers from the third on
 abbrev pub neededIn : (count : ℕ) → List ℕ → List ℕ
 neededIn k ns = take (k - 2) (drop 2 ns)
 
 -- of a table that was read: a command with so many numbers
-abbrev pub readSaid : Command → (count : ℕ) → (numbers : List ℕ) → Header → ReadOutcome → Said
-readSaid (Ask q) k ns g x = tableSaid q (g .measure) (columnsRead g x) (blankEntries (g .vertices))
-readSaid (Append h w) k ns g x = appendSaid g x (newLine (h .0) (w .0) standing (neededIn k ns))
-readSaid Mean k ns g x = misused
-readSaid Misuse k ns g x = misused
+abbrev pub readSaid : (second : List ℕ) → Command → (count : ℕ) → (numbers : List ℕ) → Header → ReadOutcome → Said
+readSaid s (Ask q) k ns g x = tableSaid s q (g .measure) (columnsRead g x) (blankEntries (g .vertices))
+readSaid s (Append h w) k ns g x = appendSaid g x (newLine (h .0) (w .0) standing (neededIn k ns))
+readSaid s Mean k ns g x = misused
+readSaid s Misuse k ns g x = misused
 
 -- by what reading the input returned
-abbrev pub onReading : Command → (count : ℕ) → (numbers : List ℕ) → Reading → ReadOutcome → Said
-onReading y k ns (reading.Refused r) x = refusedBy r
-onReading y k ns (reading.Table g) x = readSaid y k ns g x
+abbrev pub onReading : (second : List ℕ) → Command → (count : ℕ) → (numbers : List ℕ) → Reading → ReadOutcome → Said
+onReading s y k ns (reading.Refused r) x = refusedBy r
+onReading s y k ns (reading.Table g) x = readSaid s y k ns g x
 
 -- 17 comes first, then 14
-unfoldable pub inputSaid : Command → (count : ℕ) → (numbers input : List ℕ) → Said
-inputSaid y k ns input = pick (ltb mostInput (length input)) (refusedBy InputLength) (onReading y k ns (readInput input .answer) (readInput input))
+unfoldable pub inputSaid : (second : List ℕ) → Command → (count : ℕ) → (numbers input : List ℕ) → Said
+inputSaid s y k ns input = pick (ltb mostInput (length input)) (refusedBy InputLength) (onReading s y k ns (readInput input .answer) (readInput input))
 
 -- `mean` takes its input for a sample's text and not for a table's
 unfoldable pub sampleSaid : List ℕ → Said
 sampleSaid input = pick (ltb mostInput (length input)) (refusedBy InputLength) (meanSaid input)
 
 -- words that are no command are told before the input is looked at
-abbrev pub commandSaid : Command → (count : ℕ) → (numbers input : List ℕ) → Said
-commandSaid (Ask q) k ns input = inputSaid (Ask q) k ns input
-commandSaid (Append h w) k ns input = inputSaid (Append h w) k ns input
-commandSaid Mean k ns input = sampleSaid input
-commandSaid Misuse k ns input = misused
+abbrev pub commandSaid : (second : List ℕ) → Command → (count : ℕ) → (numbers input : List ℕ) → Said
+commandSaid s (Ask q) k ns input = inputSaid s (Ask q) k ns input
+commandSaid s (Append h w) k ns input = inputSaid s (Append h w) k ns input
+commandSaid s Mean k ns input = sampleSaid input
+commandSaid s Misuse k ns input = misused
 
--- the whole
-unfoldable pub deskSaid : (words input : List ℕ) → Said
-deskSaid words input = let l = commandIn words (replicate mostNumbers 0) in commandSaid (l .line .command) (l .line .count) (l .numbers) input
+-- the whole; a second input is looked at by `compare` and `replay` alone
+unfoldable pub deskSaid : (words input second : List ℕ) → Said
+deskSaid words input second = let l = commandIn words (replicate mostNumbers 0) in commandSaid second (l .line .command) (l .line .count) (l .numbers) input
 
 -- What the functions ask ------------------------------------------------------------------------------------------------------------------------
 

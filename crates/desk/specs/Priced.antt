@@ -14,9 +14,9 @@ use Rattle.desk.specs.Desk.{deskSaid}
 abbrev pub priceLine : List ℕ
 priceLine = priceWord ++ 10 ∷ []
 
--- "price: what `listing` prints", of every input
-abbrev pub PricesAsListed : List ℕ → Type 0
-PricesAsListed input = deskSaid priceLine input .bytes ≡ report input
+-- "price: what `listing` prints", of every input; what a second one is does not matter
+abbrev pub PricesAsListed : (input second : List ℕ) → Type 0
+PricesAsListed input second = deskSaid priceLine input second .bytes ≡ report input
 
 -- the text of table t, printed by a command that changed a table into it and fed back, is listed with the answers of t
 abbrev pub PricesAgain : Measure → Columns → Said → Type 0

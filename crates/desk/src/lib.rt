@@ -84,6 +84,7 @@ fn put_answer(
     depths: &mut [u64],
     edges: &mut [u64],
     pieces: &mut [u64],
+    second: &[u8],
 ) -> Reply
     requires { let c = columns n (now heads) (now own) (now strikes) (now spans) (now tails) in
         let a = entries (now weights) (now depths) (now edges) (now pieces) in
@@ -91,7 +92,7 @@ fn put_answer(
     ensures { λ r.
         let c = columns n (now (heads .entry)) (now (own .entry)) (now (strikes .entry)) (now (spans .entry)) (now (tails .entry)) in
         let a = entries (now (weights .entry)) (now (depths .entry)) (now (edges .entry)) (now (pieces .entry)) in
-        ⌜ Replied (answerSaid question measure c a) (now (room .entry)) r (now (room .exit)) ⌝ }
+        ⌜ Replied (answerSaid (now (second .entry)) question measure c a) (now (room .entry)) r (now (room .exit)) ⌝ }
 {
     match question {
         Question::Price => put_entries(room, weights, depths, edges, pieces),
@@ -156,6 +157,30 @@ fn put_answer(
             pieces,
             e,
         ),
+        Question::Compare => compare::put_comparison(
+            room,
+            n,
+            weights,
+            depths,
+            edges,
+            pieces,
+            second,
+        ),
+        Question::Replay => ledger::put_replay(
+            room,
+            measure,
+            n,
+            heads,
+            own,
+            strikes,
+            spans,
+            tails,
+            weights,
+            depths,
+            edges,
+            pieces,
+            second,
+        ),
     }
 }
 
@@ -174,12 +199,13 @@ fn put_settled(
     depths: &mut [u64],
     edges: &mut [u64],
     pieces: &mut [u64],
+    second: &[u8],
 ) -> Reply
     requires { ⌜ mostReply ≤ length (now room) ⌝ }
     ensures { λ r.
         let c = columns n (now (heads .entry)) (now (own .entry)) (now (strikes .entry)) (now (spans .entry)) (now (tails .entry)) in
         let a = entries (now (weights .entry)) (now (depths .entry)) (now (edges .entry)) (now (pieces .entry)) in
-        ⌜ Replied (settledSaid measure c a (answerSaid question measure c)) (now (room .entry)) r (now (room .exit)) ⌝ }
+        ⌜ Replied (settledSaid measure c a (answerSaid (now (second .entry)) question measure c)) (now (room .entry)) r (now (room .exit)) ⌝ }
 {
     let answer = settle::settle(
         measure,
@@ -212,6 +238,7 @@ fn put_settled(
         depths,
         edges,
         pieces,
+        second,
     )
 }
 
@@ -230,13 +257,14 @@ fn put_table(
     depths: &mut [u64],
     edges: &mut [u64],
     pieces: &mut [u64],
+    second: &[u8],
 ) -> Reply
     requires { ⌜ acceptance (columns n (now heads) (now own) (now strikes) (now spans) (now tails)) ≡ Accepted ⌝ }
     requires { ⌜ mostReply ≤ length (now room) ⌝ }
     ensures { λ r.
         let c = columns n (now (heads .entry)) (now (own .entry)) (now (strikes .entry)) (now (spans .entry)) (now (tails .entry)) in
         let a = entries (now (weights .entry)) (now (depths .entry)) (now (edges .entry)) (now (pieces .entry)) in
-        ⌜ Replied (tableSaid query measure c a) (now (room .entry)) r (now (room .exit)) ⌝ }
+        ⌜ Replied (tableSaid (now (second .entry)) query measure c a) (now (room .entry)) r (now (room .exit)) ⌝ }
 {
     match query {
         Query::Uses(v) => { whereused::put_uses(room, n, heads, own, strikes, spans, tails, v) }
@@ -262,6 +290,7 @@ fn put_table(
             depths,
             edges,
             pieces,
+            second,
         ),
     }
 }
@@ -418,12 +447,13 @@ fn put_read(
     strikes: &mut [u64],
     spans: &[u64],
     tails: &[u64],
+    second: &[u8],
 ) -> Reply
     requires { ⌜ mostReply ≤ length (now room) ⌝ }
     requires { ⌜ Stands header (now heads) (now own) (now strikes) (now spans) (now tails) ⌝ }
     ensures { λ r.
         let c = lentColumns header (now (heads .entry)) (now (own .entry)) (now (strikes .entry)) (now (spans .entry)) (now (tails .entry)) in
-        ⌜ Replied (tableSaid query (header .measure) c (blankEntries (header .vertices))) (now (room .entry)) r (now (room .exit)) ⌝ }
+        ⌜ Replied (tableSaid (now (second .entry)) query (header .measure) c (blankEntries (header .vertices))) (now (room .entry)) r (now (room .exit)) ⌝ }
 {
     let measure = header.measure;
     let n = header.vertices;
@@ -449,6 +479,7 @@ fn put_read(
         &mut depths[..parts],
         &mut edges[..parts],
         &mut pieces[..parts],
+        second,
     )
 }
 
@@ -464,13 +495,14 @@ fn put_command(
     strikes: &mut [u64],
     spans: &mut [u64],
     tails: &mut [u64],
+    second: &[u8],
 ) -> Reply
     requires { ⌜ mostReply ≤ length (now room) ⌝ }
     requires { ⌜ Stands header (now heads) (now own) (now strikes) (now spans) (now tails) ⌝ }
     requires { ⌜ Takes command count (length (now numbers)) ⌝ }
     ensures { λ r.
         let x = readOutcome (reading.Table header) (now (heads .entry)) (now (own .entry)) (now (strikes .entry)) (now (spans .entry)) (now (tails .entry)) in
-        ⌜ Replied (readSaid command count (now (numbers .entry)) header x) (now (room .entry)) r (now (room .exit)) ⌝ }
+        ⌜ Replied (readSaid (now (second .entry)) command count (now (numbers .entry)) header x) (now (room .entry)) r (now (room .exit)) ⌝ }
 {
     match command {
         Command::Append(head, figure) => put_append(
@@ -485,7 +517,17 @@ fn put_command(
             figure,
             &numbers[2..count],
         ),
-        Command::Ask(query) => put_read(room, query, header, heads, own, strikes, spans, tails),
+        Command::Ask(query) => put_read(
+            room,
+            query,
+            header,
+            heads,
+            own,
+            strikes,
+            spans,
+            tails,
+            second,
+        ),
         Command::Misuse => Reply {
             width: 0,
             status: Status::Misused,
@@ -504,10 +546,11 @@ fn put_input(
     count: usize,
     numbers: &[u64],
     input: &[u8],
+    second: &[u8],
 ) -> Reply
     requires { ⌜ mostReply ≤ length (now room) ⌝ }
     requires { ⌜ Takes command count (length (now numbers)) ⌝ }
-    ensures { λ r. ⌜ Replied (inputSaid command count (now (numbers .entry)) (now (input .entry))) (now (room .entry)) r (now (room .exit)) ⌝ }
+    ensures { λ r. ⌜ Replied (inputSaid (now (second .entry)) command count (now (numbers .entry)) (now (input .entry))) (now (room .entry)) r (now (room .exit)) ⌝ }
 {
     if input.len() > MOST_INPUT {
         return put_refusal(room, Refusal::InputLength);
@@ -538,6 +581,7 @@ fn put_input(
             &mut strikes,
             &mut spans,
             &mut tails,
+            second,
         ),
     }
 }
@@ -560,9 +604,10 @@ pub fn blank_room() -> [u8; MOST_REPLY]
     [0; MOST_REPLY]
 }
 
-// The reply to a line of words over an input is put at the room's start.
-pub fn reply(words: &[u8], input: &[u8], room: &mut [u8; MOST_REPLY]) -> Reply
-    ensures { λ r. ⌜ Replied (deskSaid (now (words .entry)) (now (input .entry))) (now (room .entry)) r (now (room .exit)) ⌝ }
+// The reply to a line of words over an input is put at the room's start; `compare` and `replay` look
+// at a second input too.
+pub fn reply(words: &[u8], input: &[u8], second: &[u8], room: &mut [u8; MOST_REPLY]) -> Reply
+    ensures { λ r. ⌜ Replied (deskSaid (now (words .entry)) (now (input .entry)) (now (second .entry))) (now (room .entry)) r (now (room .exit)) ⌝ }
 {
     let mut numbers = [0u64; MOST_NUMBERS];
     let line = read_command(words, &mut numbers);
@@ -573,8 +618,8 @@ pub fn reply(words: &[u8], input: &[u8], room: &mut [u8; MOST_REPLY]) -> Reply
             width: 0,
             status: Status::Misused,
         },
-        Command::Ask(_) => put_input(room, command, count, &numbers, input),
-        Command::Append(_, _) => put_input(room, command, count, &numbers, input),
+        Command::Ask(_) => put_input(room, command, count, &numbers, input, second),
+        Command::Append(_, _) => put_input(room, command, count, &numbers, input, second),
         Command::Mean => put_sample(room, input),
     }
 }

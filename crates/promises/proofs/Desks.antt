@@ -24,7 +24,7 @@ use Rattle.desk.specs.Priced.{PricesAsListed, PricesAgain}
 use Rattle.desk.proofs.Priced.{prices-as-listed, prices-again}
 
 -- "`price`: what `listing` prints"
-pub desk-price : (input : List ℕ) → PricesAsListed input
+pub desk-price : (input second : List ℕ) → PricesAsListed input second
 desk-price = prices-as-listed
 
 -- "`bill PART`: a row for each line of the bill, in the bill's order: line, its part, its own figure; last a row with the part's figure, to quote from"

@@ -10,7 +10,7 @@ use Rattle.desk.proofs.put_command.Tie as tie
 sub-put-append : tie.Need-sub-put-append
 sub-put-append c =
     let p = c .before .before .before .before .before .before .before in
-    let q = p .before .before .before .before .before .before .before .before .before in
+    let q = p .before .before .before .before .before .before .before .before .before .before in
     q .pre .1 .1 .least _ _ (p .command .given .1)
 
 part-put-append-start : tie.Need-part-put-append-start
@@ -18,39 +18,39 @@ part-put-append-start c = let r = sub-put-append c in search (needs, r)
 
 part-put-append-end : tie.Need-part-put-append-end
 part-put-append-end c = let r = sub-put-append c in
-    let m = c .before .before .before .before .before .before .before .before .before .before .before .before .before .before .before .before .pre .1 .1 .most in
+    let m = c .before .before .before .before .before .before .before .before .before .before .before .before .before .before .before .before .before .pre .1 .1 .most in
     omega (arith, r, m)
 
 put-append-requires : tie.Need-put-append-requires
-put-append-requires c κs = let s = c .before .before .before .before .before .before .before .before .before .before .before .before .before .before .before .before .before in
+put-append-requires c κs = let s = c .before .before .before .before .before .before .before .before .before .before .before .before .before .before .before .before .before .before in
     (s .pre .0, s .pre .1 .0)
 
 put-read-requires : tie.Need-put-read-requires
-put-read-requires c κs = let s = c .before .before .before .before .before .before .before .before .before .before .before .before .before .before .before .before in
+put-read-requires c κs = let s = c .before .before .before .before .before .before .before .before .before .before .before .before .before .before .before .before .before in
     (s .pre .0, s .pre .1 .0)
 
 returns : tie.Need-returns
 returns c =
     let p = c .before .before .before .before .before .before .before .before .before .before .before .before in
     let q = p .before .before .before .before .before .before .before .before .before in
-    let s = q .before .before .before .before .before .before .before .before .before in
-    replied-as _ _ _ (append-said _ (s .args .count) (s .args .numbers .now) _ _ _ _ (q .command .given .1)) (p .put-append .ensures)
+    let s = q .before .before .before .before .before .before .before .before .before .before in
+    replied-as _ _ _ (append-said _ _ (s .args .count) (s .args .numbers .now) _ _ _ _ (q .command .given .1)) (p .put-append .ensures)
 
 returns-2 : tie.Need-returns-2
 returns-2 c =
     let p = c .before .before .before .before .before .before in
     let q = p .before .before .before .before .before .before .before .before in
-    let s = q .before .before .before .before .before .before .before .before .before in
-    replied-as _ _ _ (ask-said _ (s .args .count) (s .args .numbers .now) _ _ _ (q .command2 .given .1)) (p .put-read .ensures)
+    let s = q .before .before .before .before .before .before .before .before .before .before in
+    replied-as _ _ _ (ask-said _ _ (s .args .count) (s .args .numbers .now) _ _ _ (q .command2 .given .1)) (p .put-read .ensures)
 
 returns-3 : tie.Need-returns-3
-returns-3 c = let s = c .before .before .before .before .before .before .before .before .before in
-    replied-as _ _ _ (misuse-said _ (s .args .count) (s .args .numbers .now) _ _ (c .enum-told .given .1))
+returns-3 c = let s = c .before .before .before .before .before .before .before .before .before .before in
+    replied-as _ _ _ (misuse-said _ _ (s .args .count) (s .args .numbers .now) _ _ (c .enum-told .given .1))
     (record { status = refl; written = written-none _ })
 
 returns-4 : tie.Need-returns-4
-returns-4 c = let s = c .before .before .before .before .before .before .before .before .before in
-    replied-as _ _ _ (mean-misused _ (s .args .count) (s .args .numbers .now) _ _ (c .enum-told2 .given .1))
+returns-4 c = let s = c .before .before .before .before .before .before .before .before .before .before in
+    replied-as _ _ _ (mean-misused _ _ (s .args .count) (s .args .numbers .now) _ _ (c .enum-told2 .given .1))
     (record { status = refl; written = written-none _ })
 
 pub put-command-spec : {M : Type 1} → statement M

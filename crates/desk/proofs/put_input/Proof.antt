@@ -10,14 +10,14 @@ use Rattle.desk.proofs.put_input.Statement.{statement}
 use Rattle.desk.proofs.put_input.Tie as tie
 
 -- an input that is not too long
-short : (c : tie.Else1) → length (c .before .before .before .before .args .input .now) ≤ mostInput
+short : (c : tie.Else1) → length (c .before .before .before .before .before .args .input .now) ≤ mostInput
 short c = let h = c .if1 .left in omega arith
 
 returns : tie.Need-returns
 returns c =
     let p = c .before .before .before .before in
-    let s = p .before .before .before .before in
-    replied-as _ _ _ (long-said (s .args .command) (s .args .count) (s .args .numbers .now) (s .args .input .now) (let h = p .if1 .taken in omega arith)) (c .before .before .put-refusal .ensures)
+    let s = p .before .before .before .before .before in
+    replied-as _ _ _ (long-said (s .args .second .now) (s .args .command) (s .args .count) (s .args .numbers .now) (s .args .input .now) (let h = p .if1 .taken in omega arith)) (c .before .before .put-refusal .ensures)
 
 put-command-requires : tie.Need-put-command-requires
 unfolding readInput
@@ -25,7 +25,7 @@ put-command-requires c κs =
     let p = c .before .before .before .before .before .before .before in
     let q = p .before .before .before .before .before .before .before in
     let r = q .before .before .before .before .before .before in
-    let s = r .before .before .before .before in
+    let s = r .before .before .before .before .before in
     (s .pre .0, (input-stands (s .args .input .now) (short r) _ _ _ _ _ _ (q .read-table .ensures) _ (p .reading2 .given .1), s .pre .1))
 
 returns-2 : tie.Need-returns-2
@@ -34,9 +34,9 @@ returns-2 c =
     let p = c .before .before .before .before .before in
     let q = p .before .before .before .before .before .before .before in
     let r = q .before .before .before .before .before .before in
-    let s = r .before .before .before .before in
+    let s = r .before .before .before .before .before in
     replied-as _ _ _
-    (unread-said (s .args .command) (s .args .count) (s .args .numbers .now) (s .args .input .now) (short r) _ _ _ _ _ _ (q .read-table .ensures) _ (p .reading .given .1))
+    (unread-said (s .args .second .now) (s .args .command) (s .args .count) (s .args .numbers .now) (s .args .input .now) (short r) _ _ _ _ _ _ (q .read-table .ensures) _ (p .reading .given .1))
     (c .before .before .put-refusal2 .ensures)
 
 returns-3 : tie.Need-returns-3
@@ -46,9 +46,9 @@ returns-3 c =
     let q = p .before .before .before .before .before .before .before .before in
     let r = q .before .before .before .before .before .before .before in
     let e = r .before .before .before .before .before .before in
-    let s = e .before .before .before .before in
+    let s = e .before .before .before .before .before in
     replied-as _ _ _
-    (table-said (s .args .command) (s .args .count) (s .args .numbers .now) (s .args .input .now) (short e) _ _ _ _ _ _ (r .read-table .ensures) _ (q .reading2 .given .1))
+    (table-said (s .args .second .now) (s .args .command) (s .args .count) (s .args .numbers .now) (s .args .input .now) (short e) _ _ _ _ _ _ (r .read-table .ensures) _ (q .reading2 .given .1))
     (p .put-command .ensures)
 
 pub put-input-spec : {M : Type 1} → statement M

@@ -15,49 +15,49 @@ abbrev table : tie.Start → Columns
 table s = lentColumns (s .args .header) (s .args .heads .now) (s .args .own .now) (s .args .strikes .now) (s .args .spans .now) (s .args .tails .now)
 
 slice-aggregate-put-table : tie.Need-slice-aggregate-put-table
-slice-aggregate-put-table c = let s = c .before .before .before .before .before .before .before .before in
+slice-aggregate-put-table c = let s = c .before .before .before .before .before .before .before .before .before in
     sym (length-take-le (s .args .header .edges) (s .args .heads .now) (s .pre .1 .heads))
 
 slice-aggregate-put-table-2 : tie.Need-slice-aggregate-put-table-2
-slice-aggregate-put-table-2 c = let s = c .before .before .before .before .before .before .before .before .before in
+slice-aggregate-put-table-2 c = let s = c .before .before .before .before .before .before .before .before .before .before in
     sym (length-take-le (s .args .header .edges) (s .args .own .now) (s .pre .1 .own))
 
 slice-aggregate-put-table-3 : tie.Need-slice-aggregate-put-table-3
-slice-aggregate-put-table-3 c = let s = c .before .before .before .before .before .before .before .before .before .before in
+slice-aggregate-put-table-3 c = let s = c .before .before .before .before .before .before .before .before .before .before .before in
     sym (length-take-le (s .args .header .edges) (s .args .strikes .now) (s .pre .1 .strikes))
 
 slice-aggregate-put-table-4 : tie.Need-slice-aggregate-put-table-4
-slice-aggregate-put-table-4 c = let s = c .before .before .before .before .before .before .before .before .before .before .before in
+slice-aggregate-put-table-4 c = let s = c .before .before .before .before .before .before .before .before .before .before .before .before in
     sym (length-take-le (2 * s .args .header .edges) (s .args .spans .now) (s .pre .1 .spans))
 
 slice-aggregate-put-table-5 : tie.Need-slice-aggregate-put-table-5
-slice-aggregate-put-table-5 c = let s = c .before .before .before .before .before .before .before .before .before .before .before .before in
+slice-aggregate-put-table-5 c = let s = c .before .before .before .before .before .before .before .before .before .before .before .before .before in
     sym (length-take-le (s .args .header .listed) (s .args .tails .now) (s .pre .1 .tails))
 
 slice-aggregate-put-table-6 : tie.Need-slice-aggregate-put-table-6
-slice-aggregate-put-table-6 c = let s = c .before .before .before .before .before .before .before .before .before .before .before .before .before in
+slice-aggregate-put-table-6 c = let s = c .before .before .before .before .before .before .before .before .before .before .before .before .before .before in
     zeros-long (s .args .header .vertices) (s .pre .1 .few)
 
 slice-aggregate-put-table-7 : tie.Need-slice-aggregate-put-table-7
-slice-aggregate-put-table-7 c = let s = c .before .before .before .before .before .before .before .before .before .before .before .before .before .before in
+slice-aggregate-put-table-7 c = let s = c .before .before .before .before .before .before .before .before .before .before .before .before .before .before .before in
     zeros-long (s .args .header .vertices) (s .pre .1 .few)
 
 slice-aggregate-put-table-8 : tie.Need-slice-aggregate-put-table-8
-slice-aggregate-put-table-8 c = let s = c .before .before .before .before .before .before .before .before .before .before .before .before .before .before .before in
+slice-aggregate-put-table-8 c = let s = c .before .before .before .before .before .before .before .before .before .before .before .before .before .before .before .before in
     zeros-long (s .args .header .vertices) (s .pre .1 .few)
 
 slice-aggregate-put-table-9 : tie.Need-slice-aggregate-put-table-9
-slice-aggregate-put-table-9 c = let s = c .before .before .before .before .before .before .before .before .before .before .before .before .before .before .before .before in
+slice-aggregate-put-table-9 c = let s = c .before .before .before .before .before .before .before .before .before .before .before .before .before .before .before .before .before in
     zeros-long (s .args .header .vertices) (s .pre .1 .few)
 
 put-table-requires : tie.Need-put-table-requires
-put-table-requires c κs = let s = c .before .before .before .before .before .before .before .before .before .before .before .before .before .before .before .before in (s .pre .1 .table, s .pre .0)
+put-table-requires c κs = let s = c .before .before .before .before .before .before .before .before .before .before .before .before .before .before .before .before .before in (s .pre .1 .table, s .pre .0)
 
 returns : tie.Need-returns
 returns c =
     let p = c .before .before .before .before .before .before .before .before .before .before in
-    let s = p .before .before .before .before .before .before .before .before .before .before .before .before .before .before .before .before .before in
-    replied-as _ _ _ (blank-said (s .args .query) (s .args .header .measure) (table s) (s .args .header .vertices) (s .pre .1 .few)) (p .put-table .ensures)
+    let s = p .before .before .before .before .before .before .before .before .before .before .before .before .before .before .before .before .before .before in
+    replied-as _ _ _ (blank-said (s .args .second .now) (s .args .query) (s .args .header .measure) (table s) (s .args .header .vertices) (s .pre .1 .few)) (p .put-table .ensures)
 
 pub put-read-spec : {M : Type 1} → statement M
 put-read-spec =

@@ -14,7 +14,7 @@ put-answer-requires : tie.Need-put-answer-requires
 put-answer-requires c κs =
     let p = c .before .before .before .before .before .before .before in
     let q = p .before .before .before .before .before .before .before .before .before .before in
-    let r = q .before .before .before .before .before .before .before .before .before .before .before .before .before .before .before .before .before in
+    let r = q .before .before .before .before .before .before .before .before .before .before .before .before .before .before .before .before .before .before in
     settled-holds _ _ _ _ _ (q .settle .ensures) _ (p .enum-told .given .1) (r .pre)
 
 returns-2 : tie.Need-returns-2
