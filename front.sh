@@ -2,17 +2,21 @@
 say() { printf '%s: %s\n' "$me" "$1" >&2; }
 fail() { say "$1"; exit 2; }
 
-# Copies the input, up to one byte more than the program takes, so that what is shown of it is what the program read.
+# Copies a file, up to one byte more than the program takes, so that what is shown of it is what the program read.
+take_file() { # FILE COPY
+    [ -e "$1" ] || fail "there is no file $1"
+    [ ! -d "$1" ] || fail "$1 is a directory, and no file"
+    [ -r "$1" ] || fail "the file $1 can't be read"
+    head -c 65536 <"$1" >"$2" || fail "the file $1 can't be read"
+}
+
 take_input() {
     if [ "$file" = - ]; then
         [ ! -t 0 ] || say 'the table is read from standard input'
         head -c 65536 >"$work/input" || fail "standard input can't be read"
         return
     fi
-    [ -e "$file" ] || fail "there is no file $file"
-    [ ! -d "$file" ] || fail "$file is a directory, and a table is a file"
-    [ -r "$file" ] || fail "the file $file can't be read"
-    head -c 65536 <"$file" >"$work/input" || fail "the file $file can't be read"
+    take_file "$file" "$work/input"
 }
 
 # whether nothing that the program is made of is newer
@@ -33,12 +37,17 @@ build() {
     fail 'the program was not built'
 }
 
-# What the program prints of the input, in full; a word on its standard error, or another status than 0, is trouble.
+# What the program prints of the input, in full, and the file that a refusal is of; another word on its standard error, or another status than 0, is trouble.
 run() {
     local status
+    blamed=$file shown=$work/input
     output=$("$program" "$@" <"$work/input" 2>"$work/errors"; status=$?; printf .; exit "$status")
     status=$?
     output=${output%.}
+    if [ "$(cat -- "$work/errors")" = "parts: that is the second file's" ]; then
+        blamed=$second shown=$work/second
+        : >"$work/errors"
+    fi
     [ "$status" -eq 0 ] && [ ! -s "$work/errors" ] && return
     cat -- "$work/errors" >&2
     fail "the program ended with status $status"
@@ -57,9 +66,9 @@ emit() {
     fail "the output can't be written"
 }
 
-# A line of the input, up to 160 bytes, with what the eye can't see named.
+# A line of what is shown, up to 160 bytes, with what the eye can't see named.
 visible() {
-    LC_ALL=C sed -n "$1p" "$work/input" | head -c 161 | od -An -v -t u1 | awk '
+    LC_ALL=C sed -n "$1p" "$shown" | head -c 161 | od -An -v -t u1 | awk '
         { for (i = 1; i <= NF; i++) byte[++n] = $i + 0 }
         END {
             name[9] = "tab"; name[10] = "LF"; name[13] = "CR"
@@ -78,8 +87,8 @@ cell() { awk -F ' *[|] *' -v number="$1" -v column="$2" '$2 == number { print $c
 
 # Says of a refusal when it is given and what to do, and shows the line.
 explain() {
-    local name=$file
-    [ "$file" != - ] || name='standard input'
+    local name=$blamed
+    [ "$name" != - ] || name='standard input'
     if [ "$1" -eq 14 ]; then
         say "$name, line $2, column $3: $(cell "$1" 3)"
         say "line $2 is $(visible "$2")"

@@ -59,6 +59,7 @@ const TESTS: &[&[Test]] = &[
     desk::TESTS,
     desk::limits::TESTS,
     desk::mean::TESTS,
+    desk::second::TESTS,
     desk::words::TESTS,
 ];
 

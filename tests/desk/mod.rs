@@ -4,6 +4,7 @@ pub mod limits;
 pub mod mean;
 mod program;
 mod replies;
+pub mod second;
 pub mod words;
 
 use crate::append::lent::any_line;

@@ -4,6 +4,7 @@ use std::fs::File;
 use std::io::Write;
 use std::path::PathBuf;
 use std::process::{Command, Output, Stdio};
+use std::sync::atomic::{AtomicU64, Ordering};
 
 /// The program, or the one that PARTS names.
 fn program() -> Result<Command, String> {
@@ -56,4 +57,22 @@ pub fn with_file(words: &[String], file: File) -> Result<Output, String> {
 /// The same with no input.
 pub fn with_nothing(words: &[String]) -> Result<Output, String> {
     started(program()?.args(words).stdin(Stdio::null()).output())
+}
+
+/// A file with these bytes, under a name of its own.
+fn second_file(bytes: &[u8]) -> Result<PathBuf, String> {
+    static FILES: AtomicU64 = AtomicU64::new(0);
+    let number = FILES.fetch_add(1, Ordering::Relaxed);
+    let path = std::env::temp_dir().join(format!("second-{}-{number}", std::process::id()));
+    std::fs::write(&path, bytes).map_err(|error| format!("{}: {error}", path.display()))?;
+    Ok(path)
+}
+
+/// What the program wrote of an input and a second one, which stands in a file.
+pub fn beside(command: &str, input: &[u8], second: &[u8]) -> Result<Output, String> {
+    let path = second_file(second)?;
+    let words = [command.to_string(), path.display().to_string()];
+    let ended = through_pipes(&words, input);
+    let removed = std::fs::remove_file(&path).map_err(|error| error.to_string());
+    ended.and_then(|ended| removed.map(|()| ended))
 }

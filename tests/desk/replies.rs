@@ -52,7 +52,7 @@ fn refused(result: u64) -> String {
     format!("refused {} {}\n", result >> 32, result & 0xFFFF_FFFF)
 }
 
-fn state(label: Label) -> &'static str {
+pub fn state(label: Label) -> &'static str {
     match (label.depth, label.weight) {
         (0, _) => "unmade",
         (_, OVER) => "over",

@@ -23,13 +23,39 @@ desk 'desk appends' 0 '' "$week" append 4 100 0 0 1 < <(cat "$week"; echo '4 100
 desk 'desk checks' 0 '' "$week" check </dev/null
 desk 'desk checks the order' 1 "desk: $week: $(cell 24 3)*$(cell 24 5)" "$week" check-order <<<'refused 24 5'
 desk 'desk tells mean and variance' 0 '' examples/year.results mean <<<$'111 1\n1441 6'
+desk 'desk compares two tables' 0 '' "$week" compare examples/letter.parts <<'END_OF_ROWS'
+1 made 300 made 500
+2 made 2000 made 1900
+3 made 2600 made 2900
+END_OF_ROWS
+desk 'desk compares a table with itself' 0 '' "$week" compare "$week" </dev/null
+sed '1s/ cost//' "$week" >"$work/days"
+desk 'desk says that measures differ' 0 "desk: $week and $work/days are in different measures" "$week" compare "$work/days" <<'END_OF_ROWS'
+2 made 2000 made 1700
+3 made 2600 made 1700
+END_OF_ROWS
+desk 'desk replays a record' 0 '' "$week" replay examples/shelf.record <<'END_OF_OUTCOMES'
+2 built
+2 late
+2 received
+3 built
+4 issued
+4 late
+0 late
+stock 0 0 0 0 0
+END_OF_OUTCOMES
 input=$week desk 'desk reads standard input' 0 '' - uses 0 <<<'2 2 500 0 1'
 
 # Refusals and words that are no command --------------------------------------------------------------------------------------------------------
 
 desk 'desk explains a refusal' 1 "desk: $week: $(cell 12 3)*$(cell 12 5)" "$week" bill 4 <<<'refused 12 0'
 desk 'desk explains a broken text' 1 "desk: examples/broken.parts, line 4, column 9: $(cell 14 3)*line 4 is 2 500 0 9<LF>*" examples/broken.parts bill 0 <<<'refused 14 4 9'
-for words in 'sell' 'mean 1' 'bill' 'bill 1 2' 'bill x' 'bill 01' 'bill -1' 'bill 18446744073709551616' 'price 1' 'append 1' 'reprice 1'; do
+desk 'desk explains which of two tables is refused' 1 "desk: examples/broken.parts, line 4, column 9: $(cell 14 3)*line 4 is 2 500 0 9<LF>*" "$week" compare examples/broken.parts <<<'refused 14 4 9'
+desk 'desk names the first of two' 1 "desk: examples/broken.parts, line 4, column 9: *" examples/broken.parts compare "$week" <<<'refused 14 4 9'
+printf 'stock 1 3 0 0 1\n2 0\n5 0\n' >"$work/record"
+desk 'desk explains a refused record' 1 "desk: $work/record: $(cell 25 3)*$(cell 25 5)" "$week" replay "$work/record" <<<'refused 25 1'
+desk 'desk names a second file that is missing' 2 'desk: there is no file examples/missing.parts' "$week" compare examples/missing.parts </dev/null
+for words in 'sell' 'compare' 'replay' 'compare 1 2' 'mean 1' 'bill' 'bill 1 2' 'bill x' 'bill 01' 'bill -1' 'bill 18446744073709551616' 'price 1' 'append 1' 'reprice 1'; do
     desk "desk does not know $words" 2 'parts: these words are no command*' "$week" $words </dev/null
 done
 desk 'desk wants a command' 2 'desk: a file and a command are needed*' "$week" </dev/null
@@ -71,13 +97,24 @@ full() { echo 'parts 10 cost'; echo '0 500'; yes '0 5' | head -n 1019; }
 full >"$table"
 ends 'desk at the limit of a file' 2 "*desk: the new file can't be written: * is as it was" bash -c 'ulimit -f 4; bash desk --write "$1" reprice 1 10' - "$table" </dev/null
 holds 'the file is the old one' "it holds $(shown "$table")" cmp -s "$table" <(full)
-holds 'and nothing lies beside it' "$(ls -A "$work" | grep '^\.table')" [ -z "$(ls -A "$work" | grep '^\.table')" ]
-if [ "$(id -u)" -ne 0 ]; then
-    cp "$week" "$work/beside/table"
-    chmod 555 "$work/beside"
-    desk 'desk in a folder that can not be written' 2 "*desk: there is no room beside*" --write "$work/beside/table" reprice 1 350 </dev/null
-    chmod 755 "$work/beside"
+if [ "$(id -u)" -eq 0 ]; then
+    # a disk with room for the table alone
+    on_full() { unshare -m bash -c 'mount -t tmpfs -o size=8k tmpfs "$1" && cp "$2" "$1" && { "${@:3}"; ended=$?; cmp -s "$1/table" "$2" || exit 9; exit "$ended"; }' - "$work/beside" "$table" "$@"; }
+    ends 'desk on a full disk leaves the old table' 2 "*desk: the new file can't be written: * is as it was" on_full bash desk --write "$work/beside/table" reprice 1 10 </dev/null
 fi
+holds 'and nothing lies beside it' "$(ls -A "$work" | grep '^\.table')" [ -z "$(ls -A "$work" | grep '^\.table')" ]
+# a folder that can't be written: for root, who may write everywhere, a file system that can't be
+beside=$work/beside
+cp "$week" "$beside/table"
+if [ "$(id -u)" -ne 0 ]; then
+    chmod 555 "$beside"
+    locked() { "$@"; }
+else
+    locked() { unshare -m bash -c 'mount --bind "$1" "$1" && mount -o remount,ro,bind "$1" && "${@:2}"' - "$beside" "$@"; }
+fi
+ends 'desk in a folder that can not be written' 2 '*desk: there is no room beside*' locked bash desk --write "$beside/table" reprice 1 350 </dev/null
+chmod 755 "$beside"
+holds 'leaves the file as it was' "it holds $(shown "$beside/table")" cmp -s "$beside/table" "$week"
 
 # interrupted at many moments, the file is the old one or the new one
 sed 's/^1 300$/1 350/' "$week" >"$work/new"

@@ -57,7 +57,7 @@ ends 'price reads the end of a pipeline' 0 '' bash -c 'cat -- "$1" | bash price'
 printf 'parts' >"$work/text"
 input=$work/text price 'price names standard input' 1 "price: standard input, line 1, column 6: $fourteen*line 1 is parts<end>*" - <<<'refused 14 1 6'
 price 'price names a file that is missing' 2 'price: there is no file examples/missing.parts' examples/missing.parts </dev/null
-price 'price names a directory' 2 'price: examples is a directory, and a table is a file' examples </dev/null
+price 'price names a directory' 2 'price: examples is a directory, and no file' examples </dev/null
 input=. price 'price reads no directory' 2 "*price: standard input can't be read" </dev/null
 ends 'price without standard input' 2 "*price: standard input can't be read" bash -c 'bash price <&-' </dev/null
 input=$work/worked ends 'price after a read that fails' 2 "*price: standard input can't be read" env FAIL_AFTER=20 LD_PRELOAD="$failing" bash price </dev/null

@@ -14,6 +14,11 @@ use Rattle.report.specs.Report.{mostInput}
 use Rattle.reply.specs.Reply.{Said}
 use Rattle.quote.specs.Quoted.{Quoted}
 use Rattle.quote.proofs.Quoted.{quoted}
+use Rattle.compare.specs.Compared.{Compared, ComparedAny}
+use Rattle.compare.proofs.Compared.{compared, compared-any}
+use Rattle.ledger.specs.Replayed.{Writable, ReadBack, RecordSaid}
+use Rattle.ledger.proofs.ReadBack.{read-back}
+use Rattle.ledger.proofs.Replayed.{record-said}
 use Rattle.sample.specs.Told.{MeanTold}
 use Rattle.sample.proofs.Told.{mean-told}
 use Rattle.whereused.specs.Listed.{UsesTold}
@@ -34,6 +39,21 @@ desk-bill = quoted
 -- "`uses PART`: the rows of the table that need the part, as they stand in the text, each behind its line number"
 pub desk-uses : (c : Columns) (v : ℕ) → UsesTold c v
 desk-uses = uses-told
+
+-- "`compare` with a second table: a row for each part that differs: its state and figure in both tables"; of a second text that is no table's, its refusal
+module _ (m m′ : Measure) (c c′ : Columns) (p : acceptance c ≡ Accepted) (q : acceptance c′ ≡ Accepted) (l : length (render m′ c′) ≤ mostInput) where
+  pub desk-compare : Compared m m′ c c′ (render m′ c′)
+  desk-compare = compared m m′ c c′ p q l
+
+pub desk-compare-any : (n : ℕ) (a : Entries) (second : List ℕ) → ComparedAny n a second
+desk-compare-any = compared-any
+
+-- "`replay` with a record: the outcome of each event, then the final counts"; and a record that is written as a text is read back as it is
+pub desk-replay : (m : Measure) (c : Columns) (a : Entries) → RecordSaid m c a
+desk-replay = record-said
+
+pub desk-record : (shelf parts received : List ℕ) → Writable shelf parts received → ReadBack shelf parts received
+desk-record = read-back
 
 -- "`mean`: mean and variance of the numbers on standard input, a line each"
 pub desk-mean : (xs : List ℕ) → MeanTold xs
