@@ -1,4 +1,4 @@
-// A program's standard input, read whole.
+// A program's input, read whole.
 use libc::STDIN_FILENO;
 ghost use mathlib.Core.Path.{_≡_};
 ghost use lib.ListN.{length};
@@ -12,7 +12,7 @@ pub struct Read {
 }
 
 // Reads until the buffer is full, the input ends or a read fails, also after a short read.
-pub fn read_input(buf: &mut [u8]) -> Read
+pub fn read_from(fd: i32, buf: &mut [u8]) -> Read
     requires { ⌜ length (now buf) ≡ bufferLength ⌝ }
     ensures { λ r. ⌜ Counts (r .count) (now (buf .exit)) ⌝ }
     ensures { λ r. ⌜ Ended (r .count) (r .last) ⌝ }
@@ -20,7 +20,7 @@ pub fn read_input(buf: &mut [u8]) -> Read
     let mut at: usize = 0;
     let mut last: isize = 0;
     while at < buf.len() {
-        last = libc::read(STDIN_FILENO, &mut buf[at..]);
+        last = libc::read(fd, &mut buf[at..]);
         let more = io::count(last, &buf[at..]);
         if more == 0 {
             return Read { count: at, last };
@@ -28,4 +28,13 @@ pub fn read_input(buf: &mut [u8]) -> Read
         at += more;
     }
     Read { count: at, last }
+}
+
+// Standard input.
+pub fn read_input(buf: &mut [u8]) -> Read
+    requires { ⌜ length (now buf) ≡ bufferLength ⌝ }
+    ensures { λ r. ⌜ Counts (r .count) (now (buf .exit)) ⌝ }
+    ensures { λ r. ⌜ Ended (r .count) (r .last) ⌝ }
+{
+    read_from(STDIN_FILENO, buf)
 }

@@ -8,10 +8,10 @@ use Rattle.parts.proofs.gather.Statement.{statement}
 use Rattle.parts.proofs.gather.Tie as tie
 
 abbrev Inv-loop : tie.InvT-loop
-Inv-loop words₀ count at₀ i₀ words at i = (at ≤ length words) × (length words ≡ length words₀)
+Inv-loop count words₀ at₀ i₀ words at i = (at ≤ length words) × (length words ≡ length words₀)
 
 abbrev μ-loop : tie.MeasureT-loop
-μ-loop words₀ count at₀ i₀ words at i = count - i
+μ-loop count words₀ at₀ i₀ words at i = count - i
 
 same-length : tie.Need-same-length Inv-loop μ-loop
 same-length c = c .before .before .before .put-argument .kept .1 .0 ∙ c .before .before .before .before .before .before .loop .inv .1
@@ -34,7 +34,6 @@ gather-spec =
     (tie.spec
     Inv-loop
     μ-loop
-    (λ c κs. search needs)
     (λ c. (omega arith, refl))
     (λ c κs. c .before .before .loop .inv .0)
     same-length

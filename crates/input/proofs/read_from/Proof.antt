@@ -1,4 +1,4 @@
--- `input::read_input` meets its contract. The invariant: what was read lies within the buffer, whose length stays. Assumes nothing.
+-- `input::read_from` meets its contract. The invariant: what was read lies within the buffer, whose length stays. Assumes nothing.
 use mathlib.Core.Path.{_≡_, refl, sym, _∙_, ap}
 use mathlib.Core.List.{List, _++_}
 use mathlib.Core.Logic.{inl, inr}
@@ -14,14 +14,14 @@ use Rattle.io.specs.Counts.{clamped}
 use Rattle.columns.proofs.Filled.{part-whole}
 use Rattle.input.proofs.Parts.{part-long}
 use Rattle.input.specs.Input.{bufferLength, Ended}
-use Rattle.input.proofs.read_input.Statement.{statement}
-use Rattle.input.proofs.read_input.Tie as tie
+use Rattle.input.proofs.read_from.Statement.{statement}
+use Rattle.input.proofs.read_from.Tie as tie
 
 abbrev Inv-loop : tie.InvT-loop
-Inv-loop buf₀ at₀ last₀ buf at last = (at ≤ length buf) × (length buf ≡ length buf₀)
+Inv-loop fd buf₀ at₀ last₀ buf at last = (at ≤ length buf) × (length buf ≡ length buf₀)
 
 abbrev μ-loop : tie.MeasureT-loop
-μ-loop buf₀ at₀ last₀ buf at last = length buf₀ - at
+μ-loop fd buf₀ at₀ last₀ buf at last = length buf₀ - at
 
 -- an answer that counts for nothing where there is room
 stopped : (got : ℤ) (most count : ℕ) → 0 < most → clamped got most ≡ 0 → Ended count got
@@ -104,8 +104,8 @@ returns-2 c =
     let e : l .at ≡ bufferLength = omega arith in
     ((i, sym (length-take-le _ _ i)), full (toZ w64 (l .last)) (l .at) e)
 
-pub read-input-spec : {M : Type 1} → statement M
-read-input-spec =
+pub read-from-spec : {M : Type 1} → statement M
+read-from-spec =
     tie.close
     (tie.spec
     Inv-loop
