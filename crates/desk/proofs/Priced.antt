@@ -1,4 +1,5 @@
--- A table that a command printed is priced as the table that it is. And `price` prints what the listing program prints: by the length of the input, by what reading it returned, and by what settling returned. Assumes nothing.
+-- A table that a command printed is priced as the table that it is.
+-- And `price` prints what the listing program prints: by the length of the input, by what reading it returned, and by what settling returned. Assumes nothing.
 use mathlib.Core.Path.{_≡_, refl, _∙_, ap}
 use mathlib.Core.Bool.{Bool, true, false}
 use mathlib.Core.List.{List}

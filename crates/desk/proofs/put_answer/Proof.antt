@@ -72,7 +72,10 @@ returns-6 : tie.Need-returns-6
 returns-6 c = replied-as _ _ _ (compare-said _ _ _ _ _ (c .before .before .before .before .before .before .before .before .enum-told2 .given .1)) (c .before .before .put-comparison .ensures)
 
 returns-7 : tie.Need-returns-7
-returns-7 c = replied-as _ _ _ (replay-said _ _ _ _ _ (c .before .before .before .before .before .before .before .before .before .before .enum-told3 .given .1)) (c .before .before .put-replay .ensures)
+returns-7 c =
+    replied-as _ _ _
+    (replay-said _ _ _ _ _ (c .before .before .before .before .before .before .before .before .before .before .enum-told3 .given .1))
+    (c .before .before .put-replay .ensures)
 
 pub put-answer-spec : {M : Type 1} → statement M
 put-answer-spec =

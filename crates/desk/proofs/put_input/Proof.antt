@@ -17,7 +17,9 @@ returns : tie.Need-returns
 returns c =
     let p = c .before .before .before .before in
     let s = p .before .before .before .before .before in
-    replied-as _ _ _ (long-said (s .args .second .now) (s .args .command) (s .args .count) (s .args .numbers .now) (s .args .input .now) (let h = p .if1 .taken in omega arith)) (c .before .before .put-refusal .ensures)
+    replied-as _ _ _
+    (long-said (s .args .second .now) (s .args .command) (s .args .count) (s .args .numbers .now) (s .args .input .now) (let h = p .if1 .taken in omega arith))
+    (c .before .before .put-refusal .ensures)
 
 put-command-requires : tie.Need-put-command-requires
 unfolding readInput

@@ -51,7 +51,9 @@ slice-aggregate-put-table-9 c = let s = c .before .before .before .before .befor
     zeros-long (s .args .header .vertices) (s .pre .1 .few)
 
 put-table-requires : tie.Need-put-table-requires
-put-table-requires c κs = let s = c .before .before .before .before .before .before .before .before .before .before .before .before .before .before .before .before .before in (s .pre .1 .table, s .pre .0)
+put-table-requires c κs =
+    let s = c .before .before .before .before .before .before .before .before .before .before .before .before .before .before .before .before .before in
+    (s .pre .1 .table, s .pre .0)
 
 returns : tie.Need-returns
 returns c =

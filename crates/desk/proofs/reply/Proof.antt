@@ -35,19 +35,25 @@ put-input-requires-2 c κs =
 
 returns : tie.Need-returns
 returns c = let k = c .before .before in let s = c .before .before .before .before .before .before .before in
-    replied-as _ _ _ (words-misused (s .args .words .now) (s .args .input .now) (s .args .second .now) _ _ (k .read-command .ensures) (c .enum-told .given .1)) (record { status = refl; written = written-none _ })
+    replied-as _ _ _
+    (words-misused (s .args .words .now) (s .args .input .now) (s .args .second .now) _ _ (k .read-command .ensures) (c .enum-told .given .1))
+    (record { status = refl; written = written-none _ })
 
 returns-2 : tie.Need-returns-2
 returns-2 c =
     let k = c .before .before .before .before .before in
     let s = k .before .before .before .before .before in
-    replied-as _ _ _ (words-ask (s .args .words .now) (s .args .input .now) (s .args .second .now) _ _ (k .read-command .ensures) _ (c .before .before .before .enum-told2 .given .1)) (c .put-input .ensures)
+    replied-as _ _ _
+    (words-ask (s .args .words .now) (s .args .input .now) (s .args .second .now) _ _ (k .read-command .ensures) _ (c .before .before .before .enum-told2 .given .1))
+    (c .put-input .ensures)
 
 returns-3 : tie.Need-returns-3
 returns-3 c =
     let k = c .before .before .before .before .before in
     let s = k .before .before .before .before .before in
-    replied-as _ _ _ (words-append (s .args .words .now) (s .args .input .now) (s .args .second .now) _ _ (k .read-command .ensures) _ _ (c .before .before .before .enum-told3 .given .1)) (c .put-input2 .ensures)
+    replied-as _ _ _
+    (words-append (s .args .words .now) (s .args .input .now) (s .args .second .now) _ _ (k .read-command .ensures) _ _ (c .before .before .before .enum-told3 .given .1))
+    (c .put-input2 .ensures)
 
 put-sample-requires : tie.Need-put-sample-requires
 put-sample-requires c κs = let l = c .put-sample-arg .given .0 .1 in omega arith
