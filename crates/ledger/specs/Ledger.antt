@@ -63,10 +63,14 @@ saidOf vs o = onSecond (o .result) (answered (ledger vs (o .outcomes) (o .stock)
 unfoldable pub replayedSaid : Measure → Columns → Entries → (parts received stock outcomes : List ℕ) → Said
 replayedSaid m c a vs ks s os = saidOf vs (replayed m c a vs ks s os)
 
+-- a column for the outcomes of e events
+abbrev pub blanks : ℕ → List ℕ
+blanks e = take e (replicate mostEvents 0)
+
 -- by what reading the text returned, and the columns as it left them
 abbrev pub onRead : Measure → Columns → Entries → Record → (shelf parts received : List ℕ) → Said
 onRead m c a (read.Refused r) s vs ks = secondRefused r
-onRead m c a (read.Read k e) s vs ks = replayedSaid m c a (take e vs) (take e ks) (take k s) (take e (replicate mostEvents 0))
+onRead m c a (read.Read k e) s vs ks = replayedSaid m c a (take e vs) (take e ks) (take k s) (blanks e)
 
 abbrev pub enteredSaid : Measure → Columns → Entries → Entered → Said
 enteredSaid m c a x = onRead m c a (x .result) (x .shelf) (x .parts) (x .received)
