@@ -222,7 +222,7 @@ unfolding piecesAt
 part-placed s at stop (found.Number v) w = pieces-placed s v at stop (nextAt s stop) (w .0) (w .1) (next-within s stop (w .1))
 part-placed s at stop found.NotANumber w = w
 
-event-placed : (s : List ℕ) (at : ℕ) → Placed s at (eventAt s at)
+pub event-placed : (s : List ℕ) (at : ℕ) → Placed s at (eventAt s at)
 unfolding eventAt
 event-placed s at =
     pick-by (Placed s at) (leb (length s) at) (λ _. tt)
