@@ -4,3 +4,4 @@ pub mod Said
 pub mod ReadBack
 pub mod Bounds
 pub mod Replayed
+pub mod Example
