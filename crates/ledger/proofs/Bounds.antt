@@ -1,7 +1,7 @@
 -- How long what is said of a record can be: the line of a refusal by its line and column, which the text's length bounds, or by the number of its count or event; the rows
 -- and the final counts by what a replay leaves. Assumes nothing.
-use mathlib.Core.Path.{_≡_, refl, sym, ap, subst}
-use mathlib.Core.List.{List, [], _∷_, _++_}
+use mathlib.Core.Path.{_≡_, refl, subst}
+use mathlib.Core.List.{List}
 use Prim.Native.Nat.{ℕ, zero, suc, _+_, _*_, _-_, _^_, _≤_, _<_}
 use native.Mathlib.Omega.{arith}
 use lib.ListN.{length, set, length-append}
@@ -11,11 +11,10 @@ use Rattle.refusal.specs.declared.Refusal.{Refusal}
 use Rattle.refusal.specs.declared.Acceptance.{Acceptance}
 use Rattle.refusal.specs.declared.Acceptance.the-variants as answer
 use Rattle.refusal.specs.Refusals.{placeOf, columnOf}
-use Rattle.columns.specs.Columns.{Answers, Entries, Columns, cell}
+use Rattle.columns.specs.Columns.{Answers, Entries, Columns}
 use Rattle.columns.specs.Owed.{Owed}
 use Rattle.columns.specs.Right.{WrongEdge, WrongTable, WrongLent}
-use Rattle.inventory.specs.Shelf.{mostStock, mostEvents}
-use Rattle.inventory.specs.Replaying.{replayed}
+use Rattle.inventory.specs.Shelf.{mostEvents}
 use Rattle.inventory.specs.Record.{Replays, Stops}
 use Rattle.inventory.specs.Asked.{RightReplay, WrongReplay}
 use Rattle.inventory.proofs.Asked.{replay-owes, stops-place}
@@ -33,7 +32,7 @@ use Rattle.ledger.specs.declared.Events.{Events}
 use Rattle.ledger.specs.declared.Events.the-variants as events
 use Rattle.ledger.specs.declared.Record.{Record}
 use Rattle.ledger.specs.declared.Record.the-variants as read
-use Rattle.ledger.specs.Record.{mostShelf, wrongAt, eventAt, Listed, onEvent, eventsFrom, Entered, withCounts, onCounts, readRecord, shelfIn}
+use Rattle.ledger.specs.Record.{mostShelf, eventAt, Listed, onEvent, eventsFrom, withCounts, onCounts, readRecord, shelfIn}
 use Rattle.ledger.specs.Ledger.{mostRow, outcomeRow, outcomeRows, stockLine, ledger, replayedSaid}
 use Rattle.ledger.proofs.Laws.{Placed, event-placed, FewCounts, shelf-kept}
 use Rattle.ledger.proofs.Rows.{row-most, counts-most}

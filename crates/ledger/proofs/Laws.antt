@@ -2,20 +2,17 @@
 -- Assumes nothing.
 use mathlib.Core.Path.{_≡_, refl, sym, _∙_, ap, subst}
 use mathlib.Core.List.{List, [], _∷_}
-use mathlib.Core.Bool.{Bool, true, false}
-use Prim.Native.Nat.{ℕ, zero, suc, _+_, _-_, max, _≤_, _<_}
+use Prim.Native.Nat.{ℕ, zero, suc, _+_, _-_, _≤_, _<_}
 use native.Mathlib.Omega.{arith}
 use lib.ListN.{length, getD, set, length-set}
 use lib.Dec.{leb, eqb}
 use borrow.Author.Tests.{le-leb, lt-leb, leb-false, eq-eqb, ne-eqb, eqb-true}
-use Rattle.weights.specs.Choice.{pick}
 use Rattle.refusal.specs.declared.Refusal.{Refusal}
 use Rattle.text.proofs.Digits.{pick-by}
 use Rattle.cursor.specs.declared.Found.{Found}
 use Rattle.cursor.specs.declared.Found.the-variants as found
 use Rattle.cursor.specs.declared.Token.{Token}
 use Rattle.cursor.specs.declared.Separator.{Separator}
-use Rattle.cursor.specs.declared.Separator.the-variants as separator
 use Rattle.cursor.specs.Cursor.{numberAt, separatorAt}
 use Rattle.cursor.proofs.Counts.{byte-within, token-within}
 use Rattle.reading.specs.Lines.{agreeing}

@@ -1,15 +1,14 @@
 -- A record that is written as a text is read back as it is. Assumes nothing.
 use mathlib.Core.Path.{_≡_, refl, sym, _∙_, ap, ap₂, subst}
 use mathlib.Core.List.{List, [], _∷_, _++_, append-assoc, append-nil}
-use mathlib.Core.Bool.{Bool, true, false}
+use mathlib.Core.Bool.{true}
 use Prim.Native.Nat.{ℕ, zero, suc, _+_, _*_, _-_, _≤_, _<_}
-use native.Mathlib.Numerals.{add-one}
 use native.Mathlib.Nat.{add-zero, zero-add}
 use native.Mathlib.Omega.{arith}
-use lib.ListN.{length, getD, take, drop, set, replicate, length-append, length-drop, length-replicate}
+use lib.ListN.{length, getD, drop, set, replicate, length-append, length-drop, length-replicate}
 use lib.Seq.{drop-append-seam, drop-drop, getD-drop, append-snoc}
-use lib.Dec.{ltb, leb, eqb}
-use borrow.Author.Tests.{lt-ltb, le-ltb, le-leb, lt-leb, eq-eqb}
+use lib.Dec.{ltb}
+use borrow.Author.Tests.{lt-ltb, le-ltb, le-leb}
 use Rattle.weights.proofs.Choice.{both-true}
 use Rattle.columns.specs.Acceptance.{allBelow}
 use Rattle.columns.proofs.Accepted.{below-at}
@@ -19,7 +18,6 @@ use Rattle.inventory.specs.Shelf.{mostEvents}
 use Rattle.text.specs.Render.{digits, tailText}
 use Rattle.text.specs.Machine.{digitOf}
 use Rattle.text.proofs.Digits.{digits-one, digits-more, by-digits, byte-digit}
-use Rattle.cursor.specs.declared.Found.{Found}
 use Rattle.cursor.specs.declared.Found.the-variants as found
 use Rattle.cursor.specs.declared.Token.{Token}
 use Rattle.cursor.specs.declared.Separator.{Separator}
@@ -39,17 +37,13 @@ use Rattle.ledger.specs.Record.{
   stockWord,
   asNext,
   foundNumber,
-  onSeparator,
   nextAt,
-  Gathered,
   gathered,
   onNext,
   onFull,
   countsFrom,
   shelfIn,
-  onPart,
   eventAt,
-  Listed,
   listed,
   onEvent,
   eventsFrom,

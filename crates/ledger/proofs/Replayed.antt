@@ -1,7 +1,7 @@
 -- What is said of a record, in the request's words: the outcomes and the final counts, or the line of the refusal; and that it fits. Assumes nothing.
 use mathlib.Core.Path.{_≡_, refl, sym, _∙_, ap, ap₂, subst}
 use mathlib.Core.List.{List}
-use Prim.Native.Nat.{ℕ, _≤_, _<_}
+use Prim.Native.Nat.{ℕ, _≤_}
 use native.Mathlib.Omega.{arith}
 use native.Mathlib.Decide.{decLe}
 use lib.ListN.{length, take, replicate, length-replicate}
@@ -23,7 +23,7 @@ use Rattle.report.specs.Report.{mostInput}
 use Rattle.reply.specs.Reply.{mostReply, Said, answered, secondRefused, onSecond}
 use Rattle.ledger.specs.declared.Record.{Record}
 use Rattle.ledger.specs.declared.Record.the-variants as read
-use Rattle.ledger.specs.Record.{mostShelf, Entered, entered, readRecord}
+use Rattle.ledger.specs.Record.{mostShelf, readRecord}
 use Rattle.ledger.specs.Ledger.{ledger, replayedSaid, blanks, replaySaid}
 use Rattle.ledger.specs.Replayed.{recordText, Writable, RecordSaid}
 use Rattle.ledger.proofs.Said.{said-long, said-refused, said-read, read-within}

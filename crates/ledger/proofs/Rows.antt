@@ -1,8 +1,8 @@
 -- The pieces in which a row and the line of the counts are written, how long they can be, and the laws by which rows are written one behind the other.
 -- Assumes nothing.
-use mathlib.Core.Path.{_≡_, refl, sym, _∙_, ap, ap₂}
+use mathlib.Core.Path.{_≡_, sym, _∙_, ap, ap₂}
 use mathlib.Core.List.{List, [], _∷_, _++_, append-assoc, append-nil}
-use Prim.Native.Nat.{ℕ, zero, suc, _+_, _-_, _*_, _^_, _≤_, _<_}
+use Prim.Native.Nat.{ℕ, suc, _+_, _-_, _*_, _^_, _≤_, _<_}
 use native.Mathlib.Numerals.{add-one}
 use native.Mathlib.Omega.{arith}
 use lib.ListN.{length, getD, take, drop, length-append}
@@ -16,7 +16,7 @@ use Rattle.writing.proofs.Written.{lent, written-as}
 use Rattle.writing.proofs.Widths.{width-20}
 use Rattle.reply.proofs.Room.{behind-starts, behind-room, written-behind}
 use Rattle.ledger.specs.Record.{mostShelf, stockWord}
-use Rattle.ledger.specs.Ledger.{mostOutcome, mostRow, mostStockLine, outcomeWord, outcomeText, outcomeRow, outcomeRows, stockLine}
+use Rattle.ledger.specs.Ledger.{mostOutcome, mostRow, mostStockLine, outcomeWord, outcomeText, outcomeRow, outcomeRows}
 
 -- An outcome -----------------------------------------------------------------------------------------------------------------------------------------
 
@@ -77,10 +77,6 @@ rows-one (x ∷ vs) (y ∷ os) v o e =
 -- those of the first i events
 abbrev pub rowsTo : (vs os : List ℕ) → ℕ → List ℕ
 rowsTo vs os i = outcomeRows (take i vs) (take i os)
-
-pub rows-none : (vs os : List ℕ) → rowsTo vs os 0 ≡ []
-unfolding outcomeRows
-rows-none vs os = refl
 
 -- they are written, in at most as many times the bytes of a row
 module _ (vs os old room : List ℕ) (i at : ℕ) (level : length os ≡ length vs) (h : i < length vs) (w : Written (rowsTo vs os i) old at room) (s : at ≤ mostRow * i)

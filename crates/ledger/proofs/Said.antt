@@ -12,7 +12,7 @@ use Rattle.refusal.specs.declared.Acceptance.{Acceptance}
 use Rattle.refusal.specs.declared.Acceptance.the-variants as answer
 use Rattle.columns.specs.Columns.{Entries, Columns}
 use Rattle.inventory.specs.Shelf.{mostEvents}
-use Rattle.inventory.specs.Replaying.{ReplayOutcome, replayed}
+use Rattle.inventory.specs.Replaying.{replayed}
 use Rattle.report.specs.Report.{mostInput}
 use Rattle.reply.specs.declared.Reply.{Reply}
 use Rattle.reply.specs.Reply.{Said, answered, secondRefused, onSecond, Replied}

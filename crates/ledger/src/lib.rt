@@ -20,7 +20,6 @@ use writing::put_bytes;
 use writing::put_number;
 use writing::put_tail;
 ghost use mathlib.Core.Path.{_≡_};
-ghost use mathlib.Core.List.{[], _∷_, _++_};
 ghost use Prim.Native.Nat.{_+_, _*_, _≤_, _<_, _^_};
 ghost use lib.ListN.{length};
 ghost use Rattle.columns.specs.Columns.{columns, entries};

@@ -1,5 +1,5 @@
 -- `ledger::pieces_at` meets its contract, by what stands behind the part, and behind the pieces. Assumes nothing.
-use mathlib.Core.Path.{_≡_, sym, _∙_}
+use mathlib.Core.Path.{sym, _∙_}
 use native.Mathlib.Omega.{arith}
 use borrow.Author.Needs.{needs}
 use Rattle.cursor.proofs.Counts.{byte-within}

@@ -1,5 +1,5 @@
 -- `ledger::read_shelf` meets its contract, by whether the word stands at the start. Assumes nothing.
-use mathlib.Core.Path.{_≡_, sym, _∙_}
+use mathlib.Core.Path.{sym, _∙_}
 use borrow.Author.Needs.{needs}
 use Rattle.ledger.proofs.Laws.{shelf-word, shelf-other}
 use Rattle.ledger.proofs.read_shelf.Statement.{statement}

@@ -1,7 +1,6 @@
 -- `ledger::wrong_at` meets its contract. Assumes nothing.
 use mathlib.Core.Path.{refl}
 use native.Mathlib.Omega.{arith}
-use borrow.Author.Needs.{needs}
 use Rattle.ledger.proofs.wrong_at.Statement.{statement}
 use Rattle.ledger.proofs.wrong_at.Tie as tie
 
