@@ -17,13 +17,13 @@ use Rattle.columns.proofs.Filled.{filled-none, filled-set, take-filled}
 use Rattle.inventory.specs.Shelf.{mostEvents}
 use Rattle.text.specs.Render.{digits, tailText}
 use Rattle.text.specs.Machine.{digitOf}
-use Rattle.text.proofs.Digits.{digits-one, digits-more, by-digits, byte-digit}
 use Rattle.cursor.specs.declared.Found.the-variants as found
 use Rattle.cursor.specs.declared.Token.{Token}
 use Rattle.cursor.specs.declared.Separator.{Separator}
 use Rattle.cursor.specs.declared.Separator.the-variants as separator
 use Rattle.cursor.specs.Cursor.{token, digitsFrom, numberOf, numberAt, separatorAt}
 use Rattle.reading.specs.Lines.{agreeing}
+use Rattle.reader.proofs.Fields.{number-found}
 use Rattle.ledger.specs.declared.Next.{Next}
 use Rattle.ledger.specs.declared.Next.the-variants as next
 use Rattle.ledger.specs.declared.Counts.the-variants as counts
@@ -55,46 +55,6 @@ use Rattle.ledger.specs.Ledger.{stockLine}
 use Rattle.ledger.specs.Replayed.{eventLine, eventLines, recordText, Writable, ReadsBack, ReadBack}
 use Rattle.ledger.proofs.Laws.{next-is, pieces-line, event-is, shelf-word, record-is}
 
--- A number -------------------------------------------------------------------------------------------------------------------------------------------
-
--- its digits are read, whatever stands behind them
-abbrev Reads : (at limit v : ℕ) → Type 0
-Reads at limit v = (bs : List ℕ) → v < limit → numberOf (digits v ++ bs) at limit ≡ digitsFrom bs at (at + length (digits v)) limit v
-
-reads-one : (at limit d : ℕ) → d < 10 → Reads at limit d
-reads-one at limit d h bs l = ap (λ (z : List ℕ). numberOf (z ++ bs) at limit) e ∙ here ∙ ap (λ (k : ℕ). digitsFrom bs at (at + k) limit d) (sym (ap length e))
-  where
-    e : digits d ≡ (48 + d) ∷ []
-    e = digits-one d h
-
-    here : numberOf ((48 + d) ∷ bs) at limit ≡ digitsFrom bs at (at + 1) limit d
-    here = unfold numberOf in rw (byte-digit d h, lt-ltb d 10 h, lt-ltb d limit l)
-
-reads-more : (at limit v d : ℕ) → 0 < v → d < 10 → Reads at limit v → Reads at limit (10 * v + d)
-reads-more at limit v d p h r bs l =
-    ap (λ (z : List ℕ). numberOf (z ++ bs) at limit) e
-    ∙ ap (λ (z : List ℕ). numberOf z at limit) (append-assoc (digits v) ((48 + d) ∷ []) bs)
-    ∙ r ((48 + d) ∷ bs) (omega arith)
-    ∙ here
-    ∙ ap (λ (k : ℕ). digitsFrom bs at k limit (10 * v + d)) far
-  where
-    e : digits (10 * v + d) ≡ digits v ++ (48 + d) ∷ []
-    e = digits-more v d p h
-
-    here : digitsFrom ((48 + d) ∷ bs) at (at + length (digits v)) limit v ≡ digitsFrom bs at (at + length (digits v) + 1) limit (10 * v + d)
-    here = unfold digitsFrom in rw (byte-digit d h, lt-ltb d 10 h, lt-ltb 0 v p, lt-ltb (10 * v + d) limit l)
-
-    far : at + length (digits v) + 1 ≡ at + length (digits (10 * v + d))
-    far = let k = ap length e in let m = length-append (digits v) ((48 + d) ∷ []) in omega arith
-
-reads : (at limit v : ℕ) → Reads at limit v
-reads at limit = by-digits (Reads at limit) (reads-one at limit) (reads-more at limit)
-
--- it ends at a byte that is no digit
-ends : (b : ℕ) (bs : List ℕ) (at i limit v : ℕ) → 10 ≤ digitOf b → digitsFrom (b ∷ bs) at i limit v ≡ token at i (found.Number v)
-unfolding digitsFrom
-ends b bs at i limit v h = rw (le-ltb (digitOf b) 10 h)
-
 -- Places -----------------------------------------------------------------------------------------------------------------------------------------------
 
 -- these bytes stand from a place on
@@ -114,9 +74,7 @@ module _ (s : List ℕ) (at : ℕ) where
 
   number-there : (v b : ℕ) (bs : List ℕ) → 10 ≤ digitOf b → v < numberLimit → drop at s ≡ digits v ++ b ∷ bs
       → token at (at + length (digits v)) (found.Number v) ≡ numberAt s at numberLimit
-  unfolding numberAt
-  number-there v b bs h l e =
-      sym (ap (λ (z : List ℕ). numberOf z at numberLimit) e ∙ reads at numberLimit v (b ∷ bs) l ∙ ends b bs at (at + length (digits v)) numberLimit v h)
+  number-there v b bs h l e = sym (number-found s (b ∷ bs) at numberLimit v e l h)
 
   space-there : (bs : List ℕ) → drop at s ≡ 32 ∷ bs → separatorAt s at ≡ separator.Space (at + 1)
   unfolding separatorAt
@@ -129,14 +87,14 @@ module _ (s : List ℕ) (at : ℕ) where
   line-ends : (bs : List ℕ) → drop at s ≡ 10 ∷ bs → nextAt s at ≡ next.End (at + 1)
   line-ends bs e = sym (next-is s at (separatorAt s at) (separator.LineEnd (at + 1)) refl (end-there bs e))
 
-number-found : (s : List ℕ) (at v b : ℕ) (bs : List ℕ) → 10 ≤ digitOf b → v < numberLimit → drop at s ≡ digits v ++ b ∷ bs → foundNumber s at ≡ next.Number v (at + length (digits v))
+number-behind : (s : List ℕ) (at v b : ℕ) (bs : List ℕ) → 10 ≤ digitOf b → v < numberLimit → drop at s ≡ digits v ++ b ∷ bs → foundNumber s at ≡ next.Number v (at + length (digits v))
 unfolding foundNumber
-number-found s at v b bs h l e = ap (λ (t : Token). asNext (t .stop) (t .found)) (sym (number-there s at v b bs h l e))
+number-behind s at v b bs h l e = ap (λ (t : Token). asNext (t .stop) (t .found)) (sym (number-there s at v b bs h l e))
 
 number-next : (s : List ℕ) (at v b : ℕ) (bs : List ℕ) → 10 ≤ digitOf b → v < numberLimit → drop at s ≡ 32 ∷ (digits v ++ b ∷ bs) → nextAt s at ≡ next.Number v (at + 1 + length (digits v))
 number-next s at v b bs h l e =
     sym (next-is s at (separatorAt s at) (separator.Space (at + 1)) refl (space-there s at (digits v ++ b ∷ bs) e))
-    ∙ number-found s (at + 1) v b bs h l (behind s at (32 ∷ []) (digits v ++ b ∷ bs) e)
+    ∙ number-behind s (at + 1) v b bs h l (behind s at (32 ∷ []) (digits v ++ b ∷ bs) e)
 
 -- The counts -------------------------------------------------------------------------------------------------------------------------------------------
 
