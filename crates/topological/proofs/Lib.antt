@@ -1,5 +1,6 @@
 pub mod Checking
 pub mod Linking
+pub mod Passing
 pub mod Ordered
 pub mod Settled
 pub mod Exactly

@@ -11,7 +11,8 @@ use Rattle.weights.specs.declared.Label.{Label}
 use Rattle.weights.specs.declared.Measure.{Measure}
 use Rattle.weights.specs.declared.Offer.{Offer}
 use Rattle.weights.specs.Measures.{algebra}
-use Rattle.weights.proofs.Laws.{lawful}
+use Rattle.weights.proofs.Laws.{lawful, below-over}
+use Rattle.weights.proofs.Weighing.{weigh-within}
 use Rattle.refusal.specs.declared.Acceptance.the-variants.{Accepted}
 use Rattle.columns.specs.Columns.{Answers, Sized, Columns, answers, ownAt, cell}
 use Rattle.columns.specs.Acceptance.{mostVertices, mostEdges, acceptance}
@@ -19,11 +20,12 @@ use Rattle.columns.specs.Lent.{Usable}
 use Rattle.columns.proofs.Accepted.{table-accepted, AcceptedLabels}
 use Rattle.columns.proofs.Usable.{same-table, turning-columns}
 use Rattle.provenance.specs.Hypergraph.{Hypergraph}
-use Rattle.provenance.specs.Labelling.{weightIn, depthIn, candidate}
+use Rattle.provenance.specs.Labelling.{each, weightIn, depthIn, candidate}
 use Rattle.provenance.specs.BestFirst.{labels, put, blank, place}
 use Rattle.provenance.specs.InOrder.{first, walk, in-order}
 use Rattle.provenance.proofs.Existence.{zeros, greatest-at-most, sized-put}
 use Rattle.provenance.proofs.InOrder.{First, first-is}
+use Rattle.queue.specs.Keys.{heavy}
 use Rattle.tables.specs.Table.{hypergraph}
 use Rattle.topological.specs.Walking.{end, Linked, Linkable, Visitable, Storable, putAt, Walkable}
 
@@ -40,10 +42,11 @@ module _ (m : Measure) (c : Columns) where
   offerOf a v = first (algebra m) H (ownAt c) (weightIn (labels a)) (depthIn (labels a)) v (H .edges)
 
   module _ (p : acceptance c ≡ Accepted) where
-    -- columns of n places in which no depth is above k
+    -- columns of n places in which no depth is above k, and whose weights can be summed
     record Labelled (k : ℕ) (a : Answers) : Type 0 where
       size : Sized (c .vertices) a
       shallow : (u : ℕ) → cell (a .depths) u ≤ k
+      light : (u : ℕ) → cell (a .weights) u < heavy
 
     module _ {v : ℕ} {a : Answers} (g : Labelled v a) (h : v < c .vertices) where
       -- what is offered to v is stored there
@@ -52,12 +55,18 @@ module _ (m : Measure) (c : Columns) where
       stored (First.found e due least) = ap (λ (x : ℕ). put a x (candidate (algebra m) H (ownAt c) (labels a) e)) (due .yields)
 
       labelled : {o : Offer} → First (algebra m) H (ownAt c) (labels a) v (H .edges) o → Labelled (suc v) (putAt a v o)
-      labelled (First.none n) = record { size = g .size; shallow = λ u. omega (arith, g .shallow u) }
+      labelled (First.none n) = record { size = g .size; shallow = λ u. omega (arith, g .shallow u); light = g .light }
       labelled (First.found e due least) =
           let l : Label = candidate (algebra m) H (ownAt c) (labels a) e in
           let low : l .depth ≤ suc v = omega (arith, greatest-at-most (cell (a .depths)) v (g .shallow) (H .tail e)) in
-          record { size = sized-put a v l (g .size); shallow = λ u. go l low u (ℕ-discrete u v) }
+          let below : l .weight .0 < heavy = omega (arith, below-over m (weigh-within (lawful m) (ownAt c e) (each (cell (a .weights)) (H .tail e)))) in
+          record { size = sized-put a v l (g .size); shallow = λ u. go l low u (ℕ-discrete u v); light = λ u. weighed l below u (ℕ-discrete u v) }
         where
+          weighed : (l : Label) → l .weight .0 < heavy → (u : ℕ) → Dec (u ≡ v) → cell (set (a .weights) v (l .weight .0)) u < heavy
+          weighed l below u (yes q) =
+              omega (arith, ap (cell (set (a .weights) v (l .weight .0))) q, getD-set-same (a .weights) v (l .weight .0) 0 (omega (arith, g .size .weights)), below)
+          weighed l below u (no n) = omega (arith, getD-set-other (a .weights) v u (l .weight .0) 0 n, g .light u)
+
           go : (l : Label) → l .depth ≤ suc v → (u : ℕ) → Dec (u ≡ v) → cell (set (a .depths) v (l .depth)) u ≤ suc v
           go l low u (yes q) = omega (arith, ap (cell (set (a .depths) v (l .depth))) q, getD-set-same (a .depths) v (l .depth) 0 (omega (arith, g .size .depths)), low)
           go l low u (no n) = omega (arith, getD-set-other (a .depths) v u (l .depth) 0 n, g .shallow u)
@@ -70,6 +79,7 @@ module _ (m : Measure) (c : Columns) where
     so-far zero h = record {
       size = record { weights = length-replicate (c .vertices) 0; depths = length-replicate (c .vertices) 0; edges = length-replicate (c .vertices) 0 };
       shallow = λ u. omega (arith, zeros (c .vertices) u);
+      light = λ u. omega (arith, zeros (c .vertices) u);
     }
     so-far (suc v) h =
         let g = so-far v (omega arith) in
@@ -86,7 +96,7 @@ module _ (m : Measure) (c : Columns) where
       usable = turning-columns c a p (g .size) (λ u. omega (arith, g .shallow u, table-accepted c p .few)) .usable
 
       pub visitable : {fs ns : List ℕ} → Linked (c .heads) fs ns 0 → v < c .vertices → Visitable (same-table c (length (a .depths))) (a .weights) (a .depths) fs ns v
-      visitable l i = record { usable = usable; linked = l; inside = omega (arith, g .size .depths) }
+      visitable l i = record { usable = usable; light = g .light; linked = l; inside = omega (arith, g .size .depths) }
 
       pub storable : v < c .vertices → Storable v a
       storable i = record { weights = omega (arith, g .size .weights); depths = omega (arith, g .size .depths); edges = omega (arith, g .size .edges) }

@@ -11,9 +11,10 @@ use Rattle.weights.specs.Measures.{algebra}
 use Rattle.refusal.specs.declared.Acceptance.the-variants.{Accepted}
 use Rattle.columns.specs.Columns.{Answers, Columns, cell}
 use Rattle.columns.specs.Acceptance.{mostVertices, mostEdges, acceptance}
-use Rattle.columns.specs.Lent.{Usable}
+use Rattle.columns.specs.Lent.{EdgeIn, Usable}
 use Rattle.provenance.specs.BestFirst.{put, blank}
 use Rattle.provenance.specs.InOrder.{first}
+use Rattle.queue.specs.Keys.{heavy}
 use Rattle.tables.specs.Table.{hypergraph}
 
 -- stands for no line
@@ -40,13 +41,19 @@ pub record Linkable (heads first next : List ℕ) : Type 0 where
   pub long : length heads ≤ length next
   pub empty : (v : ℕ) → v < mostVertices → cell first v ≡ end
 
+-- line e can be read, and the weights that it lists can be summed
+pub record Weighable (e : ℕ) (os ms ss ts ws ds : List ℕ) : Type 0 where
+  pub edge : EdgeIn e os ms ss ts ws ds
+  pub light : (v : ℕ) → cell ws v < heavy
+
 -- the first of what the lines of v offer it, from the labels in two columns
 abbrev pub visited : Measure → Columns → (ws ds : List ℕ) → ℕ → Offer
 visited m c ws ds v = first (algebra m) (hypergraph c) (cell (c .own)) (cell ws) (cell ds) v (length (c .heads))
 
--- v can be visited: its lines are linked and can be read
+-- v can be visited: its lines are linked, can be read and summed
 pub record Visitable (c : Columns) (ws ds first next : List ℕ) (v : ℕ) : Type 0 where
   pub usable : Usable c ws ds
+  pub light : (u : ℕ) → cell ws u < heavy
   pub linked : Linked (c .heads) first next 0
   pub inside : v < length ds
 

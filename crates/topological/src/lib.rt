@@ -1,26 +1,32 @@
 // Tables in topological order: every hyperedge lists only vertices below its head. Their check, and
 // their settling by one walk up the vertices, which needs no queue: when a vertex is visited, all that
 // its hyperedges list has its label.
+use offers::deeper;
 use refusal::Acceptance;
 use refusal::Refusal;
 use weights::Hyperedge;
+use weights::Label;
 use weights::Mark;
 use weights::Measure;
 use weights::Offer;
 use weights::Vertex;
 use weights::Weight;
 ghost use mathlib.Core.Path.{_≡_};
+ghost use mathlib.Core.Bool.{true, not};
 ghost use Prim.Native.Nat.{_*_};
 ghost use lib.ListN.{length};
+ghost use Rattle.weights.specs.Figures.{isStruckMark};
 ghost use Rattle.weights.specs.Measures.{algebra};
+ghost use Rattle.provenance.specs.Labelling.{offerOf};
 ghost use Rattle.provenance.specs.BestFirst.{earlier};
 ghost use Rattle.provenance.specs.InOrder.{in-order};
-ghost use Rattle.columns.specs.Columns.{columns, answers, entries, cell};
+ghost use Rattle.columns.specs.Columns.{columns, answers, entries, tailOf, cell};
 ghost use Rattle.columns.specs.Lent.{lent};
 ghost use Rattle.columns.proofs.Accepted.{AcceptedLabels};
 ghost use Rattle.tables.specs.Table.{hypergraph};
+ghost use Rattle.waiting.specs.Lines.{Passable};
 ghost use Rattle.topological.specs.Ordering.{orderedEdge, orderedEdgesAcceptance, orderedAcceptance, orderedLentAcceptance, settledInOrder};
-ghost use Rattle.topological.specs.Walking.{Linkable, Linked, visited, Visitable, Walkable, putAt, Storable};
+ghost use Rattle.topological.specs.Walking.{Linkable, Linked, Weighable, visited, Visitable, Walkable, putAt, Storable};
 
 // In place of a hyperedge, at the end of a list.
 const END: u16 = 65535;
@@ -190,6 +196,73 @@ fn earlier(measure: Measure, a: Offer, b: Offer) -> Offer
     Offer::Found(y)
 }
 
+// What hyperedge e of this own weight and tail gives from the labels in the columns; nothing where a
+// vertex of its tail is unmade. The weights are the walk's own, so a sum of at most 16 of them does
+// not wrap, and it is capped once, at the end.
+fn candidate(
+    measure: Measure,
+    e: Hyperedge,
+    own: Weight,
+    tail: &[u64],
+    weights: &[u64],
+    depths: &[u64],
+) -> Offer
+    requires { ⌜ Passable (now tail) (now weights) (now depths) ⌝ }
+    ensures { λ r. ⌜ r ≡ offerOf (algebra measure) true (own .0) (now (tail .entry)) (cell (now (weights .entry))) (cell (now (depths .entry))) (e .0) ⌝ }
+{
+    let unit = Weight::unit(measure);
+    let mut joined = unit.0;
+    let mut deepest: u64 = 0;
+    let mut i = 0;
+    while i < tail.len() {
+        let v = tail[i] as usize;
+        let depth = depths[v];
+        if depth == 0 {
+            return Offer::Nothing;
+        }
+        let weight = weights[v];
+        joined = waiting::joining(measure, joined, weight);
+        deepest = deeper(deepest, depth);
+        i += 1;
+    }
+    let weight = own.finish(measure, Weight(joined));
+    let depth = deepest + 1;
+    Offer::Found(Label {
+        weight,
+        depth,
+        edge: e,
+    })
+}
+
+// What hyperedge e of a table offers. It is what `offers::offer` answers, which caps every sum, and
+// which with a second caller would be inlined in neither.
+fn offer_in_order(
+    measure: Measure,
+    e: Hyperedge,
+    own: &[u64],
+    strikes: &[u64],
+    spans: &[u64],
+    tails: &[u64],
+    weights: &[u64],
+    depths: &[u64],
+) -> Offer
+    requires { ⌜ Weighable (e .0) (now own) (now strikes) (now spans) (now tails) (now weights) (now depths) ⌝ }
+    ensures { λ r.
+        let live = not (isStruckMark (cell (now (strikes .entry)) (e .0))) in
+        let tail = tailOf (now (spans .entry)) (now (tails .entry)) (e .0) in
+        ⌜ r ≡ offerOf (algebra measure) live (cell (now (own .entry)) (e .0)) tail (cell (now (weights .entry))) (cell (now (depths .entry))) (e .0) ⌝ }
+{
+    let i = e.0 as usize;
+    let mark = strikes[i];
+    let struck = Mark(mark).is_struck();
+    if struck {
+        return Offer::Nothing;
+    }
+    let weight = own[i];
+    let tail = columns::tail_of(e, spans, tails);
+    candidate(measure, e, Weight(weight), tail, weights, depths)
+}
+
 // The first of what the hyperedges of v offer it.
 fn visit(
     measure: Measure,
@@ -214,7 +287,7 @@ fn visit(
     let mut l = first[v.0 as usize];
     while l != END {
         let e = Hyperedge(l as u64);
-        let o = offers::offer(measure, e, own, strikes, spans, tails, weights, depths);
+        let o = offer_in_order(measure, e, own, strikes, spans, tails, weights, depths);
         best = earlier(measure, best, o);
         l = next[l as usize];
     }

@@ -42,7 +42,7 @@ fn lesser(a: u64, b: u64) -> u64
 
 // Two weights of a tail, joined. A sum is capped only at the end of the tail, where it has no more
 // than 16 weights.
-fn joining(measure: Measure, a: u64, b: u64) -> u64
+pub fn joining(measure: Measure, a: u64, b: u64) -> u64
     requires { ⌜ a + b < 18446744073709551616 ⌝ }
     ensures { λ r. ⌜ r ≡ plain measure a b ⌝ }
 {

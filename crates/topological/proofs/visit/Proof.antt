@@ -64,8 +64,10 @@ numbered c = along-line _ _ _ _ _ (along (c .before)) (c .loop-test .taken)
 cast-t21 : tie.Need-cast-t21 Inv-loop μ-loop
 cast-t21 c = omega (arith, numbered c, few (entry (c .before)))
 
-offer-requires : tie.Need-offer-requires Inv-loop μ-loop
-offer-requires c κs = edge-in (entry (c .before) .pre .usable) (c .before .loop .l) (numbered c)
+offer-in-order-requires : tie.Need-offer-in-order-requires Inv-loop μ-loop
+offer-in-order-requires c κs =
+    let p = entry (c .before) .pre in
+    record { edge = edge-in (p .usable) (c .before .loop .l) (numbered c); light = p .light }
 
 earlier-requires : tie.Need-earlier-requires Inv-loop μ-loop
 earlier-requires c κs = search needs
@@ -94,7 +96,7 @@ loop-again c =
     let a = s .args in
     let A = algebra (a .measure) in
     λ v h q. subst (Along A (tableOf s) (cell (a .weights .now)) (cell (a .depths .now)) v (cell (a .next .now) (i .before .loop .l)))
-    (sym (e .earlier .ensures ∙ ap (earlier A (i .before .loop .best)) (o .offer .ensures)))
+    (sym (e .earlier .ensures ∙ ap (earlier A (i .before .loop .best)) (o .offer-in-order .ensures)))
     (along-next A (tableOf s) (cell (a .weights .now)) (cell (a .depths .now)) v (i .before .loop .inv v h q) (s .pre .linked) (i .loop-test .taken))
 
 returns : tie.Need-returns Inv-loop μ-loop
@@ -110,7 +112,7 @@ visit-spec =
     shared-slice-read-l
     loop-holds
     cast-t21
-    offer-requires
+    offer-in-order-requires
     earlier-requires
     cast-l
     mul-l-2
