@@ -16,8 +16,7 @@ use Rattle.quote.specs.Quoted.{Quoted}
 use Rattle.quote.proofs.Quoted.{quoted}
 use Rattle.compare.specs.Compared.{Compared, ComparedAny}
 use Rattle.compare.proofs.Compared.{compared, compared-any}
-use Rattle.ledger.specs.Replayed.{Writable, ReadBack, RecordSaid}
-use Rattle.ledger.proofs.ReadBack.{read-back}
+use Rattle.ledger.specs.Replayed.{RecordSaid}
 use Rattle.ledger.proofs.Replayed.{record-said}
 use Rattle.sample.specs.Told.{MeanTold}
 use Rattle.sample.proofs.Told.{mean-told}
@@ -48,12 +47,9 @@ module _ (m m′ : Measure) (c c′ : Columns) (p : acceptance c ≡ Accepted) (
 pub desk-compare-any : (n : ℕ) (a : Entries) (second : List ℕ) → ComparedAny n a second
 desk-compare-any = compared-any
 
--- "`replay` with a record: the outcome of each event, then the final counts"; and a record that is written as a text is read back as it is
+-- "`replay` with a record: the outcome of each event, then the final counts", of every record that can be written as a text
 pub desk-replay : (m : Measure) (c : Columns) (a : Entries) → RecordSaid m c a
 desk-replay = record-said
-
-pub desk-record : (shelf parts received : List ℕ) → Writable shelf parts received → ReadBack shelf parts received
-desk-record = read-back
 
 -- "`mean`: mean and variance of the numbers on standard input, a line each"
 pub desk-mean : (xs : List ℕ) → MeanTold xs
