@@ -37,17 +37,21 @@ build() {
     fail 'the program was not built'
 }
 
-# What the program prints of the input, in full, and the file that a refusal is of; another word on its standard error, or another status than 0, is trouble.
+# What the program prints of the input, in full, and what a refusal is of; another word on its standard error, or another status than 0, is trouble.
 run() {
     local status
     blamed=$file shown=$work/input
+    [ "$file" != - ] || blamed='standard input'
     output=$("$program" "$@" <"$work/input" 2>"$work/errors"; status=$?; printf .; exit "$status")
     status=$?
     output=${output%.}
-    if [ "$(cat -- "$work/errors")" = "parts: that is the second file's" ]; then
-        blamed=$second shown=$work/second
-        : >"$work/errors"
-    fi
+    case $(cat -- "$work/errors") in
+        "parts: that is the second file's")
+            blamed=$second shown=$work/second
+            : >"$work/errors"
+            ;;
+        'parts: these words are no command') fail 'these words are no command: see bash desk --help' ;;
+    esac
     [ "$status" -eq 0 ] && [ ! -s "$work/errors" ] && return
     cat -- "$work/errors" >&2
     fail "the program ended with status $status"
@@ -87,13 +91,11 @@ cell() { awk -F ' *[|] *' -v number="$1" -v column="$2" '$2 == number { print $c
 
 # Says of a refusal when it is given and what to do, and shows the line.
 explain() {
-    local name=$blamed
-    [ "$name" != - ] || name='standard input'
     if [ "$1" -eq 14 ]; then
-        say "$name, line $2, column $3: $(cell "$1" 3)"
+        say "$blamed, line $2, column $3: $(cell "$1" 3)"
         say "line $2 is $(visible "$2")"
     else
-        say "$name: $(cell "$1" 3)"
+        say "$blamed: $(cell "$1" 3)"
     fi
     say "$(cell "$1" 5)"
 }

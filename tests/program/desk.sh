@@ -53,10 +53,17 @@ desk 'desk explains a broken text' 1 "desk: examples/broken.parts, line 4, colum
 desk 'desk explains which of two tables is refused' 1 "desk: examples/broken.parts, line 4, column 9: $(cell 14 3)*line 4 is 2 500 0 9<LF>*" "$week" compare examples/broken.parts <<<'refused 14 4 9'
 desk 'desk names the first of two' 1 "desk: examples/broken.parts, line 4, column 9: *" examples/broken.parts compare "$week" <<<'refused 14 4 9'
 printf 'stock 1 3 0 0 1\n2 0\n5 0\n' >"$work/record"
-desk 'desk explains a refused record' 1 "desk: $work/record: $(cell 25 3)*$(cell 25 5)" "$week" replay "$work/record" <<<'refused 25 1'
+desk 'desk explains a refused record' 1 "desk: $work/record: $(cell 25 3)*$(cell 25 5)*event 1 is line 3: 5 0<LF>" "$week" replay "$work/record" <<<'refused 25 1'
+printf 'stock 1 3 0 0 1\n1 999998\n' >"$work/record"
+desk 'desk shows the receipt that is too great' 1 "*$(cell 26 5)*event 0 is line 2: 1 999998<LF>" "$week" replay "$work/record" <<<'refused 26 0'
+printf 'stock 1 3 0 0 1000001\n1 999998\n' >"$work/record"
+desk 'desk names the opening count that is too great' 1 "*$(cell 26 5)*it is the opening count of part 4" "$week" replay "$work/record" <<<'refused 26 4'
 desk 'desk names a second file that is missing' 2 'desk: there is no file examples/missing.parts' "$week" compare examples/missing.parts </dev/null
-for words in 'sell' 'compare' 'replay' 'compare 1 2' 'mean 1' 'bill' 'bill 1 2' 'bill x' 'bill 01' 'bill -1' 'bill 18446744073709551616' 'price 1' 'append 1' 'reprice 1'; do
-    desk "desk does not know $words" 2 'parts: these words are no command*' "$week" $words </dev/null
+for words in 'compare' 'replay' 'compare 1 2'; do
+    desk "desk wants a second file of $words" 2 'desk: * needs one file more, and no numbers*' "$week" $words </dev/null
+done
+for words in 'sell' 'mean 1' 'bill' 'bill 1 2' 'bill x' 'bill 01' 'bill -1' 'bill 18446744073709551616' 'price 1' 'append 1' 'reprice 1'; do
+    desk "desk does not know $words" 2 'desk: these words are no command: see bash desk --help' "$week" $words </dev/null
 done
 desk 'desk wants a command' 2 'desk: a file and a command are needed*' "$week" </dev/null
 desk 'desk knows its options' 2 'desk: there is no option --days*' --days "$week" price </dev/null

@@ -131,9 +131,10 @@ module _ (n : ℕ) (a : Entries) (m : Measure) (c : Columns) (t : acceptance c �
 pub absent : (m : Measure) (c : Columns) → acceptance c ≡ Accepted → Absent m c
 absent m c t v h =
     let z = entries-sized m c t .labels .depths in
+    let y = entries-sized m c t .labels .weights in
     let d = List·getD-eq-default (entriesOf m c .labels .depths) 0 {n = v} (omega arith) in
     let w = labels (entriesOf m c .labels) v .weight .0 in
-    ap (λ (k : ℕ). pick (eqb k 0) Unmade (pick (isOver w) Over Made)) d
+    (ap (λ (k : ℕ). pick (eqb k 0) Unmade (pick (isOver w) Over Made)) d, List·getD-eq-default (entriesOf m c .labels .weights) 0 {n = v} (omega arith))
 
 pub compared : (m m′ : Measure) (c c′ : Columns) → acceptance c ≡ Accepted → acceptance c′ ≡ Accepted → length (render m′ c′) ≤ mostInput → Compared m m′ c c′ (render m′ c′)
 compared m m′ c c′ t t′ h = record {

@@ -23,9 +23,9 @@ pub record RowExactly (v : ℕ) (x y : Entry) : Type 0 where
   pub alike : rowIf v x y ≡ [] → (x .state ≡ y .state) × (x .weight ≡ y .weight)
   pub silent : x .state ≡ y .state → x .weight ≡ y .weight → rowIf v x y ≡ []
 
--- a part that a table does not have is unmade in it
+-- a part that a table does not have is unmade in it, with figure 0
 abbrev pub Absent : Measure → Columns → Type 0
-Absent m c = (v : ℕ) → c .vertices ≤ v → entryAt (entriesOf m c) v .state ≡ Unmade
+Absent m c = (v : ℕ) → c .vertices ≤ v → (entryAt (entriesOf m c) v .state ≡ Unmade) × (entryAt (entriesOf m c) v .weight .0 ≡ 0)
 
 -- of the text of an accepted table
 pub record Compared (m m′ : Measure) (c c′ : Columns) (second : List ℕ) : Type 0 where

@@ -118,5 +118,6 @@ module _ (m : Measure) (c : Columns) (a : Entries) where
   record-said = record {
     printed = λ shelf vs ks w h p. said-of-record shelf vs ks w h ∙ replayed-right m c a vs ks shelf (blanks (length vs)) p;
     refused = λ shelf vs ks w h r g. said-of-record shelf vs ks w h ∙ replayed-wrong m c a vs ks shelf (blanks (length vs)) r g;
+    long = λ s h. sym (said-long m c a s h);
     fits = fits;
   }

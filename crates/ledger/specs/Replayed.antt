@@ -1,12 +1,14 @@
 -- What is said of a record, in the request's words. A record is written as a text that is read back as it is; where it can be replayed, the outcomes and the final counts
--- are printed, else the line of the refusal; and either fits the room of a reply. Assumes nothing: these are definitions.
+-- are printed, else the line of the refusal; and what is said of any text fits the room of a reply. By what a text that is no record's is refused is said by
+-- `readRecord` alone. Assumes nothing: these are definitions.
 use mathlib.Core.Path.{_≡_}
 use mathlib.Core.Bool.{true}
 use mathlib.Core.List.{List, [], _∷_, _++_}
-use Prim.Native.Nat.{ℕ, _≤_}
+use Prim.Native.Nat.{ℕ, _≤_, _<_}
 use lib.ListN.{length, take, replicate}
 use Rattle.weights.specs.declared.Measure.{Measure}
 use Rattle.refusal.specs.declared.Refusal.{Refusal}
+use Rattle.refusal.specs.declared.Refusal.the-variants.{InputLength}
 use Rattle.columns.specs.Columns.{Entries, Columns}
 use Rattle.columns.specs.Acceptance.{allBelow}
 use Rattle.inventory.specs.Shelf.{mostEvents}
@@ -55,4 +57,5 @@ pub record RecordSaid (m : Measure) (c : Columns) (a : Entries) : Type 0 where
       → replaySaid m c a (recordText shelf vs ks) ≡ answered (ledger vs (p .outcomes) (p .final))
   pub refused : (shelf vs ks : List ℕ) → Writable shelf vs ks → length (recordText shelf vs ks) ≤ mostInput → (r : Refusal) → WrongReplay m c a vs ks shelf (blanks (length vs)) r
       → replaySaid m c a (recordText shelf vs ks) ≡ secondRefused r
+  pub long : (second : List ℕ) → mostInput < length second → replaySaid m c a second ≡ secondRefused InputLength
   pub fits : (second : List ℕ) → length (replaySaid m c a second .bytes) ≤ mostReply

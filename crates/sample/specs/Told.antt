@@ -5,7 +5,6 @@ use Prim.Native.Nat.{ℕ, _≤_, _<_}
 use lib.ListN.{length, take}
 use Rattle.statistics.specs.Summaries.{summaryOf}
 use Rattle.text.specs.Render.{digits}
-use Rattle.reply.specs.Reply.{mostReply}
 use Rattle.sample.specs.Sample.{mostRead, numberLimit, summarySaid, meanSaid}
 
 -- a result on each line
@@ -18,7 +17,8 @@ pub data Readable : List ℕ → Type 0 where
   none : Readable []
   also : {x : ℕ} {xs : List ℕ} → x < numberLimit → Readable xs → Readable (x ∷ xs)
 
--- "mean and variance of the numbers on standard input, a line each": what the call says of them, and of more than 1,000 what it says of the first 1,001, which is 22
+-- "mean and variance of the numbers on standard input, a line each": what the call says of the results, and of more than 1,001 what it says of the first 1,001. By what a
+-- text that is no sample's is refused is said by `sampleFrom` alone
 pub record MeanTold (xs : List ℕ) : Type 0 where
   pub printed : Readable xs → meanSaid (sampleText xs) ≡ summarySaid (summaryOf (take mostRead xs))
   pub whole : length xs ≤ mostRead → take mostRead xs ≡ xs
