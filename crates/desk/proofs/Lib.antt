@@ -1,3 +1,4 @@
 pub mod Laws
 pub mod Appending
 pub mod Priced
+pub mod Second

@@ -26,6 +26,8 @@ use Rattle.amend.specs.Printed.{Printed, Reprices, Strikes, Restores, Appends}
 use Rattle.amend.proofs.Printed.{reprices, strikes, restores, appends}
 use Rattle.desk.specs.Priced.{PricesAsListed, PricesAgain}
 use Rattle.desk.proofs.Priced.{prices-as-listed, prices-again}
+use Rattle.desk.specs.Second.{SecondUnlooked}
+use Rattle.desk.proofs.Second.{second-unlooked}
 
 -- "`price`: what `listing` prints"
 pub desk-price : (input second : List ℕ) → PricesAsListed input second
@@ -50,6 +52,10 @@ desk-compare-any = compared-any
 -- "`replay` with a record: the outcome of each event, then the final counts", of every record that can be written as a text
 pub desk-replay : (m : Measure) (c : Columns) (a : Entries) → RecordSaid m c a
 desk-replay = record-said
+
+-- only these two look at the second input: with other words the same is said, whatever it is
+pub desk-second : (words : List ℕ) → SecondUnlooked words
+desk-second = second-unlooked
 
 -- "`mean`: mean and variance of the numbers on standard input, a line each"
 pub desk-mean : (xs : List ℕ) → MeanTold xs
