@@ -7,7 +7,7 @@ use lib.ListN.{replicate, set}
 use Rattle.text.specs.Machine.{digitOf}
 use Rattle.cursor.specs.Cursor.{digitsFrom, numberOf, numberAt, separatorAt}
 use Rattle.reading.specs.Lines.{agreeing}
-use Rattle.command.specs.declared.Question.the-variants.{Price, Reprice}
+use Rattle.command.specs.declared.Question.the-variants.{Price, Reprice, Compare, Replay}
 use Rattle.command.specs.declared.Query.the-variants.{Settled}
 use Rattle.command.specs.declared.Command.the-variants.{Ask, Misuse}
 use Rattle.command.specs.Command.{mostNumbers, priceWord, repriceWord, checkWord, compareWord, replayWord, line, foundNumber, nextAt, numbersFrom, commandIn, takesSecond}
@@ -16,6 +16,15 @@ use Rattle.command.specs.Command.{mostNumbers, priceWord, repriceWord, c
 pub price-line : commandIn (priceWord ++ 10 ∷ []) (replicate mostNumbers 0) ≡ record { line = line (Ask (Settled Price)) 0; numbers = replicate mostNumbers 0 }
 unfolding commandIn numbersFrom nextAt separatorAt agreeing
 price-line = refl
+
+-- `compare`, `replay`
+pub compare-line : commandIn (compareWord ++ 10 ∷ []) (replicate mostNumbers 0) .line ≡ line (Ask (Settled Compare)) 0
+unfolding commandIn numbersFrom nextAt separatorAt agreeing
+compare-line = refl
+
+pub replay-line : commandIn (replayWord ++ 10 ∷ []) (replicate mostNumbers 0) .line ≡ line (Ask (Settled Replay)) 0
+unfolding commandIn numbersFrom nextAt separatorAt agreeing
+replay-line = refl
 
 -- `reprice 1 350`
 pub reprice-line : commandIn (repriceWord ++ 32 ∷ 49 ∷ 32 ∷ 51 ∷ 53 ∷ 48 ∷ 10 ∷ []) (replicate mostNumbers 0) .line ≡ line (Ask (Settled (Reprice (record { 0 = 1 }) (record { 0 = 350 })))) 2

@@ -26,14 +26,16 @@ use Rattle.report.proofs.Closed.{entries-closed}
 use Rattle.report.proofs.Reports.{read-settles, rendered, columns-back}
 use Rattle.reply.specs.Reply.{refusedBy, onAcceptance}
 use Rattle.command.specs.declared.Command.{Command}
+use Rattle.command.specs.declared.Line.{Line}
 use Rattle.command.specs.declared.Command.the-variants.{Ask, Append, Mean, Misuse}
 use Rattle.command.specs.declared.Query.{Query}
 use Rattle.command.specs.declared.Query.the-variants.{Settled, Uses, Check, CheckOrder}
 use Rattle.command.specs.declared.Question.{Question}
 use Rattle.command.specs.declared.Question.the-variants.{Price, Bill, Reprice, Strike, Restore, Compare, Replay}
 use Rattle.command.specs.Command.{mostNumbers, commandIn, questionSecond, querySecond, commandSecond, takesSecond}
+use Rattle.command.proofs.Lines.{compare-line, replay-line}
 use Rattle.desk.specs.Desk.{settledSaid, answerSaid, tableSaid, onReading, inputSaid, commandSaid, deskSaid}
-use Rattle.desk.specs.Second.{SecondUnlooked}
+use Rattle.desk.specs.Second.{compareLine, replayLine, SecondUnlooked, Compares, Replays}
 use Rattle.desk.proofs.Laws.{settled-accepted, table-said, words-ask}
 
 -- What does not look at it -----------------------------------------------------------------------------------------------------------------------
@@ -112,3 +114,9 @@ module _ (m : Measure) (c : Columns) (p : acceptance c ≡ Accepted) (short : le
       ∙ read-asked s (render m c) short header (ap (λ (x : ReadOutcome). x .answer) (rendered m c p)) q k (l .numbers)
       ∙ ap (λ (z : Columns). answerSaid s q m z (entriesOf m z)) (columns-back m c p)
       ∙ ap (answerSaid s q m (closed c)) (entries-closed m c p)
+
+  pub compares : (second : List ℕ) → Compares m c second
+  compares second = settled-asked compareLine second Compare (ap (λ (l : Line). l .command) compare-line)
+
+  pub replays : (second : List ℕ) → Replays m c second
+  replays second = settled-asked replayLine second Replay (ap (λ (l : Line). l .command) replay-line)

@@ -2,13 +2,15 @@
 use mathlib.Core.Path.{_≡_}
 use mathlib.Core.List.{List}
 use Prim.Native.Nat.{ℕ, _≤_}
-use lib.ListN.{length}
+use lib.ListN.{length, replicate}
 use Rattle.weights.specs.declared.Measure.{Measure}
 use Rattle.refusal.specs.declared.Acceptance.the-variants.{Accepted}
 use Rattle.refusal.specs.declared.Counts.{Counts}
 use Rattle.columns.specs.Columns.{Entries, Columns}
 use Rattle.columns.specs.Acceptance.{acceptance}
 use Rattle.columns.specs.Longer.{NewLine}
+use Rattle.settle.specs.Settling.{entriesOf}
+use Rattle.text.specs.Tables.{closed}
 use Rattle.text.specs.Render.{render}
 use Rattle.report.specs.Report.{mostInput}
 use Rattle.reply.specs.Reply.{Said}
@@ -24,10 +26,15 @@ use Rattle.whereused.specs.Listed.{UsesTold}
 use Rattle.whereused.proofs.Listed.{uses-told}
 use Rattle.amend.specs.Printed.{Printed, Reprices, Strikes, Restores, Appends}
 use Rattle.amend.proofs.Printed.{reprices, strikes, restores, appends}
+use Rattle.command.specs.declared.Question.{Question}
+use Rattle.command.specs.declared.Query.the-variants.{Settled}
+use Rattle.command.specs.declared.Command.the-variants.{Ask}
+use Rattle.command.specs.Command.{mostNumbers, commandIn}
+use Rattle.desk.specs.Desk.{answerSaid, deskSaid}
 use Rattle.desk.specs.Priced.{PricesAsListed, PricesAgain}
 use Rattle.desk.proofs.Priced.{prices-as-listed, prices-again}
-use Rattle.desk.specs.Second.{SecondUnlooked}
-use Rattle.desk.proofs.Second.{second-unlooked}
+use Rattle.desk.specs.Second.{SecondUnlooked, Compares, Replays}
+use Rattle.desk.proofs.Second.{second-unlooked, settled-asked, compares, replays}
 
 -- "`price`: what `listing` prints"
 pub desk-price : (input second : List ℕ) → PricesAsListed input second
@@ -52,6 +59,19 @@ desk-compare-any = compared-any
 -- "`replay` with a record: the outcome of each event, then the final counts", of every record that can be written as a text
 pub desk-replay : (m : Measure) (c : Columns) (a : Entries) → RecordSaid m c a
 desk-replay = record-said
+
+-- and these are what the program says, of the text of a table: `compare` of its answers, `replay` of it with its gaps closed; so with `price`, `bill`, `reprice`, `strike` and
+-- `restore`, whose words are a command that is asked of a table and its answers
+module _ (m : Measure) (c : Columns) (p : acceptance c ≡ Accepted) (l : length (render m c) ≤ mostInput) where
+  pub desk-asked : (words second : List ℕ) (q : Question) → commandIn words (replicate mostNumbers 0) .line .command ≡ Ask (Settled q)
+      → deskSaid words (render m c) second ≡ answerSaid second q m (closed c) (entriesOf m c)
+  desk-asked = settled-asked m c p l
+
+  pub desk-compares : (second : List ℕ) → Compares m c second
+  desk-compares = compares m c p l
+
+  pub desk-replays : (second : List ℕ) → Replays m c second
+  desk-replays = replays m c p l
 
 -- only these two look at the second input: with other words the same is said, whatever it is
 pub desk-second : (words : List ℕ) → SecondUnlooked words
