@@ -253,6 +253,18 @@ fn broken(trial: &Trial) -> Outcome {
     Ok((FIRST.len() + LINES.len() + 6) as u64)
 }
 
+/// A byte is changed, added or left out, or the text is cut.
+fn mutate(rng: &mut Rng, text: &mut Vec<u8>, bytes: &[u8]) {
+    let place = rng.index(text.len());
+    let byte = rng.pick(bytes);
+    match rng.below(4) {
+        0 => text[place] = byte,
+        1 => text.insert(place, byte),
+        2 => text.truncate(place),
+        _ => drop(text.remove(place)),
+    }
+}
+
 /// Texts with a byte changed, added or left out, or cut; some are still permitted.
 fn mutated(trial: &Trial) -> Outcome {
     let small = small();
@@ -261,14 +273,7 @@ fn mutated(trial: &Trial) -> Outcome {
         if rng.chance(50) {
             text = written(rng.pick(&MEASURES), &closed(&tables::any(rng)));
         }
-        let place = rng.index(text.len());
-        let byte = rng.pick(b"0123456789 -\n\r\tpcg\0\xFF");
-        match rng.below(4) {
-            0 => text[place] = byte,
-            1 => text.insert(place, byte),
-            2 => text.truncate(place),
-            _ => drop(text.remove(place)),
-        }
+        mutate(rng, &mut text, b"0123456789 -\n\r\tpcg\0\xFF");
         replies(&text, &any_ask(rng)).map(|_| ())
     })
 }

@@ -1,5 +1,6 @@
 //! `compare` and `replay`: a second input stands in a file that the last argument names.
 
+use crate::desk::mutate;
 use crate::desk::program::{beside, with_nothing};
 use crate::desk::replies::{reply, state, Ask, MOST_INPUT};
 use crate::model::inventory::{replayed, Record, MOST_EVENTS, MOST_STOCK};
@@ -339,14 +340,7 @@ fn mutated(trial: &Trial) -> Outcome {
     trial.cases(trial.count / 20, |rng| {
         let (stock, events) = any_record(rng, 5);
         let mut record = record_text(&stock, &events);
-        let place = rng.index(record.len());
-        let byte = rng.pick(b"0123456789 -\n\r\tstock\0\xFF");
-        match rng.below(4) {
-            0 => record[place] = byte,
-            1 => record.insert(place, byte),
-            2 => record.truncate(place),
-            _ => drop(record.remove(place)),
-        }
+        mutate(rng, &mut record, b"0123456789 -\n\r\tstock\0\xFF");
         replays(&text, &record).map(|_| ())
     })
 }
