@@ -1,6 +1,6 @@
 -- The program for the desks: what its commands print, over the calls. Assumes nothing.
 use mathlib.Core.Path.{_≡_}
-use mathlib.Core.List.{List}
+use mathlib.Core.List.{List, []}
 use Prim.Native.Nat.{ℕ, _≤_}
 use lib.ListN.{length, replicate}
 use Rattle.weights.specs.declared.Measure.{Measure}
@@ -13,11 +13,12 @@ use Rattle.settle.specs.Settling.{entriesOf}
 use Rattle.text.specs.Tables.{closed}
 use Rattle.text.specs.Render.{render}
 use Rattle.report.specs.Report.{mostInput}
-use Rattle.reply.specs.Reply.{Said}
+use Rattle.reply.specs.Reply.{Said, answered}
 use Rattle.quote.specs.Quoted.{Quoted}
 use Rattle.quote.proofs.Quoted.{quoted}
+use Rattle.compare.specs.Compare.{comparedSaid}
 use Rattle.compare.specs.Compared.{Compared, ComparedAny}
-use Rattle.compare.proofs.Compared.{compared, compared-any}
+use Rattle.compare.proofs.Compared.{compared, compared-any, compared-with-itself}
 use Rattle.ledger.specs.Replayed.{RecordSaid}
 use Rattle.ledger.proofs.Replayed.{record-said}
 use Rattle.sample.specs.Told.{MeanTold}
@@ -55,6 +56,11 @@ module _ (m m′ : Measure) (c c′ : Columns) (p : acceptance c ≡ Accepted) (
 
 pub desk-compare-any : (n : ℕ) (a : Entries) (second : List ℕ) → ComparedAny n a second
 desk-compare-any = compared-any
+
+-- a table and its own text: no row
+pub desk-compare-itself : (m : Measure) (c : Columns) → acceptance c ≡ Accepted → length (render m c) ≤ mostInput
+    → comparedSaid (c .vertices) (entriesOf m c) (render m c) ≡ answered []
+desk-compare-itself = compared-with-itself
 
 -- "`replay` with a record: the outcome of each event, then the final counts", of every record that can be written as a text
 pub desk-replay : (m : Measure) (c : Columns) (a : Entries) → RecordSaid m c a
