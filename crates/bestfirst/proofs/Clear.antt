@@ -1,6 +1,6 @@
 -- Before the first turn: the columns to work in are clear, so nothing waits and nothing is queued. Assumes nothing.
-use Prim.Native.Nat.{ℕ, _<_}
-use mathlib.Core.Path.{_≡_, refl, sym, _∙_, ap}
+use Prim.Native.Nat.{ℕ, _*_, _<_}
+use mathlib.Core.Path.{_≡_, refl, sym, _∙_, ap, subst}
 use mathlib.Core.List.{List}
 use native.Mathlib.Omega.{arith}
 use lib.ListN.{length, replicate, length-replicate, getD-replicate}
@@ -9,27 +9,33 @@ use Rattle.weights.specs.Measures.{algebra}
 use Rattle.columns.specs.Columns.{Answers, Columns, cell}
 use Rattle.provenance.specs.BestFirst.{turns}
 use Rattle.provenance.proofs.Existence.{zeros}
-use Rattle.columns.specs.Acceptance.{mostVertices}
-use Rattle.columns.proofs.Accepted.{table-accepted}
-use Rattle.minima.specs.Minima.{none, size}
+use Rattle.minima.specs.Minima.{none, Grouped}
+use Rattle.minima.proofs.Laws.{no-keys-grouped}
 use Rattle.queue.specs.Keys.{heavy}
-use Rattle.waiting.specs.Lines.{end, Lines, lines, places, Offerable, Rested, Empty}
-use Rattle.waiting.proofs.Steps.{edge-room}
+use Rattle.waiting.specs.Lines.{end, Lines, lines, Room, roomOf, Offerable, Rested, Empty}
+use Rattle.waiting.proofs.Steps.{room-power, enough, edge-room}
 use Rattle.bestfirst.specs.Turns.{Blank, Begun, Cleared}
 
--- columns that are made for the purpose, with as many places for hyperedges as a table of so many asks for
-pub clear-columns : (m : Measure) (edges r : ℕ) {j : ℕ} → j ≡ algebra m .unit → places edges ≡ r
-    → Cleared m edges (lines (replicate mostVertices end) (replicate r 0) (replicate r 0) (replicate r j) (replicate r 0)) (replicate size none)
-clear-columns m edges r {j} u p =
-    let l : length {A = ℕ} (replicate r 0) ≡ places edges = length-replicate {A = ℕ} r 0 ∙ sym p in
-    record {
-      sizes = record { first = length-replicate mostVertices end; next = l; at = l; joined = length-replicate {A = ℕ} r j ∙ sym p; deepest = l };
-      untouched = λ e h. record { at = zeros r e; joined = getD-replicate r e j 0 (omega arith) ∙ u; deepest = zeros r e };
-      first = refl;
-      queue = refl;
-    }
+-- columns that are made for the purpose, with as many places as a room has
+module _ (m : Measure) (r : Room) {j : ℕ} (u : j ≡ algebra m .unit) where
+  abbrev clear-lines : Lines
+  clear-lines = lines (replicate (r .vertices) end) (replicate (r .edges) 0) (replicate (r .edges) 0) (replicate (r .edges) j) (replicate (r .edges) 0)
 
-module _ {m : Measure} {c : Columns} {a : Answers} {s : Lines} {q : List ℕ} (u : Blank m c a) (k : Cleared m (length (c .heads)) s q) where
+  cleared : Cleared m r clear-lines (replicate (2 * r .vertices) none)
+  cleared =
+      let l : length {A = ℕ} (replicate (r .edges) 0) ≡ r .edges = length-replicate {A = ℕ} (r .edges) 0 in
+      record {
+        sizes = record { first = length-replicate (r .vertices) end; next = l; at = l; joined = length-replicate {A = ℕ} (r .edges) j; deepest = l };
+        untouched = λ e h. record { at = zeros (r .edges) e; joined = getD-replicate (r .edges) e j 0 h ∙ u; deepest = zeros (r .edges) e };
+        first = refl;
+        queue = refl;
+      }
+
+  -- a table whose room this is
+  pub clear-columns : {r′ : Room} → r′ ≡ r → Cleared m r′ clear-lines (replicate (2 * r .vertices) none)
+  clear-columns p = subst (λ (z : Room). Cleared m z clear-lines (replicate (2 * r .vertices) none)) (sym p) cleared
+
+module _ {m : Measure} {c : Columns} {a : Answers} {s : Lines} {q : List ℕ} (u : Blank m c a) (k : Cleared m (roomOf c) s q) where
   light : (v : ℕ) → cell (a .weights) v < heavy
   unfolding turns
   light v = omega (arith, ap (λ (b : Answers). cell (b .weights) v) (u .blank), zeros (c .vertices) v)
@@ -42,7 +48,8 @@ module _ {m : Measure} {c : Columns} {a : Answers} {s : Lines} {q : List ℕ} (u
   offerable = record {
     usable = u .turning .usable;
     fitted = record { weight = light; depth = λ v. omega (arith, u .turning .usable .shallow v) };
-    sized = ap length (k .queue) ∙ length-replicate size none;
+    grouped = subst Grouped (sym (k .queue)) (no-keys-grouped (roomOf c .vertices) (room-power (c .vertices) (length (c .heads))));
+    sized = ap length (k .queue) ∙ length-replicate (2 * roomOf c .vertices) none;
   }
 
   pub emptied : Empty m c (a .depths) s q
@@ -50,7 +57,7 @@ module _ {m : Measure} {c : Columns} {a : Answers} {s : Lines} {q : List ℕ} (u
     sizes = k .sizes;
     unmade = deep-none;
     untouched = λ e h. k .untouched e (edge-room offerable e h);
-    empty = λ v h. ap (λ (z : List ℕ). cell z v) (k .first) ∙ getD-replicate mostVertices v end 0 (omega (arith, table-accepted c (u .turning .usable .accepted) .few));
+    empty = λ v h. ap (λ (z : List ℕ). cell z v) (k .first) ∙ getD-replicate (roomOf c .vertices) v end 0 (omega (arith, enough offerable .vertices));
     nothing = k .queue;
   }
 

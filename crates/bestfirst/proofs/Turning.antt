@@ -2,7 +2,7 @@
 use mathlib.Core.Path.{_≡_, refl, sym, _∙_, ap, subst}
 use mathlib.Core.Logic.{_≢_}
 use mathlib.Core.List.{List}
-use Prim.Native.Nat.{ℕ, _+_, _≤_, _<_}
+use Prim.Native.Nat.{ℕ, _*_, _+_, _≤_, _<_}
 use native.Mathlib.Omega.{arith}
 use native.Mathlib.Decide.{ℕ-discrete}
 use lib.ListN.{length, set, length-set}
@@ -24,11 +24,11 @@ use Rattle.tables.specs.Table.{hypergraph}
 use Rattle.columns.specs.Acceptance.{acceptance}
 use Rattle.columns.proofs.Accepted.{table-accepted}
 use Rattle.columns.proofs.Usable.{same-table}
-use Rattle.minima.specs.Minima.{none, keys, size, leastFrom, raised}
-use Rattle.minima.proofs.Laws.{raised-length}
+use Rattle.minima.specs.Minima.{none, leaves, leastKey, Grouped, raised}
+use Rattle.minima.proofs.Laws.{raised-length, raised-grouped}
 use Rattle.queue.specs.Keys.{heavy, unpacked, Fitting, keyOf}
 use Rattle.queue.proofs.Laws.{least-next, fitting-next, told-nothing, told-found}
-use Rattle.waiting.specs.Lines.{Lines, Offerable, Waking, Rested}
+use Rattle.waiting.specs.Lines.{Lines, roomOf, Offerable, Waking, Rested}
 use Rattle.bestfirst.specs.Turns.{Placeable, Waits, Underway}
 use Rattle.waiting.proofs.Steps.{head-key, edge-fits, found-fits}
 use Rattle.waiting.proofs.Queueing.{queued, woken, woken-chain, relabelled}
@@ -74,22 +74,23 @@ module _ {m : Measure} {c : Columns} {a : Answers} {s : Lines} {q : List ℕ} (u
   offerable = record {
     usable = u .turning .usable;
     fitted = record { weight = u .waits .light; depth = λ v. omega (arith, u .turning .usable .shallow v) };
-    sized = u .waits .rested .waiting .grouped .sized;
+    grouped = u .waits .rested .waiting .grouped;
+    sized = u .waits .rested .waiting .sized;
   }
 
   fitting : Fitting here
   fitting = fitting-next m H own w d (λ e h. edge-fits offerable e h m) (H .edges) (omega arith)
 
-  key-is : leastFrom q 0 keys ≡ keyOf m here
+  key-is : leastKey q ≡ keyOf m here
   key-is =
-      least-next m H own w d (λ e h. edge-fits offerable e h m) q (head-key offerable)
+      least-next m H own w d (λ e h. edge-fits offerable e h m) q (λ e h. omega (arith, head-key offerable e h, offerable .sized))
       (queued m c w d (head-key offerable) (λ e h. edge-fits offerable e h m) (u .waits .rested .waiting))
 
-  pub stuck : (k : ℕ) → k ≡ leastFrom q 0 keys → k ≡ none → a ≡ turn (algebra m) H own a
+  pub stuck : (k : ℕ) → k ≡ leastKey q → k ≡ none → a ≡ turn (algebra m) H own a
   unfolding turn
   stuck k p z = ap (place (algebra m) H own a) (told-nothing m k fitting (p ∙ key-is) z)
 
-  pub found : {l : Label} (k : ℕ) → k ≡ leastFrom q 0 keys → k ≢ none → l ≡ unpacked m k → Found l ≡ here
+  pub found : {l : Label} (k : ℕ) → k ≡ leastKey q → k ≢ none → l ≡ unpacked m k → Found l ≡ here
   found k p n e = ap Found e ∙ told-found m k fitting (p ∙ key-is) n
 
   module _ {l : Label} (f : Found l ≡ here) where
@@ -106,7 +107,7 @@ module _ {m : Measure} {c : Columns} {a : Answers} {s : Lines} {q : List ℕ} (u
     head-below : v < c .vertices
     head-below = table-accepted c (u .turning .usable .accepted) .each (l .edge .0) (told .numbered) .1 .head
 
-    few : v < keys
+    few : v < roomOf c .vertices
     few = head-key offerable (l .edge .0) (told .numbered)
 
     pub placeable : Placeable l (c .heads) a
@@ -144,8 +145,8 @@ module _ {m : Measure} {c : Columns} {a : Answers} {s : Lines} {q : List ℕ} (u
     same-vertices : c .vertices ≡ length ds
     same-vertices = sym (u .turning .usable .vertices) ∙ sym (length-set (a .depths) v (l .depth))
 
-    offerable-after : (q′ : List ℕ) → length q′ ≡ size → Offerable (same-table c (length ds)) ws ds q′
-    offerable-after q′ z = record {
+    offerable-after : (q′ : List ℕ) → Grouped q′ → length q′ ≡ 2 * roomOf c .vertices → Offerable (same-table c (length ds)) ws ds q′
+    offerable-after q′ g z = record {
       usable = record {
         accepted = subst (λ (n : ℕ). acceptance (same-table c n) ≡ Accepted) same-vertices (u .turning .usable .accepted);
         level = length-set (a .weights) v (l .weight .0) ∙ u .turning .usable .level ∙ sym (length-set (a .depths) v (l .depth));
@@ -153,11 +154,15 @@ module _ {m : Measure} {c : Columns} {a : Answers} {s : Lines} {q : List ℕ} (u
         shallow = λ x. omega (arith, shallow x, low);
       };
       fitted = record { weight = light; depth = λ x. omega (arith, shallow x, low) };
-      sized = z;
+      grouped = g;
+      sized = subst (λ (n : ℕ). length q′ ≡ 2 * roomOf (same-table c n) .vertices) same-vertices z;
     }
 
-    raised-sized : length (raised q v) ≡ size
-    raised-sized = raised-length q v few ∙ u .waits .rested .waiting .grouped .sized
+    wide : v < leaves q
+    wide = omega (arith, few, offerable .sized)
+
+    raised-sized : length (raised q v) ≡ 2 * roomOf c .vertices
+    raised-sized = raised-length q v (offerable .grouped) wide ∙ offerable .sized
 
     weights-same : (x : ℕ) → x ≢ v → cell ws x ≡ w x
     weights-same x n = getD-set-other (a .weights) v x (l .weight .0) 0 n
@@ -183,15 +188,15 @@ module _ {m : Measure} {c : Columns} {a : Answers} {s : Lines} {q : List ℕ} (u
       pub stored-turn : b ≡ turn (algebra m) H own a
       stored-turn = p ∙ turned
 
-      pub raisable : (length q ≡ size) × (x < keys)
-      raisable = (u .waits .rested .waiting .grouped .sized, omega (arith, few))
+      pub raisable : (Grouped q) × (x < leaves q)
+      raisable = (offerable .grouped, omega (arith, wide))
 
       pub waking-after : {q′ : List ℕ} → q′ ≡ raised q x
           → Offerable (same-table c (length (b .depths))) (b .weights) (b .depths) q′
           × ((x < length (b .depths)) × Waking m (same-table c (length (b .depths))) (b .weights) (b .depths) s q′ x (cell (s .first) x))
       waking-after {q′} r =
           let e : q′ ≡ raised q v = r ∙ ap (raised q) h in (
-            subst (λ (z : Answers). Offerable (same-table c (length (z .depths))) (z .weights) (z .depths) q′) (sym p) (offerable-after q′ (ap length e ∙ raised-sized)),
+            subst (λ (z : Answers). Offerable (same-table c (length (z .depths))) (z .weights) (z .depths) q′) (sym p) (offerable-after q′ (subst Grouped (sym e) (raised-grouped q v (offerable .grouped) wide)) (ap length e ∙ raised-sized)),
             (
               omega (arith, ap (λ (z : Answers). length (z .depths)) p, same-vertices, head-below),
               subst (λ (z : Answers). Waking m (same-table c (length (z .depths))) (z .weights) (z .depths) s q′ x (cell (s .first) x)) (sym p)

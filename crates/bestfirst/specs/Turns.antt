@@ -1,7 +1,7 @@
 -- What holds between the turns of best-first over a table in columns (document 000, Algorithm 1): which hyperedges wait for which vertex, and which labels are
 -- queued. Assumes nothing: these are definitions.
 use mathlib.Core.Path.{_≡_}
-use Prim.Native.Nat.{ℕ, _≤_, _<_}
+use Prim.Native.Nat.{ℕ, _*_, _≤_, _<_}
 use mathlib.Core.List.{List}
 use lib.ListN.{length, replicate}
 use Rattle.weights.specs.declared.Measure.{Measure}
@@ -10,11 +10,10 @@ use Rattle.weights.specs.Measures.{algebra}
 use Rattle.columns.specs.Columns.{Answers, Columns, cell}
 use Rattle.provenance.specs.BestFirst.{turns}
 use Rattle.tables.specs.Table.{hypergraph}
-use Rattle.columns.specs.Acceptance.{mostVertices}
 use Rattle.columns.specs.Lent.{Turning}
-use Rattle.minima.specs.Minima.{none, size}
+use Rattle.minima.specs.Minima.{none}
 use Rattle.queue.specs.Keys.{heavy}
-use Rattle.waiting.specs.Lines.{end, Lines, places, Sizes, Untouched, Rested}
+use Rattle.waiting.specs.Lines.{end, Lines, Room, Sizes, Untouched, Rested}
 
 -- a label's hyperedge has a head, and that head its place in each column
 pub record Placeable (l : Label) (heads : List ℕ) (a : Answers) : Type 0 where
@@ -45,9 +44,9 @@ pub record Begun (m : Measure) (c : Columns) (a : Answers) (s : Lines) (q : List
   pub unmade : Blank m c a
   pub waits : Waits m c (a .weights) (a .depths) s q
 
--- columns to work in, for as many hyperedges: nothing is passed, every list ends at once, and no key waits
-pub record Cleared (m : Measure) (edges : ℕ) (s : Lines) (q : List ℕ) : Type 0 where
-  pub sizes : Sizes edges s
-  pub untouched : (e : ℕ) → e < places edges → Untouched (algebra m) s e
-  pub first : s .first ≡ replicate mostVertices end
-  pub queue : q ≡ replicate size none
+-- columns to work in, with as many places: nothing is passed, every list ends at once, and no key waits
+pub record Cleared (m : Measure) (r : Room) (s : Lines) (q : List ℕ) : Type 0 where
+  pub sizes : Sizes r s
+  pub untouched : (e : ℕ) → e < r .edges → Untouched (algebra m) s e
+  pub first : s .first ≡ replicate (r .vertices) end
+  pub queue : q ≡ replicate (2 * r .vertices) none

@@ -12,8 +12,8 @@ ghost use Rattle.provenance.specs.BestFirst.{put, turn, best-first};
 ghost use Rattle.columns.specs.Columns.{answers, cell};
 ghost use Rattle.tables.specs.Table.{hypergraph};
 ghost use Rattle.columns.specs.Lent.{lent};
-ghost use Rattle.waiting.specs.Lines.{fewEdges, lines};
-ghost use Rattle.bestfirst.specs.Turns.{Placeable, Waits, Underway, Blank, Begun};
+ghost use Rattle.waiting.specs.Lines.{lines, small, middle, large, holds, roomOf};
+ghost use Rattle.bestfirst.specs.Turns.{Placeable, Waits, Underway, Blank, Begun, Cleared};
 
 // The head of a label's hyperedge gets the label; gives that head.
 fn store(
@@ -147,9 +147,70 @@ fn turns(
     }
 }
 
-// Best-first with columns of its own to work in: the lists of what waits, and a queue. A table of few
-// hyperedges is given few places, as every place has to be cleared.
-fn label_few(
+// Best-first in columns to work in, which are clear: the lists of what waits, and a queue.
+fn label_in(
+    measure: Measure,
+    heads: &[u64],
+    own: &[u64],
+    strikes: &[u64],
+    spans: &[u64],
+    tails: &[u64],
+    weights: &mut [u64],
+    depths: &mut [u64],
+    edges: &mut [u64],
+    first: &mut [u16],
+    next: &mut [u16],
+    at: &mut [u16],
+    joined: &mut [u64],
+    deepest: &mut [u16],
+    queue: &mut [u64],
+)
+    requires { let c = lent (now heads) (now own) (now strikes) (now spans) (now tails) (now depths) in
+        let a = answers (now weights) (now depths) (now edges) in
+        let s = lines (now first) (now next) (now at) (now joined) (now deepest) in
+        ⌜ (Blank measure c a) × Cleared measure (roomOf c) s (now queue) ⌝ }
+    ensures { λ r.
+        let c = lent (now (heads .entry)) (now (own .entry)) (now (strikes .entry)) (now (spans .entry)) (now (tails .entry)) (now (depths .entry)) in
+        let a′ = answers (now (weights .exit)) (now (depths .exit)) (now (edges .exit)) in
+        ⌜ a′ ≡ best-first (algebra measure) (hypergraph c) (cell (now (own .entry))) ⌝ }
+{
+    waiting::start(
+        measure,
+        heads,
+        own,
+        strikes,
+        spans,
+        tails,
+        weights,
+        depths,
+        first,
+        next,
+        at,
+        joined,
+        deepest,
+        queue,
+    );
+    turns(
+        measure,
+        heads,
+        own,
+        strikes,
+        spans,
+        tails,
+        weights,
+        depths,
+        edges,
+        first,
+        next,
+        at,
+        joined,
+        deepest,
+        queue,
+    );
+}
+
+// The same in columns of its own. A small table is given few places, as every place has to be cleared.
+fn label_small(
     measure: Measure,
     heads: &[u64],
     own: &[u64],
@@ -162,36 +223,20 @@ fn label_few(
 )
     requires { let c = lent (now heads) (now own) (now strikes) (now spans) (now tails) (now depths) in
         let a = answers (now weights) (now depths) (now edges) in
-        ⌜ (Blank measure c a) × (length (now heads) ≤ fewEdges) ⌝ }
+        ⌜ (Blank measure c a) × (roomOf c ≡ small) ⌝ }
     ensures { λ r.
         let c = lent (now (heads .entry)) (now (own .entry)) (now (strikes .entry)) (now (spans .entry)) (now (tails .entry)) (now (depths .entry)) in
         let a′ = answers (now (weights .exit)) (now (depths .exit)) (now (edges .exit)) in
         ⌜ a′ ≡ best-first (algebra measure) (hypergraph c) (cell (now (own .entry))) ⌝ }
 {
     let unit = Weight::unit(measure);
-    let mut first = [65535u16; 1024];
+    let mut first = [65535u16; 64];
     let mut next = [0u16; 256];
     let mut at = [0u16; 256];
     let mut joined = [unit.0; 256];
     let mut deepest = [0u16; 256];
-    let mut queue = [18446744073709551615u64; 1168];
-    waiting::start(
-        measure,
-        heads,
-        own,
-        strikes,
-        spans,
-        tails,
-        weights,
-        depths,
-        &mut first,
-        &mut next,
-        &mut at,
-        &mut joined,
-        &mut deepest,
-        &mut queue,
-    );
-    turns(
+    let mut queue = [18446744073709551615u64; 128];
+    label_in(
         measure,
         heads,
         own,
@@ -210,8 +255,8 @@ fn label_few(
     );
 }
 
-// The same of any other table.
-fn label_many(
+// The same of a table in the middle.
+fn label_middle(
     measure: Measure,
     heads: &[u64],
     own: &[u64],
@@ -224,36 +269,20 @@ fn label_many(
 )
     requires { let c = lent (now heads) (now own) (now strikes) (now spans) (now tails) (now depths) in
         let a = answers (now weights) (now depths) (now edges) in
-        ⌜ (Blank measure c a) × (fewEdges < length (now heads)) ⌝ }
+        ⌜ (Blank measure c a) × (roomOf c ≡ middle) ⌝ }
     ensures { λ r.
         let c = lent (now (heads .entry)) (now (own .entry)) (now (strikes .entry)) (now (spans .entry)) (now (tails .entry)) (now (depths .entry)) in
         let a′ = answers (now (weights .exit)) (now (depths .exit)) (now (edges .exit)) in
         ⌜ a′ ≡ best-first (algebra measure) (hypergraph c) (cell (now (own .entry))) ⌝ }
 {
     let unit = Weight::unit(measure);
-    let mut first = [65535u16; 1024];
-    let mut next = [0u16; 4096];
-    let mut at = [0u16; 4096];
-    let mut joined = [unit.0; 4096];
-    let mut deepest = [0u16; 4096];
-    let mut queue = [18446744073709551615u64; 1168];
-    waiting::start(
-        measure,
-        heads,
-        own,
-        strikes,
-        spans,
-        tails,
-        weights,
-        depths,
-        &mut first,
-        &mut next,
-        &mut at,
-        &mut joined,
-        &mut deepest,
-        &mut queue,
-    );
-    turns(
+    let mut first = [65535u16; 256];
+    let mut next = [0u16; 1024];
+    let mut at = [0u16; 1024];
+    let mut joined = [unit.0; 1024];
+    let mut deepest = [0u16; 1024];
+    let mut queue = [18446744073709551615u64; 512];
+    label_in(
         measure,
         heads,
         own,
@@ -270,6 +299,62 @@ fn label_many(
         &mut deepest,
         &mut queue,
     );
+}
+
+// The same of any other.
+fn label_large(
+    measure: Measure,
+    heads: &[u64],
+    own: &[u64],
+    strikes: &[u64],
+    spans: &[u64],
+    tails: &[u64],
+    weights: &mut [u64],
+    depths: &mut [u64],
+    edges: &mut [u64],
+)
+    requires { let c = lent (now heads) (now own) (now strikes) (now spans) (now tails) (now depths) in
+        let a = answers (now weights) (now depths) (now edges) in
+        ⌜ (Blank measure c a) × (roomOf c ≡ large) ⌝ }
+    ensures { λ r.
+        let c = lent (now (heads .entry)) (now (own .entry)) (now (strikes .entry)) (now (spans .entry)) (now (tails .entry)) (now (depths .entry)) in
+        let a′ = answers (now (weights .exit)) (now (depths .exit)) (now (edges .exit)) in
+        ⌜ a′ ≡ best-first (algebra measure) (hypergraph c) (cell (now (own .entry))) ⌝ }
+{
+    let unit = Weight::unit(measure);
+    let mut first = [65535u16; 1024];
+    let mut next = [0u16; 4096];
+    let mut at = [0u16; 4096];
+    let mut joined = [unit.0; 4096];
+    let mut deepest = [0u16; 4096];
+    let mut queue = [18446744073709551615u64; 2048];
+    label_in(
+        measure,
+        heads,
+        own,
+        strikes,
+        spans,
+        tails,
+        weights,
+        depths,
+        edges,
+        &mut first,
+        &mut next,
+        &mut at,
+        &mut joined,
+        &mut deepest,
+        &mut queue,
+    );
+}
+
+// Whether so many vertices and hyperedges have their places among so many.
+fn holds(width: usize, height: usize, vertices: usize, edges: usize) -> bool
+    ensures { λ r. ⌜ r ≡ holds (record { vertices = width; edges = height }) vertices edges ⌝ }
+{
+    if vertices > width {
+        return false;
+    }
+    edges <= height
 }
 
 // Leaves the table's answers in the answer columns, which are all unmade at first.
@@ -290,8 +375,8 @@ pub fn label_all(
         let a′ = answers (now (weights .exit)) (now (depths .exit)) (now (edges .exit)) in
         ⌜ a′ ≡ best-first (algebra measure) (hypergraph c) (cell (now (own .entry))) ⌝ }
 {
-    if heads.len() <= 256 {
-        label_few(
+    if holds(64, 256, depths.len(), heads.len()) {
+        label_small(
             measure,
             heads,
             own,
@@ -304,7 +389,21 @@ pub fn label_all(
         );
         return;
     }
-    label_many(
+    if holds(256, 1024, depths.len(), heads.len()) {
+        label_middle(
+            measure,
+            heads,
+            own,
+            strikes,
+            spans,
+            tails,
+            weights,
+            depths,
+            edges,
+        );
+        return;
+    }
+    label_large(
         measure,
         heads,
         own,

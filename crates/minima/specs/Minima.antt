@@ -1,6 +1,7 @@
--- A column of keys with the least of every 8 keys, and of every 64, kept behind them, so that the least of all is found among 16 places; and what its two
--- changes do: a key is lowered, a key is taken out. Numbers alone: what a key stands for is said elsewhere. Assumes nothing: these are definitions.
-use Prim.Native.Nat.{ℕ, zero, suc, _+_, _*_, _/_, _<_, min}
+-- A tree of least keys, four to a place: with room for so many keys, a power of 4, key v stands in the second half, and each place before has the least of the
+-- four places under it, so place 1 the least of all; place 0 is not used. And what its two changes do: a key is lowered, a key is taken out. Numbers alone: what a
+-- key stands for is said elsewhere. Assumes nothing: these are definitions.
+use Prim.Native.Nat.{ℕ, zero, suc, _+_, _*_, _/_, _≤_, _<_, min}
 use mathlib.Core.Path.{_≡_}
 use mathlib.Core.List.{List}
 use lib.ListN.{length, getD, set}
@@ -9,51 +10,62 @@ use lib.ListN.{length, getD, set}
 abbrev pub none : ℕ
 none = 18_446_744_073_709_551_615
 
--- the keys stand first, then the least of every 8 of them, then the least of every 8 of those
-abbrev pub keys : ℕ
-keys = 1024
+-- 4, 16, 64, …
+pub data PowerOfFour : ℕ → Type 0 where
+  four : PowerOfFour 4
+  times : {k : ℕ} → PowerOfFour k → PowerOfFour (4 * k)
 
-abbrev pub eights : ℕ
-eights = 128
+-- how many keys a tree has room for, and key v
+abbrev pub leaves : List ℕ → ℕ
+leaves q = length q / 2
 
-abbrev pub blocks : ℕ
-blocks = 16
-
-abbrev pub size : ℕ
-size = 1168
-
--- where the least of the 8 with key v stands, and where the least of the 64
-abbrev pub eightOf : ℕ → ℕ
-eightOf v = keys + v / 8
-
-abbrev pub blockOf : ℕ → ℕ
-blockOf v = keys + eights + v / 64
+abbrev pub keyIn : List ℕ → ℕ → ℕ
+keyIn q v = getD q (leaves q + v) 0
 
 -- the least of k places from a place on
 unfoldable pub leastFrom : List ℕ → (at k : ℕ) → ℕ
 leastFrom q at zero = none
 leastFrom q at (suc k) = min (leastFrom q at k) (getD q (at + k) 0)
 
--- each group has its least
+-- the least key
+abbrev pub leastKey : List ℕ → ℕ
+leastKey q = leastFrom q (leaves q) (leaves q)
+
+-- the least of the four places under place i
+abbrev pub leastUnder : List ℕ → ℕ → ℕ
+leastUnder q i = min (min (getD q (4 * i) 0) (getD q (4 * i + 1) 0)) (min (getD q (4 * i + 2) 0) (getD q (4 * i + 3) 0))
+
+-- each place has the least of those under it
 pub record Grouped (q : List ℕ) : Type 0 where
-  pub sized : length q ≡ size
-  pub eight : (g : ℕ) → g < eights → getD q (keys + g) 0 ≡ leastFrom q (8 * g) 8
-  pub block : (g : ℕ) → g < blocks → getD q (keys + eights + g) 0 ≡ leastFrom q (keys + 8 * g) 8
+  pub power : PowerOfFour (leaves q)
+  pub sized : length q ≡ 2 * leaves q
+  pub low : (i : ℕ) → getD q i 0 ≤ none
+  pub least : (i : ℕ) → 0 < i → 2 * i < leaves q → getD q i 0 ≡ leastUnder q i
 
 -- a place holds x, or less where it held less
 abbrev pub lowerAt : List ℕ → (i x : ℕ) → List ℕ
 lowerAt q i x = set q i (min (getD q i 0) x)
 
--- key v is lowered to x, and with it the least of its groups
+-- the same of place i and of those above it, i / 4 and so on, in at most so many steps
+unfoldable pub lowerUp : (steps : ℕ) → List ℕ → (i x : ℕ) → List ℕ
+lowerUp zero q i x = q
+lowerUp (suc k) q zero x = q
+lowerUp (suc k) q (suc i) x = lowerUp k (lowerAt q (suc i) x) (suc i / 4) x
+
+-- key v is lowered to x, and with it the places above it
 unfoldable pub lowered : List ℕ → (v x : ℕ) → List ℕ
-lowered q v x = lowerAt (lowerAt (lowerAt q v x) (eightOf v) x) (blockOf v) x
+lowered q v x = lowerUp (length q) q (leaves q + v) x
 
--- key v is taken out, and its groups are looked through again
-abbrev pub eightAgain : List ℕ → ℕ → List ℕ
-eightAgain q v = set q (eightOf v) (leastFrom q (8 * (v / 8)) 8)
+-- place i gets the least of those under it
+abbrev pub again : List ℕ → ℕ → List ℕ
+again q i = set q i (leastUnder q i)
 
-abbrev pub blockAgain : List ℕ → ℕ → List ℕ
-blockAgain q v = set q (blockOf v) (leastFrom q (keys + 8 * (v / 64)) 8)
+-- the same of place i and of those above it
+unfoldable pub againUp : (steps : ℕ) → List ℕ → ℕ → List ℕ
+againUp zero q i = q
+againUp (suc k) q zero = q
+againUp (suc k) q (suc i) = againUp k (again q (suc i)) (suc i / 4)
 
+-- key v is taken out, and the places above it are found again
 unfoldable pub raised : List ℕ → ℕ → List ℕ
-raised q v = blockAgain (eightAgain (set q v none) v) v
+raised q v = againUp (length q) (set q (leaves q + v) none) ((leaves q + v) / 4)

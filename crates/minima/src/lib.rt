@@ -1,21 +1,13 @@
-// Keys, and the first of them: the least of every 8 keys and of every 64 is kept behind the keys,
-// so no key is ever moved.
+// Keys, and the first of them, in a tree of least keys: with room for so many keys, a power of 4, the
+// keys are the second half of the tree's places, and place i before them has the least of places 4 i to
+// 4 i + 3, so place 1 the least of all. No key is ever moved, and a tree of few keys is short.
 ghost use mathlib.Core.Path.{_≡_};
-ghost use Prim.Native.Nat.{_+_, _≤_, _<_, min};
+ghost use Prim.Native.Nat.{_+_, _*_, _<_, min};
 ghost use lib.ListN.{length};
-ghost use Rattle.minima.specs.Minima.{keys, size, leastFrom, Grouped, lowerAt, lowered, raised};
+ghost use Rattle.minima.specs.Minima.{leaves, leastKey, leastUnder, Grouped, lowered, raised};
 
 // In place of a key that is not there.
 pub const NONE: u64 = 18446744073709551615;
-
-const KEYS: usize = 1024;
-
-const EIGHTS: usize = 128;
-
-const HEAPS: usize = 16;
-
-// The places of a column of keys.
-pub const SIZE: usize = 1168;
 
 fn lesser(a: u64, b: u64) -> u64
     ensures { λ r. ⌜ r ≡ min a b ⌝ }
@@ -26,54 +18,55 @@ fn lesser(a: u64, b: u64) -> u64
     a
 }
 
-fn least_from(q: &[u64], at: usize, k: usize) -> u64
-    requires { ⌜ at + k ≤ length (now q) ⌝ }
-    ensures { λ r. ⌜ r ≡ leastFrom (now (q .entry)) at k ⌝ }
+// The least of the four places under place i.
+fn least_under(q: &[u64], i: usize) -> u64
+    requires { ⌜ 4 * i + 3 < length (now q) ⌝ }
+    ensures { λ r. ⌜ r ≡ leastUnder (now (q .entry)) i ⌝ }
 {
-    let mut least = NONE;
-    let mut i: usize = 0;
-    while i < k {
-        let key = q[at + i];
-        least = lesser(least, key);
-        i += 1;
-    }
-    least
+    let first = q[4 * i];
+    let second = q[4 * i + 1];
+    let third = q[4 * i + 2];
+    let fourth = q[4 * i + 3];
+    let left = lesser(first, second);
+    let right = lesser(third, fourth);
+    lesser(left, right)
 }
 
-fn lower_at(q: &mut [u64], i: usize, x: u64)
-    requires { ⌜ i < length (now q) ⌝ }
-    ensures { λ r. ⌜ now (q .exit) ≡ lowerAt (now (q .entry)) i x ⌝ }
-{
-    let key = q[i];
-    q[i] = lesser(key, x);
-}
-
-// Key v is lowered to x, where it is above x.
+// Key v is lowered to x, where it is above x, and so are the places above it, up to one that is not.
 pub fn lower(q: &mut [u64], v: usize, x: u64)
-    requires { ⌜ (length (now q) ≡ size) × (v < keys) ⌝ }
+    requires { ⌜ (Grouped (now q)) × (v < leaves (now q)) ⌝ }
     ensures { λ r. ⌜ now (q .exit) ≡ lowered (now (q .entry)) v x ⌝ }
 {
-    lower_at(q, v, x);
-    lower_at(q, KEYS + v / 8, x);
-    lower_at(q, KEYS + EIGHTS + v / 64, x);
+    let mut i = q.len() / 2 + v;
+    while i > 0 {
+        let key = q[i];
+        if x >= key {
+            return;
+        }
+        q[i] = x;
+        i = i / 4;
+    }
 }
 
 // Key v is taken out.
 pub fn raise(q: &mut [u64], v: usize)
-    requires { ⌜ (length (now q) ≡ size) × (v < keys) ⌝ }
+    requires { ⌜ (Grouped (now q)) × (v < leaves (now q)) ⌝ }
     ensures { λ r. ⌜ now (q .exit) ≡ raised (now (q .entry)) v ⌝ }
 {
-    q[v] = NONE;
-    let eight = least_from(q, 8 * (v / 8), 8);
-    q[KEYS + v / 8] = eight;
-    let block = least_from(q, KEYS + 8 * (v / 64), 8);
-    q[KEYS + EIGHTS + v / 64] = block;
+    let leaf = q.len() / 2 + v;
+    q[leaf] = NONE;
+    let mut i = leaf / 4;
+    while i > 0 {
+        let least = least_under(q, i);
+        q[i] = least;
+        i = i / 4;
+    }
 }
 
 // The least key.
 pub fn least(q: &[u64]) -> u64
     requires { ⌜ Grouped (now q) ⌝ }
-    ensures { λ r. ⌜ r ≡ leastFrom (now (q .entry)) 0 keys ⌝ }
+    ensures { λ r. ⌜ r ≡ leastKey (now (q .entry)) ⌝ }
 {
-    least_from(q, KEYS + EIGHTS, HEAPS)
+    q[1]
 }

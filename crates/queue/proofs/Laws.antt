@@ -6,7 +6,7 @@ use mathlib.Core.Bool.{Bool, true, false}
 use mathlib.Core.List.{List, [], _∷_}
 use native.Mathlib.Omega.{arith}
 use native.Mathlib.Decide.{ℕ-discrete}
-use lib.ListN.{getD}
+use lib.ListN.{length}
 use lib.Dec.{eqb}
 use borrow.Author.Tests.{eq-eqb, ne-eqb, eqb-true, eqb-false}
 use Rattle.weights.specs.Lists.{member}
@@ -21,8 +21,8 @@ use Rattle.provenance.specs.Hypergraph.{Hypergraph}
 use Rattle.provenance.specs.Labelling.{each, greatestDepth, noneZero, yield, offerOf}
 use Rattle.provenance.specs.BestFirst.{opening, next}
 use Rattle.provenance.proofs.Existence.{greatest-at-most}
-use Rattle.minima.specs.Minima.{none, keys, leastFrom, Grouped, lowered}
-use Rattle.minima.proofs.Laws.{least-at-most, least-lower, least-greatest, lowered-same, lowered-other, lowered-grouped}
+use Rattle.minima.specs.Minima.{none, leaves, keyIn, leastKey, Grouped, lowered}
+use Rattle.minima.proofs.Laws.{least-at-most, least-lower, least-greatest, lowered-length, lowered-same, lowered-other, lowered-grouped}
 use Rattle.queue.specs.Keys.{heavy, packed, unpacked, Fits, Fitting, nothing, found, keyOf}
 use Rattle.queue.proofs.Packing.{unpacked-packed, below-none, key-earlier, fitting-earlier}
 use Rattle.queue.specs.Queue.{leastWith, offered, keyAt, Queued, Fitted}
@@ -94,43 +94,49 @@ module _ (m : Measure) (H : Hypergraph) (own w d : ℕ → ℕ) where
     next-greatest (suc k) x h n f = omega (arith, key-next k h, next-greatest k x (omega arith) n (λ e l. f e (omega arith)), f k (omega arith))
 
     -- the least key of a queue is that of what is next
-    pub least-next : (q : List ℕ) → ((e : ℕ) → e < H .edges → H .head e < keys) → Queued m H own w d q → leastFrom q 0 keys ≡ keyOf m (next′ (H .edges))
+    pub least-next : (q : List ℕ) → ((e : ℕ) → e < H .edges → H .head e < leaves q) → Queued m H own w d q → leastKey q ≡ keyOf m (next′ (H .edges))
     least-next q heads w = omega (arith, up, down)
       where
-        from : (u : ℕ) → u < keys → getD q (0 + u) 0 ≡ leastWith key (H .head) u (H .edges)
-        from u l = let z : 0 + u ≡ u = omega arith in ap (λ (i : ℕ). getD q i 0) z ∙ w .waiting u l
+        up : leastKey q ≤ keyOf m (next′ (H .edges))
+        up = next-greatest (H .edges) (leastKey q) (omega arith) (least-at-most q (leaves q) (leaves q))
+            (λ e l. omega (
+              arith,
+              least-lower q (leaves q) (leaves q) (H .head e) (heads e l),
+              w .waiting (H .head e) (heads e l),
+              with-lower key (H .head) (H .head e) (H .edges) e l refl,
+            ))
 
-        up : leastFrom q 0 keys ≤ keyOf m (next′ (H .edges))
-        up = next-greatest (H .edges) (leastFrom q 0 keys) (omega arith) (least-at-most q 0 keys)
-            (λ e l. omega (arith, least-lower q 0 keys (H .head e) (heads e l), from (H .head e) (heads e l), with-lower key (H .head) (H .head e) (H .edges) e l refl))
-
-        down : keyOf m (next′ (H .edges)) ≤ leastFrom q 0 keys
-        down = least-greatest q 0 keys (keyOf m (next′ (H .edges))) (next-at-most (H .edges) (omega arith))
+        down : keyOf m (next′ (H .edges)) ≤ leastKey q
+        down = least-greatest q (leaves q) (leaves q) (keyOf m (next′ (H .edges))) (next-at-most (H .edges) (omega arith))
             (λ u l. omega (
               arith,
-              from u l,
+              w .waiting u l,
               with-greatest key (H .head) u (H .edges) (keyOf m (next′ (H .edges))) (next-at-most (H .edges) (omega arith)) (λ e k p. next-lower (H .edges) e (omega arith) k),
             ))
 
 -- Offering ------------------------------------------------------------------------------------------------------------------------------------------
 
-pub offered-grouped : (m : Measure) (q : List ℕ) (v : ℕ) {o : Offer} → v < keys → Fitting o → Grouped q → Grouped (offered m q v o)
-offered-grouped m q v h nothing g = g
-offered-grouped m q v h (found {l = l} f) g = lowered-grouped q v (packed m l) h g
+pub offered-length : (m : Measure) (q : List ℕ) (v : ℕ) {o : Offer} → v < leaves q → Fitting o → Grouped q → length (offered m q v o) ≡ length q
+offered-length m q v h nothing g = refl
+offered-length m q v h (found {l = l} f) g = lowered-length v (packed m l) g h
 
-pub offered-key : (m : Measure) (q : List ℕ) (v : ℕ) {o : Offer} (u : ℕ) → v < keys → u < keys → Fitting o → Grouped q → getD q u 0 ≤ none
-    → getD (offered m q v o) u 0 ≡ min (getD q u 0) (pick (eqb v u) (keyOf m o) none)
-offered-key m q v u h k nothing g b = go (eqb v u)
+pub offered-grouped : (m : Measure) (q : List ℕ) (v : ℕ) {o : Offer} → v < leaves q → Fitting o → Grouped q → Grouped (offered m q v o)
+offered-grouped m q v h nothing g = g
+offered-grouped m q v h (found {l = l} f) g = lowered-grouped v (packed m l) g h
+
+pub offered-key : (m : Measure) (q : List ℕ) (v : ℕ) {o : Offer} (u : ℕ) → v < leaves q → u < leaves q → Fitting o → Grouped q
+    → keyIn (offered m q v o) u ≡ min (keyIn q u) (pick (eqb v u) (keyOf m o) none)
+offered-key m q v u h k nothing g = go (eqb v u)
   where
-    go : (t : Bool) → getD q u 0 ≡ min (getD q u 0) (pick t none none)
-    go true = omega arith
-    go false = omega arith
-offered-key m q v u h k (found {l = l} f) g b = go (eqb v u) refl
+    go : (t : Bool) → keyIn q u ≡ min (keyIn q u) (pick t none none)
+    go true = omega (arith, g .low (leaves q + u))
+    go false = omega (arith, g .low (leaves q + u))
+offered-key m q v u h k (found {l = l} f) g = go (eqb v u) refl
   where
-    go : (t : Bool) → eqb v u ≡ t → getD (lowered q v (packed m l)) u 0 ≡ min (getD q u 0) (pick t (packed m l) none)
+    go : (t : Bool) → eqb v u ≡ t → keyIn (lowered q v (packed m l)) u ≡ min (keyIn q u) (pick t (packed m l) none)
     go true e = let p : v ≡ u = eqb-true v u e in
-        ap (λ (z : ℕ). getD (lowered q v (packed m l)) z 0) (sym p) ∙ lowered-same q v (packed m l) h (g .sized) ∙ ap (λ (z : ℕ). min (getD q z 0) (packed m l)) p
-    go false e = omega (arith, lowered-other q v (packed m l) h u k (λ p. eqb-false v u e (sym p)))
+        ap (keyIn (lowered q v (packed m l))) (sym p) ∙ lowered-same v (packed m l) g h ∙ ap (λ (z : ℕ). min (keyIn q z) (packed m l)) p
+    go false e = omega (arith, lowered-other v (packed m l) g h u k (λ p. eqb-false v u e (sym p)), g .low (leaves q + u))
 
 -- Labelling ----------------------------------------------------------------------------------------------------------------------------------------
 

@@ -3,7 +3,6 @@
 use Prim.Native.Nat.{ℕ, zero, suc, _≤_, _<_, min}
 use mathlib.Core.Path.{_≡_}
 use mathlib.Core.List.{List}
-use lib.ListN.{getD}
 use lib.Dec.{eqb}
 use Rattle.weights.specs.declared.Measure.{Measure}
 use Rattle.weights.specs.declared.Offer.{Offer}
@@ -12,7 +11,7 @@ use Rattle.weights.specs.Choice.{pick}
 use Rattle.weights.specs.Measures.{algebra}
 use Rattle.provenance.specs.Hypergraph.{Hypergraph}
 use Rattle.provenance.specs.BestFirst.{opening}
-use Rattle.minima.specs.Minima.{none, keys, Grouped, lowered}
+use Rattle.minima.specs.Minima.{none, leaves, keyIn, Grouped, lowered}
 use Rattle.queue.specs.Keys.{heavy, packed, keyOf}
 
 -- of k hyperedges with these keys and heads: the least key of those with head u
@@ -33,7 +32,7 @@ module _ (m : Measure) (H : Hypergraph) (own weight depth : ℕ → ℕ) where
   -- each vertex has the least key of its hyperedges: of a vertex that is made, none
   pub record Queued (q : List ℕ) : Type 0 where
     pub grouped : Grouped q
-    pub waiting : (u : ℕ) → u < keys → getD q u 0 ≡ leastWith keyAt (H .head) u (H .edges)
+    pub waiting : (u : ℕ) → u < leaves q → keyIn q u ≡ leastWith keyAt (H .head) u (H .edges)
 
 -- labels of which every candidate fits in a key
 pub record Fitted (w d : ℕ → ℕ) : Type 0 where

@@ -24,12 +24,12 @@ use Rattle.provenance.specs.BestFirst.{opening}
 use Rattle.columns.specs.Columns.{Columns, headAt, strikeAt, tailAt, cell}
 use Rattle.tables.specs.Table.{hypergraph}
 use Rattle.offers.proofs.Laws.{rest, rest-more}
-use Rattle.minima.specs.Minima.{none, keys, Grouped}
+use Rattle.minima.specs.Minima.{none, leaves, keyIn, Grouped}
 use Rattle.queue.specs.Keys.{heavy, Fitting, nothing, found, keyOf}
 use Rattle.queue.proofs.Packing.{below-none}
 use Rattle.queue.specs.Queue.{offered}
-use Rattle.queue.proofs.Laws.{offered-grouped, offered-key}
-use Rattle.waiting.specs.Lines.{plain, Lines, places, Sizes, pushed, Extends, Carried, Chain, ended, linked, Waiter, keyOn, Placed, kept, waits, heard, Waiting}
+use Rattle.queue.proofs.Laws.{offered-length, offered-grouped, offered-key}
+use Rattle.waiting.specs.Lines.{plain, Lines, roomOf, Sizes, pushed, Extends, Carried, Chain, ended, linked, Waiter, keyOn, Placed, kept, waits, heard, Waiting}
 
 pub extends-refl : (w d : ℕ → ℕ) → Extends w d w d
 extends-refl w d = record { weight = λ u n. refl; depth = λ u n. refl }
@@ -140,7 +140,7 @@ module _ (A : Algebra) (c : Columns) (w d : ℕ → ℕ) (s : Lines) (u e i j g 
       }
 
   -- e itself waits for u, if there is room for it
-  pub waiter-same : Sizes (length (c .heads)) s → e < places (length (c .heads)) → e < length (c .heads) → isStruckMark (strikeAt c e) ≡ false
+  pub waiter-same : Sizes (roomOf c) s → e < roomOf c .edges → e < length (c .heads) → isStruckMark (strikeAt c e) ≡ false
       → i < length (tailAt c e) → cell (tailAt c e) i ≡ u → Carried A w d (tailAt c e) i j g → Waiter A c w d after u e
   waiter-same z m h n b y k =
       let p = getD-set-same (s .at) e i 0 (omega (arith, z .at)) in
@@ -153,7 +153,7 @@ module _ (A : Algebra) (c : Columns) (w d : ℕ → ℕ) (s : Lines) (u e i j g 
   chain-other v f n k =
       chain-on (λ x m. waiter-other v x (λ p. n (Memᴰ·cast (sym p) m))) (λ x m. getD-set-other (s .next) e x (cell (s .first) u) 0 (λ p. n (Memᴰ·cast (sym p) m))) k
 
-  module _ (z : Sizes (length (c .heads)) s) (m : e < places (length (c .heads))) (o : u < 1024) where
+  module _ (z : Sizes (roomOf c) s) (m : e < roomOf c .edges) (o : u < roomOf c .vertices) where
     -- e comes first in the list of u
     pub chain-first : {es : List ℕ} → Waiter A c w d after u e → ¬ List·Memᴰ e es → Chain (Waiter A c w d s u) (s .next) (cell (s .first) u) es
         → Chain (Waiter A c w d after u) (after .next) (cell (after .first) u) (e ∷ es)
@@ -197,7 +197,7 @@ module _ (A : Algebra) (c : Columns) (w d : ℕ → ℕ) (s : Lines) (u e i j g 
         go true k = List·Memᴰ·cases-cons k
         go false k = inr k
 
-    pub pushed-sizes : Sizes (length (c .heads)) after
+    pub pushed-sizes : Sizes (roomOf c) after
     pushed-sizes = record {
       first = length-set (s .first) u e ∙ z .first;
       next = length-set (s .next) e (cell (s .first) u) ∙ z .next;
@@ -212,40 +212,46 @@ fitting-bound : (m : Measure) {o : Offer} → Fitting o → keyOf m o ≤ none
 fitting-bound m nothing = omega arith
 fitting-bound m (found {l = l} f) = omega (arith, below-none m l f)
 
-module _ (m : Measure) (c : Columns) (w d : ℕ → ℕ) (heads : (e : ℕ) → e < length (c .heads) → headAt c e < keys)
+module _ (m : Measure) (c : Columns) (w d : ℕ → ℕ) (heads : (e : ℕ) → e < length (c .heads) → headAt c e < roomOf c .vertices)
     (fits : (e : ℕ) → e < length (c .heads) → Fitting (opening (algebra m) (hypergraph c) (cell (c .own)) w d e)) where
   abbrev pub key : ℕ → ℕ
   key = keyOn m c w d
 
   abbrev pub Source : List ℕ → ℕ → Type 0
-  Source q u = (cell q u ≡ none) ⊎ ((e : ℕ) × ((e < length (c .heads)) × ((headAt c e ≡ u) × (cell q u ≡ key e))))
+  Source q u = (keyIn q u ≡ none) ⊎ ((e : ℕ) × ((e < length (c .heads)) × ((headAt c e ≡ u) × (keyIn q u ≡ key e))))
 
-  pub source-bound : (q : List ℕ) (u : ℕ) → Source q u → cell q u ≤ none
+  pub source-bound : (q : List ℕ) (u : ℕ) → Source q u → keyIn q u ≤ none
   source-bound q u (inl p) = omega arith
   source-bound q u (inr x) = omega (arith, x .1 .1 .1, fitting-bound m (fits (x .0) (x .1 .0)))
 
   module _ {s : Lines} {q : List ℕ} {busy : ℕ → Type 0} (W : Waiting m c w d s q busy) (e : ℕ) (h : e < length (c .heads)) {q′ : List ℕ}
       (p : q′ ≡ offered m q (headAt c e) (opening (algebra m) (hypergraph c) (cell (c .own)) w d e)) where
-    at-key : (u : ℕ) → u < keys → cell q′ u ≡ min (cell q u) (pick (eqb (headAt c e) u) (key e) none)
-    at-key u l = ap (λ (z : List ℕ). cell z u) p ∙ offered-key m q (headAt c e) u (heads e h) l (fits e h) (W .grouped) (source-bound q u (W .offers u l))
+    wide : (u : ℕ) → u < roomOf c .vertices → u < leaves q
+    wide u l = omega (arith, W .sized)
 
-    lower : (u : ℕ) → u < keys → cell q′ u ≤ cell q u
+    at-key : (u : ℕ) → u < roomOf c .vertices → keyIn q′ u ≡ min (keyIn q u) (pick (eqb (headAt c e) u) (key e) none)
+    at-key u l = ap (λ (z : List ℕ). keyIn z u) p ∙ offered-key m q (headAt c e) u (wide (headAt c e) (heads e h)) (wide u l) (fits e h) (W .grouped)
+
+    lower : (u : ℕ) → u < roomOf c .vertices → keyIn q′ u ≤ keyIn q u
     lower u l = omega (arith, at-key u l)
 
-    lowest : cell q′ (headAt c e) ≤ key e
+    lowest : keyIn q′ (headAt c e) ≤ key e
     lowest = omega (arith, at-key (headAt c e) (heads e h), ap (λ (t : Bool). pick t (key e) none) (eq-eqb (headAt c e) (headAt c e) refl))
 
     grouped-still : Grouped q′
-    grouped-still = subst Grouped (sym p) (offered-grouped m q (headAt c e) (heads e h) (fits e h) (W .grouped))
+    grouped-still = subst Grouped (sym p) (offered-grouped m q (headAt c e) (wide (headAt c e) (heads e h)) (fits e h) (W .grouped))
 
-    sources : (u : ℕ) → u < keys → Source q′ u
-    sources u l = go (eqb (headAt c e) u) refl (at-key u l) (decLe (cell q u) (key e)) (W .offers u l)
+    sized-still : length q′ ≡ 2 * roomOf c .vertices
+    sized-still = ap length p ∙ offered-length m q (headAt c e) (wide (headAt c e) (heads e h)) (fits e h) (W .grouped) ∙ W .sized
+
+    sources : (u : ℕ) → u < roomOf c .vertices → Source q′ u
+    sources u l = go (eqb (headAt c e) u) refl (at-key u l) (decLe (keyIn q u) (key e)) (W .offers u l)
       where
-        as-before : cell q′ u ≡ cell q u → Source q u → Source q′ u
+        as-before : keyIn q′ u ≡ keyIn q u → Source q u → Source q′ u
         as-before r (inl y) = inl (r ∙ y)
         as-before r (inr y) = inr (y .0, (y .1 .0, (y .1 .1 .0, r ∙ y .1 .1 .1)))
 
-        go : (t : Bool) → eqb (headAt c e) u ≡ t → cell q′ u ≡ min (cell q u) (pick t (key e) none) → Dec (cell q u ≤ key e) → Source q u → Source q′ u
+        go : (t : Bool) → eqb (headAt c e) u ≡ t → keyIn q′ u ≡ min (keyIn q u) (pick t (key e) none) → Dec (keyIn q u ≤ key e) → Source q u → Source q′ u
         go true y r (yes b) x = as-before (omega arith) x
         go true y r (no b) x = inr (e, (h, (eqb-true _ _ y, omega arith)))
         go false y r b x = as-before (omega (arith, source-bound q u x)) x
@@ -262,6 +268,7 @@ module _ (m : Measure) (c : Columns) (w d : ℕ → ℕ) (heads : (e : ℕ) → 
             covered = λ x a b z. go x a z (W .covered x a b z);
             apart = λ v x l z i b. W .apart v x l z i (fewer x b);
             grouped = grouped-still;
+            sized = sized-still;
             offers = sources;
           }
         where
@@ -275,7 +282,7 @@ module _ (m : Measure) (c : Columns) (w d : ℕ → ℕ) (heads : (e : ℕ) → 
           go x a z (heard y b) = heard y (omega (arith, lower (headAt c x) (heads x a)))
 
       -- e waits for another vertex
-      pub went-waits : (i j g : ℕ) → Sizes (length (c .heads)) s → e < places (length (c .heads)) → ((k : ℕ) → k < length (tailAt c e) → cell (tailAt c e) k < c .vertices) → c .vertices ≤ 1024
+      pub went-waits : (i j g : ℕ) → Sizes (roomOf c) s → e < roomOf c .edges → ((k : ℕ) → k < length (tailAt c e) → cell (tailAt c e) k < c .vertices) → c .vertices ≤ roomOf c .vertices
           → busy e → (busy′ e → ⊥)
           → isStruckMark (strikeAt c e) ≡ false → i < length (tailAt c e) → d (cell (tailAt c e) i) ≡ 0 → Carried (algebra m) w d (tailAt c e) i j g
           → Waiting m c w d (pushed s (cell (tailAt c e) i) e i j g) q′ busy′
@@ -286,6 +293,7 @@ module _ (m : Measure) (c : Columns) (w d : ℕ → ℕ) (heads : (e : ℕ) → 
             covered = λ x a r t. go x a (W .covered x a r t);
             apart = λ v x l a t f. apart v x l a (out-first (algebra m) c w d s u e i j g z room o (W .lists) v x t) f;
             grouped = grouped-still;
+            sized = sized-still;
             offers = sources;
           }
         where
@@ -299,7 +307,7 @@ module _ (m : Measure) (c : Columns) (w d : ℕ → ℕ) (heads : (e : ℕ) → 
           apart v x l a (inl r) f = gone (subst busy′ r f)
           apart v x l a (inr t) f = W .apart v x l a t (fewer x f)
 
-          o : u < 1024
+          o : u < roomOf c .vertices
           o = omega (arith, inside i b)
 
           lists′ : ℕ → List ℕ

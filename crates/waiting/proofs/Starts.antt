@@ -1,27 +1,27 @@
 -- Before the first turn: nothing waits at first, and one hyperedge after another waits or is offered. Assumes nothing.
-use Prim.Native.Nat.{ℕ, _+_, _≤_, _<_}
+use Prim.Native.Nat.{ℕ, _+_, _*_, _≤_, _<_}
 use mathlib.Core.Path.{_≡_, refl, sym, _∙_, ap, subst}
 use mathlib.Core.Logic.{_⊎_, inl, inr, _≢_}
 use mathlib.Core.Bool.{true, false}
 use mathlib.Core.List.{List, [], List·Memᴰ·not-nil}
 use native.Mathlib.Omega.{arith}
 use native.Mathlib.Decide.{ℕ-discrete}
-use lib.ListN.{length, set}
+use lib.ListN.{length, length-replicate, set}
 use lib.Seq.{getD-set-other, set-getD}
 use Rattle.weights.specs.declared.Measure.{Measure}
 use Rattle.weights.proofs.Choice.{apart}
 use Rattle.weights.specs.Figures.{isStruckMark}
 use Rattle.weights.specs.Measures.{Algebra, algebra}
 use Rattle.columns.specs.Columns.{Columns, headAt, strikeAt, offsetAt, lengthAt, tailAt, cell}
-use Rattle.minima.specs.Minima.{Grouped}
+use Rattle.minima.specs.Minima.{none, keyIn, Grouped}
 use Rattle.minima.proofs.Laws.{no-keys, no-keys-grouped}
-use Rattle.waiting.specs.Lines.{Lines, lines, pushed, Linkable, Linked, Untouched, Carried, Gone, ended, kept, Moved, stays, waits, Went, Offerable, Going, Starting, Rested, Empty}
+use Rattle.waiting.specs.Lines.{Lines, lines, roomOf, pushed, Linkable, Linked, Untouched, Carried, Gone, ended, kept, Moved, stays, waits, Went, Offerable, Going, Starting, Rested, Empty}
 use Rattle.waiting.proofs.Keeping.{carried-none, pushed-sizes, went-stays, went-waits}
-use Rattle.waiting.proofs.Steps.{few, edge-room, head-key, tail-length, tail-at, tail-below, edge-fits, went-on, linkable, pushable}
+use Rattle.waiting.proofs.Steps.{room-power, enough, edge-room, head-key, tail-length, tail-at, tail-below, edge-fits, went-on, linkable, pushable}
 use Rattle.waiting.proofs.Walking.{waiting-on}
 
 pub nothing-waits : {m : Measure} {c : Columns} {ws ds : List ℕ} {s : Lines} {q : List ℕ} → Empty m c ds s q → Starting m c ws ds s q 0
-nothing-waits {q = q} x = record {
+nothing-waits {c = c} x = record {
   sizes = x .sizes;
   unmade = x .unmade;
   untouched = λ e h l. x .untouched e l;
@@ -30,8 +30,9 @@ nothing-waits {q = q} x = record {
     chained = λ v h z. ended (x .empty v h);
     covered = λ e h u z. kept (omega arith);
     apart = λ v e h z i b. List·Memᴰ·not-nil i;
-    grouped = subst Grouped (sym (x .nothing)) no-keys-grouped;
-    offers = λ u h. inl (ap (λ (z : List ℕ). cell z u) (x .nothing) ∙ no-keys u h);
+    grouped = subst Grouped (sym (x .nothing)) (no-keys-grouped (roomOf c .vertices) (room-power (c .vertices) (length (c .heads))));
+    sized = ap length (x .nothing) ∙ length-replicate (2 * roomOf c .vertices) none;
+    offers = λ u h. inl (ap (λ (z : List ℕ). keyIn z u) (x .nothing) ∙ no-keys (roomOf c .vertices) u h);
   };
 }
 
@@ -115,11 +116,11 @@ module _ {m : Measure} {c : Columns} {ws ds : List ℕ} {s : Lines} {q : List �
             })
         go (waits k j g b z a r) =
             subst (λ (a : Lines). Starting m c ws ds a q′ (i + 1)) (sym r) (record {
-              sizes = pushed-sizes (algebra m) c (cell ws) (cell ds) s (cell (tailAt c i) k) i k j g (x .sizes) (edge-room o i h) (omega (arith, few o i h, tail-below o i h k b));
+              sizes = pushed-sizes (algebra m) c (cell ws) (cell ds) s (cell (tailAt c i) k) i k j g (x .sizes) (edge-room o i h) (omega (arith, enough o .vertices, tail-below o i h k b));
               unmade = x .unmade;
               untouched = λ e l f. pushed-untouched s (cell (tailAt c i) k) i k j g e (λ p. omega arith) (x .untouched e (omega arith) f);
               waiting = went-waits m c (cell ws) (cell ds) (head-key o) (λ e k. edge-fits o e k m) (x .waiting) i h (y .heard) (next-or i) (λ e b. omega arith)
-                  k j g (x .sizes) (edge-room o i h) (tail-below o i h) (few o i h) (omega arith) (λ b. omega arith) u b z a;
+                  k j g (x .sizes) (edge-room o i h) (tail-below o i h) (enough o .vertices) (omega arith) (λ b. omega arith) u b z a;
             })
 
   pub all-started : length (c .heads) ≤ i → Rested m c ws ds s q

@@ -26,32 +26,61 @@ use Rattle.tables.specs.Table.{hypergraph}
 use Rattle.columns.proofs.Accepted.{table-accepted, below-at}
 use Rattle.columns.proofs.Usable.{edge-in}
 use Rattle.offers.proofs.Laws.{rest, rest-end, rest-whole}
-use Rattle.minima.specs.Minima.{keys}
+use Rattle.minima.specs.Minima.{PowerOfFour, four, times}
 use Rattle.queue.specs.Keys.{Fits, Fitting, nothing, found}
 use Rattle.queue.specs.Queue.{offered}
 use Rattle.queue.proofs.Laws.{open-fits, open-unmade, open-made}
-use Rattle.waiting.specs.Lines.{Passable, Lines, places, pushed, Carried, Gone, stays, waits, Went, Arriving, Offerable, Going, Linkable, Pushable}
+use Rattle.waiting.specs.Lines.{Passable, Lines, Room, small, middle, large, holds, roomFor, roomOf, pushed, Carried, Gone, stays, waits, Went, Arriving, Offerable, Going, Linkable, Pushable}
 use Rattle.waiting.proofs.Keeping.{extends-refl}
 
-pub places-few : (k : ℕ) → k ≤ 256 → places k ≡ 256
-unfolding places
-places-few k h = rw (le-leb k 256 h)
+-- which room a table is given
+pub room-small : (n k : ℕ) → holds small n k ≡ true → roomFor n k ≡ small
+unfolding roomFor
+room-small n k p = rw p
 
-pub places-many : (k : ℕ) → 256 < k → places k ≡ 4096
-unfolding places
-places-many k h = rw (lt-leb k 256 h)
+pub room-middle : (n k : ℕ) → holds small n k ≡ false → holds middle n k ≡ true → roomFor n k ≡ middle
+unfolding roomFor
+room-middle n k p q = rw (p, q)
 
--- there is a place for every hyperedge
-pub places-enough : (k : ℕ) → k ≤ 4096 → k ≤ places k
-unfolding places
-places-enough k h = go (leb k 256) refl
+pub room-large : (n k : ℕ) → holds small n k ≡ false → holds middle n k ≡ false → roomFor n k ≡ large
+unfolding roomFor
+room-large n k p q = rw (p, q)
+
+pub room-power : (n k : ℕ) → PowerOfFour (roomFor n k .vertices)
+unfolding roomFor
+room-power n k = go (holds small n k) (holds middle n k)
   where
-    go : (b : Bool) → leb k 256 ≡ b → k ≤ pick b 256 4096
-    go true p = omega (arith, leb-true k 256 p)
-    go false p = h
+    go : (b d : Bool) → PowerOfFour (pick b small (pick d middle large) .vertices)
+    go true d = times (times four)
+    go false true = times (times (times four))
+    go false false = times (times (times (times four)))
+
+-- the room holds the table
+pub record Enough (n k : ℕ) (r : Room) : Type 0 where
+  pub vertices : n ≤ r .vertices
+  pub edges : k ≤ r .edges
+
+holds-enough : (r : Room) (n k : ℕ) → holds r n k ≡ true → Enough n k r
+holds-enough r n k p = go (leb n (r .vertices)) refl p
+  where
+    go : (b : Bool) → leb n (r .vertices) ≡ b → pick b (leb k (r .edges)) false ≡ true → Enough n k r
+    go true q p = record { vertices = leb-true n (r .vertices) q; edges = leb-true k (r .edges) p }
+    go false q p = absurd (let z : _≡_ {A = ℕ} 0 1 = cc in omega arith)
+
+room-enough : (n k : ℕ) → n ≤ 1024 → k ≤ 4096 → Enough n k (roomFor n k)
+unfolding roomFor
+room-enough n k h i = go (holds small n k) refl (holds middle n k) refl
+  where
+    go : (b : Bool) → holds small n k ≡ b → (d : Bool) → holds middle n k ≡ d → Enough n k (pick b small (pick d middle large))
+    go true p d q = holds-enough small n k p
+    go false p true q = holds-enough middle n k q
+    go false p false q = record { vertices = h; edges = i }
 
 pub vertices-few : {c : Columns} {ws ds q : List ℕ} → Offerable c ws ds q → length ds ≤ 1024
 vertices-few {c} r = omega (arith, r .usable .vertices, table-accepted c (r .usable .accepted) .few)
+
+pub enough : {c : Columns} {ws ds q : List ℕ} → Offerable c ws ds q → Enough (c .vertices) (length (c .heads)) (roomOf c)
+enough {c} r = room-enough (c .vertices) (length (c .heads)) (table-accepted c (r .usable .accepted) .few) (table-accepted c (r .usable .accepted) .edges)
 
 -- a hyperedge of a usable table: its tail, its head, and what it offers
 module _ {c : Columns} {ws ds q : List ℕ} (r : Offerable c ws ds q) (e : ℕ) (h : e < length (c .heads)) where
@@ -61,14 +90,14 @@ module _ {c : Columns} {ws ds q : List ℕ} (r : Offerable c ws ds q) (e : ℕ) 
   pub edge-few : e < 4096
   edge-few = omega (arith, table-accepted c (r .usable .accepted) .edges)
 
-  pub edge-room : e < places (length (c .heads))
-  edge-room = omega (arith, places-enough (length (c .heads)) (table-accepted c (r .usable .accepted) .edges))
+  pub edge-room : e < roomOf c .edges
+  edge-room = omega (arith, enough r .edges)
 
   pub head-below : headAt c e < c .vertices
   head-below = table-accepted c (r .usable .accepted) .each e h .1 .head
 
-  pub head-key : headAt c e < keys
-  head-key = omega (arith, few, head-below)
+  pub head-key : headAt c e < roomOf c .vertices
+  head-key = omega (arith, enough r .vertices, head-below)
 
   pub within : offsetAt c e + lengthAt c e ≤ length (c .tails)
   within = table-accepted c (r .usable .accepted) .each e h .1 .within
@@ -152,8 +181,8 @@ pub pushable : {m : Measure} {c : Columns} {ws ds q : List ℕ} {s : Lines} {e a
     → (v i j g : ℕ) → Gone (algebra m) (cell ws) (cell ds) (tailAt c e) i j g → i < length (tailAt c e) → cell (tailAt c e) i ≡ v → Pushable s v e i g
 pushable {e = e} r y v i j g p l x = record {
   sizes = y .sizes;
-  vertex = omega (arith, few r e (y .numbered), tail-below r e (y .numbered) i l);
-  edges = _;
+  room = _;
+  vertex = omega (arith, enough r .vertices, tail-below r e (y .numbered) i l);
   edge = edge-room r e (y .numbered);
   small = omega (arith, edge-few r e (y .numbered));
   place = omega (arith, tail-length r e (y .numbered), short r e (y .numbered));
@@ -174,8 +203,8 @@ module _ {m : Measure} {c : Columns} {ws ds q : List ℕ} {s : Lines} {e a b k :
     head = y .numbered;
     figure = edge-in (r .usable) e (y .numbered) .own;
     fits = found-fits (edge-fits r e (y .numbered) m) is-open;
-    sized = r .sized;
-    key = head-key r e (y .numbered);
+    grouped = r .grouped;
+    key = omega (arith, r .sized, head-key r e (y .numbered));
   }
 
   pub arrived : {q′ : List ℕ} → q′ ≡ offered m q (headAt c e) (Found (label (algebra m .finish (ownAt c e) j) (g + 1) e)) → Went m c (cell ws) (cell ds) e s s q q′

@@ -10,9 +10,9 @@ use Rattle.weights.specs.declared.Measure.{Measure}
 use Rattle.weights.specs.Figures.{isStruckMark}
 use Rattle.weights.specs.Measures.{algebra}
 use Rattle.columns.specs.Columns.{Columns, strikeAt, tailAt, cell}
-use Rattle.waiting.specs.Lines.{end, Lines, places, pushed, Chain, ended, linked, Waiter, Placed, kept, waits, heard, Waiting, Moved, stays, Went, Offerable, Waking, Rested, Wakeful}
+use Rattle.waiting.specs.Lines.{end, Lines, roomOf, pushed, Chain, ended, linked, Waiter, Placed, kept, waits, heard, Waiting, Moved, stays, Went, Offerable, Waking, Rested, Wakeful}
 use Rattle.waiting.proofs.Keeping.{chain-other, pushed-sizes, went-stays, went-waits}
-use Rattle.waiting.proofs.Steps.{few, edge-few, edge-room, head-key, tail-below, edge-fits}
+use Rattle.waiting.proofs.Steps.{enough, edge-few, edge-room, head-key, tail-below, edge-fits}
 use Rattle.waiting.proofs.Short.{chain-short, steps, chain-steps}
 
 placed-on : {m : Measure} {c : Columns} {w d : ℕ → ℕ} {lists : ℕ → List ℕ} {q : List ℕ} {busy busy′ : ℕ → Type 0} {e : ℕ} → (busy e → busy′ e)
@@ -33,6 +33,7 @@ waiting-on f g W =
       covered = λ e h u z. placed-on (f e h u) (W .covered e h u z);
       apart = λ v e h z i b. W .apart v e h z i (g e b);
       grouped = W .grouped;
+      sized = W .sized;
       offers = W .offers;
     }
 
@@ -58,7 +59,7 @@ module _ {m : Measure} {c : Columns} {ws ds : List ℕ} {s : Lines} {q : List �
     pub below : l < 4096
     below = bounded {s′ = s} l (first-of (x .chain))
 
-    pub placed : l < places (length (c .heads))
+    pub placed : l < roomOf c .edges
     placed = edge-room o l (first-of (x .chain) .numbered)
 
     -- what is left after it
@@ -96,12 +97,12 @@ module _ {m : Measure} {c : Columns} {ws ds : List ℕ} {s : Lines} {q : List �
               on = record {
                 sizes =
                     pushed-sizes (algebra m) c (cell ws) (cell ds) s (cell (tailAt c l) i) l i j g (x .sizes) (edge-room o l (p .numbered))
-                    (omega (arith, few o l (p .numbered), tail-below o l (p .numbered) i b));
+                    (omega (arith, enough o .vertices, tail-below o l (p .numbered) i b));
                 made = x .made;
                 left = es;
                 chain = r′;
                 waiting = went-waits m c (cell ws) (cell ds) (head-key o) (λ e h. edge-fits o e h m) t l (p .numbered) (y .heard) (λ e i. List·Memᴰ·cases-cons i) (λ e i. List·Memᴰ·tail i)
-                    i j g (x .sizes) (edge-room o l (p .numbered)) (tail-below o l (p .numbered)) (few o l (p .numbered))
+                    i j g (x .sizes) (edge-room o l (p .numbered)) (tail-below o l (p .numbered)) (enough o .vertices)
                     (List·Memᴰ·head refl) k
                     (p .unstruck) b z a;
               };

@@ -4,7 +4,7 @@
 use Prim.Native.Nat.{ℕ, _+_, _*_, _≤_, _<_, min, max}
 use mathlib.Core.Path.{_≡_}
 use mathlib.Core.Logic.{_⊎_, _≢_}
-use mathlib.Core.Bool.{true, false}
+use mathlib.Core.Bool.{Bool, true, false}
 use mathlib.Core.List.{List, [], _∷_, List·Memᴰ}
 use lib.ListN.{length, drop, set, replicate}
 use lib.Dec.{leb}
@@ -21,7 +21,7 @@ use Rattle.columns.specs.Acceptance.{mostVertices, mostEdges, longestTail}
 use Rattle.weights.specs.Choice.{pick}
 use Rattle.columns.specs.Lent.{Legible, Usable}
 use Rattle.offers.proofs.Laws.{rest}
-use Rattle.minima.specs.Minima.{none, keys, size, Grouped}
+use Rattle.minima.specs.Minima.{none, leaves, keyIn, Grouped}
 use Rattle.queue.specs.Keys.{heavy, Fits}
 use Rattle.queue.specs.Queue.{keyAt, offered, Fitted}
 
@@ -40,20 +40,37 @@ pub record Lines : Type 0 where
 abbrev pub lines : (first next at joined deepest : List ℕ) → Lines
 lines first next at joined deepest = record { first = first; next = next; at = at; joined = joined; deepest = deepest }
 
--- how many hyperedges the columns have places for: a table of few is given few, as every place has to be cleared
-abbrev pub fewEdges : ℕ
-fewEdges = 256
+-- how many vertices and hyperedges there are places for: a small table is given few, as every place has to be cleared
+pub record Room : Type 0 where
+  pub vertices : ℕ
+  pub edges : ℕ
 
-unfoldable pub places : (edges : ℕ) → ℕ
-places k = pick (leb k fewEdges) fewEdges mostEdges
+abbrev pub small : Room
+small = record { vertices = 64; edges = 256 }
 
--- a place for every vertex, and for every hyperedge of a table of k
-pub record Sizes (k : ℕ) (s : Lines) : Type 0 where
-  pub first : length (s .first) ≡ mostVertices
-  pub next : length (s .next) ≡ places k
-  pub at : length (s .at) ≡ places k
-  pub joined : length (s .joined) ≡ places k
-  pub deepest : length (s .deepest) ≡ places k
+abbrev pub middle : Room
+middle = record { vertices = 256; edges = 1024 }
+
+abbrev pub large : Room
+large = record { vertices = mostVertices; edges = mostEdges }
+
+-- a table of n vertices and k hyperedges has its places
+abbrev pub holds : Room → (n k : ℕ) → Bool
+holds r n k = pick (leb n (r .vertices)) (leb k (r .edges)) false
+
+unfoldable pub roomFor : (n k : ℕ) → Room
+roomFor n k = pick (holds small n k) small (pick (holds middle n k) middle large)
+
+abbrev pub roomOf : Columns → Room
+roomOf c = roomFor (c .vertices) (length (c .heads))
+
+-- columns with as many places
+pub record Sizes (r : Room) (s : Lines) : Type 0 where
+  pub first : length (s .first) ≡ r .vertices
+  pub next : length (s .next) ≡ r .edges
+  pub at : length (s .at) ≡ r .edges
+  pub joined : length (s .joined) ≡ r .edges
+  pub deepest : length (s .deepest) ≡ r .edges
 
 -- hyperedge e is put first in the list of v, i places of its tail passed, which join to j and are g deep
 abbrev pub pushed : Lines → (v e i j g : ℕ) → Lines
@@ -131,7 +148,7 @@ module _ (m : Measure) (c : Columns) (w d : ℕ → ℕ) where
   pub data Placed (lists : ℕ → List ℕ) (q : List ℕ) (busy : ℕ → Type 0) (e : ℕ) : Type 0 where
     kept : busy e → Placed lists q busy e
     waits : (v : ℕ) → v < c .vertices → d v ≡ 0 → List·Memᴰ e (lists v) → Placed lists q busy e
-    heard : noneZero d (tailAt c e) ≡ true → cell q (headAt c e) ≤ keyOn e → Placed lists q busy e
+    heard : noneZero d (tailAt c e) ≡ true → keyIn q (headAt c e) ≤ keyOn e → Placed lists q busy e
 
   -- every unstruck hyperedge whose head is unmade is in one of these; and what is queued is offered by some hyperedge
   pub record Waiting (s : Lines) (q : List ℕ) (busy : ℕ → Type 0) : Type 0 where
@@ -140,7 +157,8 @@ module _ (m : Measure) (c : Columns) (w d : ℕ → ℕ) where
     pub covered : (e : ℕ) → e < length (c .heads) → isStruckMark (strikeAt c e) ≡ false → d (headAt c e) ≡ 0 → Placed lists q busy e
     pub apart : (v e : ℕ) → v < c .vertices → d v ≡ 0 → List·Memᴰ e (lists v) → busy e → ⊥
     pub grouped : Grouped q
-    pub offers : (u : ℕ) → u < keys → (cell q u ≡ none) ⊎ ((e : ℕ) × ((e < length (c .heads)) × ((headAt c e ≡ u) × (cell q u ≡ keyOn e))))
+    pub sized : length q ≡ 2 * roomOf c .vertices
+    pub offers : (u : ℕ) → u < roomOf c .vertices → (keyIn q u ≡ none) ⊎ ((e : ℕ) × ((e < length (c .heads)) × ((headAt c e ≡ u) × (keyIn q u ≡ keyOn e))))
 
   pub record Went (e : ℕ) (s s′ : Lines) (q q′ : List ℕ) : Type 0 where
     pub moved : Moved (algebra m) c w d e s s′
@@ -156,10 +174,10 @@ pub record Linkable (first next : List ℕ) (v e : ℕ) : Type 0 where
 
 -- columns with room for it
 pub record Pushable (s : Lines) (v e i g : ℕ) : Type 0 where
-  pub edges : ℕ
-  pub sizes : Sizes edges s
-  pub vertex : v < mostVertices
-  pub edge : e < places edges
+  pub room : Room
+  pub sizes : Sizes room s
+  pub vertex : v < room .vertices
+  pub edge : e < room .edges
   pub small : e < 65536
   pub place : i < 65536
   pub depth : g < 65536
@@ -169,18 +187,19 @@ pub record Arriving (m : Measure) (heads own q : List ℕ) (e j g : ℕ) : Type 
   pub head : e < length heads
   pub figure : e < length own
   pub fits : Fits (label (algebra m .finish (cell own e) j) (g + 1) e)
-  pub sized : length q ≡ size
-  pub key : cell heads e < keys
+  pub grouped : Grouped q
+  pub key : cell heads e < leaves q
 
 -- hyperedges can be offered to their heads
 pub record Offerable (c : Columns) (ws ds q : List ℕ) : Type 0 where
   pub usable : Usable c ws ds
   pub fitted : Fitted (cell ws) (cell ds)
-  pub sized : length q ≡ size
+  pub grouped : Grouped q
+  pub sized : length q ≡ 2 * roomOf c .vertices
 
 -- hyperedge e, whose head is unmade, can go on
 pub record Going (m : Measure) (c : Columns) (ws ds : List ℕ) (s : Lines) (e i j g : ℕ) : Type 0 where
-  pub sizes : Sizes (length (c .heads)) s
+  pub sizes : Sizes (roomOf c) s
   pub numbered : e < length (c .heads)
   pub unstruck : isStruckMark (strikeAt c e) ≡ false
   pub fresh : cell ds (headAt c e) ≡ 0
@@ -188,20 +207,20 @@ pub record Going (m : Measure) (c : Columns) (ws ds : List ℕ) (s : Lines) (e i
 
 -- hyperedge e waits for a vertex
 pub record Wakeful (m : Measure) (c : Columns) (ws ds : List ℕ) (s : Lines) (e : ℕ) : Type 0 where
-  pub sizes : Sizes (length (c .heads)) s
+  pub sizes : Sizes (roomOf c) s
   pub vertex : ℕ
   pub waiter : Waiter (algebra m) c (cell ws) (cell ds) s vertex e
 
 -- no vertex is made, and the hyperedges from i on are still to be looked at
 pub record Starting (m : Measure) (c : Columns) (ws ds : List ℕ) (s : Lines) (q : List ℕ) (i : ℕ) : Type 0 where
-  pub sizes : Sizes (length (c .heads)) s
+  pub sizes : Sizes (roomOf c) s
   pub unmade : (v : ℕ) → cell ds v ≡ 0
   pub untouched : (e : ℕ) → i ≤ e → e < length (c .heads) → Untouched (algebra m) s e
   pub waiting : Waiting m c (cell ws) (cell ds) s q (λ e. i ≤ e)
 
 -- vertex v is made, and what waited for it is still to be looked at
 pub record Waking (m : Measure) (c : Columns) (ws ds : List ℕ) (s : Lines) (q : List ℕ) (v l : ℕ) : Type 0 where
-  pub sizes : Sizes (length (c .heads)) s
+  pub sizes : Sizes (roomOf c) s
   pub made : cell ds v ≢ 0
   pub left : List ℕ
   pub chain : Chain (Waiter (algebra m) c (cell ws) (cell ds) s v) (s .next) l left
@@ -209,13 +228,13 @@ pub record Waking (m : Measure) (c : Columns) (ws ds : List ℕ) (s : Lines) (q 
 
 -- nothing is still to be looked at
 pub record Rested (m : Measure) (c : Columns) (ws ds : List ℕ) (s : Lines) (q : List ℕ) : Type 0 where
-  pub sizes : Sizes (length (c .heads)) s
+  pub sizes : Sizes (roomOf c) s
   pub waiting : Waiting m c (cell ws) (cell ds) s q (λ e. ⊥)
 
 -- no vertex is made, nothing is passed, nothing waits, and nothing is queued
 pub record Empty (m : Measure) (c : Columns) (ds : List ℕ) (s : Lines) (q : List ℕ) : Type 0 where
-  pub sizes : Sizes (length (c .heads)) s
+  pub sizes : Sizes (roomOf c) s
   pub unmade : (v : ℕ) → cell ds v ≡ 0
   pub untouched : (e : ℕ) → e < length (c .heads) → Untouched (algebra m) s e
   pub empty : (v : ℕ) → v < c .vertices → cell (s .first) v ≡ end
-  pub nothing : q ≡ replicate size none
+  pub nothing : q ≡ replicate (2 * roomOf c .vertices) none

@@ -129,8 +129,8 @@ same-length-8 c =
 
 same-length-9 : tie.Need-same-length-9 Inv-loop μ-loop
 same-length-9 c =
-    c .before .loop .inv .1 .1 .rested .waiting .grouped .sized
-    ∙ sym (c .before .before .before .before .before .before .before .before .before .before .before .before .before .before .before .before .pre .waits .rested .waiting .grouped .sized)
+    c .before .loop .inv .1 .1 .rested .waiting .sized
+    ∙ sym (c .before .before .before .before .before .before .before .before .before .before .before .before .before .before .before .before .pre .waits .rested .waiting .sized)
 
 returns : tie.Need-returns Inv-loop μ-loop
 returns c =

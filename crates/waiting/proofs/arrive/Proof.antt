@@ -39,7 +39,7 @@ shared-slice-read-h c = entry (c .before .before .before) .pre .head
 lower-requires : tie.Need-lower-requires
 lower-requires c κs =
     let p = entry (c .before .before .before .before) in
-    (p .pre .sized, p .pre .key)
+    (p .pre .grouped, p .pre .key)
 
 returns : tie.Need-returns
 returns c =

@@ -25,7 +25,7 @@ begin-requires c κs =
     let p = c .before .before .before .before .before .before in
     let q = p .before in
     let r = q .before .before .before .before .before .before .before .before .before .before .before .before .before .before in
-    (record { usable = r .pre .0 .usable; fitted = r .pre .0 .fitted; sized = q .loop .inv .1 .waiting .grouped .sized }, (p .loop-test .taken, q .loop .inv .1))
+    (record { usable = r .pre .0 .usable; fitted = r .pre .0 .fitted; grouped = q .loop .inv .1 .waiting .grouped; sized = q .loop .inv .1 .waiting .sized }, (p .loop-test .taken, q .loop .inv .1))
 
 add-i : tie.Need-add-i Inv-loop μ-loop
 add-i c =
@@ -67,7 +67,7 @@ same-length-5 c =
 
 same-length-6 : tie.Need-same-length-6 Inv-loop μ-loop
 same-length-6 c =
-    c .before .loop .inv .1 .waiting .grouped .sized ∙ sym (c .before .before .before .before .before .before .before .before .before .before .before .before .before .before .before .pre .0 .sized)
+    c .before .loop .inv .1 .waiting .sized ∙ sym (c .before .before .before .before .before .before .before .before .before .before .before .before .before .before .before .pre .0 .sized)
 
 returns : tie.Need-returns Inv-loop μ-loop
 returns c = all-started (c .before .loop .inv .1) (c .loop-test .left)

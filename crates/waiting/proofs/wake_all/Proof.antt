@@ -6,7 +6,7 @@ use Prim.Native.Nat.{_<_}
 use native.Mathlib.Omega.{arith}
 use Rattle.columns.specs.Lent.{lent}
 use Rattle.waiting.specs.Lines.{lines, Offerable, Waking}
-use Rattle.waiting.proofs.Steps.{vertices-few}
+use Rattle.waiting.proofs.Steps.{enough, vertices-few}
 use Rattle.waiting.proofs.Short.{steps}
 use Rattle.waiting.proofs.Walking.{wakeful, below, placed, walked, rested}
 
@@ -26,7 +26,8 @@ queued c =
           c .before .before .before .before .before .before .before .before .before .before .before .before .before .before .before .pre .0 .usable;
       fitted =
           c .before .before .before .before .before .before .before .before .before .before .before .before .before .before .before .pre .0 .fitted;
-      sized = c .loop .inv .waiting .grouped .sized;
+      grouped = c .loop .inv .waiting .grouped;
+      sized = c .loop .inv .waiting .sized;
     }
 
 -- what is walked to is a hyperedge
@@ -41,7 +42,7 @@ mul-l c =
 slice-read-l : tie.Need-slice-read-l Inv-loop μ-loop
 slice-read-l c =
     let p = c .before .before .before .before .before .before .before .before .before .before .before .before .before .before in
-    omega (arith, p .pre .1 .1 .sizes .first, p .pre .1 .0, vertices-few (p .pre .0))
+    omega (arith, p .pre .1 .1 .sizes .first, p .pre .1 .0, enough (p .pre .0) .vertices)
 
 loop-holds : tie.Need-loop-holds Inv-loop μ-loop
 loop-holds c = c .before .before .before .before .before .before .before .before .before .before .before .before .before .before .pre .1 .1
@@ -104,7 +105,7 @@ same-length-5 c =
 
 same-length-6 : tie.Need-same-length-6 Inv-loop μ-loop
 same-length-6 c =
-    c .before .loop .inv .waiting .grouped .sized
+    c .before .loop .inv .waiting .sized
     ∙ sym (c .before .before .before .before .before .before .before .before .before .before .before .before .before .before .before .before .pre .0 .sized)
 
 returns : tie.Need-returns Inv-loop μ-loop
