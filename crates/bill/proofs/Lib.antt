@@ -1,4 +1,5 @@
 pub mod Walks
+pub mod Lengths
 pub mod Rooms
 pub mod Admitted
 pub mod Printed

@@ -20,7 +20,7 @@ use Rattle.columns.specs.Columns.{Entries, Columns, ownAt, tailAt}
 use Rattle.provenance.specs.BestFirst.{labels}
 use Rattle.provenance.specs.Support.{bills, bill}
 use Rattle.tables.specs.Table.{hypergraph}
-use Rattle.columns.specs.Acceptance.{allBelow}
+use Rattle.columns.specs.Acceptance.{mostVertices, allBelow}
 use Rattle.columns.proofs.Accepted.{AcceptedColumns, table-accepted}
 use Rattle.bill.specs.declared.Budget.the-variants.{Left, Spent}
 use Rattle.bill.specs.Walk.{vertexBill, Each, Grounded, VertexFits, WrittenFrom, spend}
@@ -95,6 +95,9 @@ module _ (m : Measure) (c : Columns) (a : Entries) (v : ℕ) where
 
     pub bill-grounded : Grounded (c .spans) (c .tails) (a .labels .edges) (labels (a .labels) v .depth) v
     bill-grounded = grounded-within m c a (accepted .columns) (accepted .fixed) (labels (a .labels) v .depth) v (accepted .vertex) (accepted .made) (omega arith)
+
+    pub bill-few : length (a .labels .edges) ≤ mostVertices
+    bill-few = omega (arith, accepted .columns .sized .labels .edges, table-accepted c (accepted .columns .table) .few)
 
     pub vertex-printed : (room : List ℕ) → printed (vertexBill (c .spans) (c .tails) (a .labels .edges) (labels (a .labels) v .depth) v) room ≡ billed m c a v room
     unfolding billed billAcceptance

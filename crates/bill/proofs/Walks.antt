@@ -86,10 +86,10 @@ module _ (spans tails edges : List ℕ) where
 
 -- a budget pays for n lines, or for fewer
 module _ (b n : ℕ) where
-  spend-paid : n ≤ b → spend b n ≡ Left (b - n)
+  pub spend-paid : n ≤ b → spend b n ≡ Left (b - n)
   spend-paid h = rw (le-leb n b h)
 
-  spend-short : b < n → spend b n ≡ Spent
+  pub spend-short : b < n → spend b n ≡ Spent
   spend-short h = rw (lt-leb n b h)
 
   -- what a walk gave tells which

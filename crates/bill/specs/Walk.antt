@@ -1,5 +1,5 @@
 -- What the walks of a bill read and write: the lists of the lines and the chosen line of each part, as three columns hold them; what must hold of them; a room
--- that is written from a place on; a budget. Assumes nothing: these are definitions.
+-- that is written from a place on; a budget, and the lengths that are known. Assumes nothing: these are definitions.
 use mathlib.Core.Path.{_≡_}
 use mathlib.Core.List.{List, [], _∷_, _++_}
 use Prim.Native.Nat.{ℕ, zero, suc, _+_, _-_, _≤_, _<_}
@@ -12,7 +12,7 @@ use Rattle.provenance.specs.BestFirst.{labels}
 use Rattle.provenance.specs.Support.{bills, bill}
 use Rattle.columns.specs.Filled.{filled}
 use Rattle.columns.specs.Lent.{Placed}
-use Rattle.columns.specs.Columns.{columns, answers, tailOf}
+use Rattle.columns.specs.Columns.{columns, answers, cell, tailOf}
 use Rattle.tables.specs.Table.{hypergraph}
 use Rattle.bill.specs.declared.Budget.{Budget}
 use Rattle.bill.specs.declared.Budget.the-variants.{Left, Spent}
@@ -57,6 +57,16 @@ pub record TailFits (spans tails edges : List ℕ) (depth : ℕ) (tail : List �
 pub record WrittenFrom (from : ℕ) (new room : List ℕ) (to : ℕ) (left : List ℕ) : Type 0 where
   pub reaches : to ≡ from + length new
   pub content : left ≡ take from room ++ filled new (drop from room)
+
+-- a column of lengths is right: it has a place for every part, and holds 0 or the length of the part's bill
+pub record Known (spans tails edges lengths : List ℕ) : Type 0 where
+  pub places : length edges ≤ length lengths
+  pub right : (depth v : ℕ) → Grounded spans tails edges depth v → ¬ (cell lengths v ≡ 0) → cell lengths v ≡ length (vertexBill spans tails edges depth v)
+
+-- it is so after a walk that found one, and has as many places
+pub record KnownStill (spans tails edges before after : List ℕ) : Type 0 where
+  pub known : Known spans tails edges after
+  pub long : length after ≡ length before
 
 -- what is left of a budget after so many lines
 abbrev pub spend : (budget lines : ℕ) → Budget

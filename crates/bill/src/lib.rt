@@ -1,5 +1,7 @@
 // Printing the bill of a vertex: the hyperedges of its chosen derivation, root first, then the bill
-// of each vertex of the root's tail, in order.
+// of each vertex of the root's tail, in order. A bill is measured before it is written: its length from
+// the lengths of the bills below it, each worked out once, so that a long bill is refused as soon as a
+// short one.
 use refusal::Acceptance;
 use refusal::Extent;
 use refusal::Refusal;
@@ -7,10 +9,12 @@ use weights::Hyperedge;
 use weights::Measure;
 use weights::Vertex;
 ghost use mathlib.Core.Path.{_≡_};
+ghost use Prim.Native.Nat.{_≤_};
 ghost use lib.ListN.{length};
 ghost use Rattle.columns.specs.Columns.{columns, entries};
+ghost use Rattle.columns.specs.Acceptance.{mostVertices};
 ghost use Rattle.bill.specs.Billing.{partAcceptance, printed, billed};
-ghost use Rattle.bill.specs.Walk.{vertexBill, tailBill, Grounded, AllGrounded, VertexFits, TailFits, WrittenFrom, spend};
+ghost use Rattle.bill.specs.Walk.{vertexBill, tailBill, Grounded, AllGrounded, VertexFits, TailFits, WrittenFrom, Known, KnownStill, spend};
 
 // What is left of the room that a bill may take.
 enum Budget {
@@ -18,26 +22,48 @@ enum Budget {
     Spent,
 }
 
-// What the bill of v leaves of a budget. It is at most `depth` deep, and no more of it is looked at
-// than the budget pays for.
+// What so many lines leave of a budget.
+fn pay(budget: usize, lines: usize) -> Budget
+    ensures { λ r. ⌜ r ≡ spend budget lines ⌝ }
+{
+    if lines > budget {
+        return Budget::Spent;
+    }
+    Budget::Left(budget - lines)
+}
+
+// What the bill of v, which is at most `depth` deep, leaves of a budget. The length of each vertex's
+// bill is worked out once and kept in `lengths`, where 0 says that it is not known: a bill has a line.
 fn vertex_spend(
     depth: u64,
     v: Vertex,
     spans: &[u64],
     tails: &[u64],
     edges: &[u64],
+    lengths: &mut [u64],
     budget: usize,
 ) -> Budget
-    requires { ⌜ Grounded (now spans) (now tails) (now edges) depth (v .0) ⌝ }
+    requires { ⌜ (Grounded (now spans) (now tails) (now edges) depth (v .0)) × (Known (now spans) (now tails) (now edges) (now lengths)) ⌝ }
     ensures { λ r. ⌜ r ≡ spend budget (length (vertexBill (now (spans .entry)) (now (tails .entry)) (now (edges .entry)) depth (v .0))) ⌝ }
+    ensures known { λ r. ⌜ KnownStill (now (spans .entry)) (now (tails .entry)) (now (edges .entry)) (now (lengths .entry)) (now (lengths .exit)) ⌝ }
 {
     if budget == 0 {
         return Budget::Spent;
     }
     let i = v.0 as usize;
+    let known = lengths[i] as usize;
+    if known != 0 {
+        return pay(budget, known);
+    }
     let root = edges[i];
     let tail = columns::tail_of(Hyperedge(root), spans, tails);
-    tail_spend(depth - 1, tail, spans, tails, edges, budget - 1)
+    let below = budget - 1;
+    let b = tail_spend(depth - 1, tail, spans, tails, edges, lengths, below);
+    let Budget::Left(rest) = b else {
+        return Budget::Spent;
+    };
+    lengths[i] = (budget - rest) as u64;
+    Budget::Left(rest)
 }
 
 // The same for the bills of the vertices of a tail.
@@ -47,20 +73,22 @@ fn tail_spend(
     spans: &[u64],
     tails: &[u64],
     edges: &[u64],
+    lengths: &mut [u64],
     budget: usize,
 ) -> Budget
-    requires { ⌜ AllGrounded (now spans) (now tails) (now edges) depth (now tail) ⌝ }
+    requires { ⌜ (AllGrounded (now spans) (now tails) (now edges) depth (now tail)) × (Known (now spans) (now tails) (now edges) (now lengths)) ⌝ }
     ensures { λ r. ⌜ r ≡ spend budget (length (tailBill (now (spans .entry)) (now (tails .entry)) (now (edges .entry)) depth (now (tail .entry)))) ⌝ }
+    ensures known { λ r. ⌜ KnownStill (now (spans .entry)) (now (tails .entry)) (now (edges .entry)) (now (lengths .entry)) (now (lengths .exit)) ⌝ }
 {
     if tail.len() == 0 {
         return Budget::Left(budget);
     }
     let v = tail[0];
-    let b = vertex_spend(depth, Vertex(v), spans, tails, edges, budget);
+    let b = vertex_spend(depth, Vertex(v), spans, tails, edges, lengths, budget);
     let Budget::Left(rest) = b else {
         return Budget::Spent;
     };
-    tail_spend(depth, &tail[1..], spans, tails, edges, rest)
+    tail_spend(depth, &tail[1..], spans, tails, edges, lengths, rest)
 }
 
 // Writes the bill of v, which is at most `depth` deep, from the start of a room that holds it, and
@@ -175,7 +203,7 @@ fn check_part(
 }
 
 // Prints the bill of v, which is at most `depth` deep. Nothing is written before the whole bill is
-// known to fit: 13.
+// known to fit: 13. A table has at most 1,024 vertices, so each has its place in `lengths`.
 fn print(
     depth: u64,
     v: Vertex,
@@ -184,10 +212,11 @@ fn print(
     edges: &[u64],
     room: &mut [u64],
 ) -> Extent
-    requires { ⌜ Grounded (now spans) (now tails) (now edges) depth (v .0) ⌝ }
+    requires { ⌜ (Grounded (now spans) (now tails) (now edges) depth (v .0)) × (length (now edges) ≤ mostVertices) ⌝ }
     ensures { λ r. ⌜ record { result = r; left = now (room .exit) } ≡ printed (vertexBill (now (spans .entry)) (now (tails .entry)) (now (edges .entry)) depth (v .0)) (now (room .entry)) ⌝ }
 {
-    let budget = vertex_spend(depth, v, spans, tails, edges, room.len());
+    let mut lengths = [0u64; 1024];
+    let budget = vertex_spend(depth, v, spans, tails, edges, &mut lengths, room.len());
     match budget {
         Budget::Spent => return Extent::Refused(Refusal::BillRoom),
         Budget::Left(_) => {}

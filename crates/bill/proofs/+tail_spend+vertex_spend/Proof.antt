@@ -1,54 +1,58 @@
--- `bill::vertex_spend` and `bill::tail_spend` meet their contracts: a budget pays for the root, then for the bills of the tail one after the other. Depth falls, then the
--- tail that is left. Assumes nothing.
-use mathlib.Core.Path.{sym, _∙_, ap, subst}
+-- `bill::vertex_spend` and `bill::tail_spend` meet their contracts: a budget pays for a bill whose length is known at once, and else for the root, then for the bills of
+-- the tail one after the other. Depth falls, then the tail that is left. Assumes nothing.
+use mathlib.Core.Path.{_≡_, sym, _∙_, ap, subst}
 use mathlib.Core.List.{List}
-use Prim.Native.Nat.{ℕ, _+_, _-_, _<_}
+use Prim.Native.Nat.{ℕ, _+_, _-_, _≤_, _<_}
 use native.Mathlib.Nat.{pos-of-ne-zero}
 use native.Mathlib.Omega.{arith}
 use borrow.Author.Needs.{needs}
 use borrow.Fn.Kinds.{In}
 use borrow.Fn.PlainCycle.{Measures, is, falls, and}
-use lib.ListN.{length}
-use Rattle.bill.specs.Walk.{tailBill, AllGrounded, spend}
-use Rattle.bill.proofs.Walks.{μ, rest-shorter, each-first, each-rest, grounded, root-unpaid, root-paid, tail-paid, first-unpaid, first-paid}
+use lib.ListN.{length, set, length-set}
+use Rattle.bill.specs.declared.Budget.{Budget}
+use Rattle.bill.specs.Walk.{vertexBill, tailBill, AllGrounded, KnownStill, spend}
+use Rattle.bill.proofs.Walks.{μ, rest-shorter, each-first, each-rest, grounded, is-left, root-unpaid, root-paid, tail-paid, first-unpaid, first-paid}
+use Rattle.bill.proofs.Lengths.{still-known, known-on, vertex-known, known-paid, known-more}
 use Rattle.bill.proofs.tail_spend.Reads as tail
 use Rattle.bill.proofs.tail_spend.Kinds as tail-kinds
 use Rattle.bill.proofs.+tail_spend+vertex_spend.Lts-tail_spend as tail-lts
 use Rattle.bill.proofs.vertex_spend.Reads as vertex
 use Rattle.bill.proofs.vertex_spend.Kinds as vertex-kinds
 use Rattle.bill.proofs.+tail_spend+vertex_spend.Lts-vertex_spend as vertex-lts
+use Rattle.bill.proofs.pay.Reads as pay
 use Rattle.columns.proofs.tail_of.Reads as tail-of
 use Rattle.bill.proofs.+tail_spend+vertex_spend.{statement}
 use Rattle.bill.proofs.+tail_spend+vertex_spend.Tie.{close}
 
-abbrev μ-tail : Measures 4 tail-kinds.ps ℕ
+abbrev μ-tail : Measures 5 tail-kinds.ps ℕ
 μ-tail κs a = μ (a .0) (length (a .1 .0 .now) + 1)
 
-abbrev μ-vertex : Measures 3 vertex-kinds.ps ℕ
+abbrev μ-vertex : Measures 4 vertex-kinds.ps ℕ
 μ-vertex κs a = μ (a .0) 0
 
 -- what each is given at the measure t, and what a call of it asks below t
-abbrev tail-at : ℕ → In 4 tail-kinds.ps
-tail-at t = and 4 tail-kinds.ps (is 4 tail-kinds.ps μ-tail t) tail.Pre
+abbrev tail-at : ℕ → In 5 tail-kinds.ps
+tail-at t = and 5 tail-kinds.ps (is 5 tail-kinds.ps μ-tail t) tail.Pre
 
-abbrev tail-below : ℕ → In 4 tail-kinds.ps
-tail-below t = and 4 tail-kinds.ps (falls 4 tail-kinds.ps _<_ μ-tail t) tail.Pre
+abbrev tail-below : ℕ → In 5 tail-kinds.ps
+tail-below t = and 5 tail-kinds.ps (falls 5 tail-kinds.ps _<_ μ-tail t) tail.Pre
 
-abbrev vertex-at : ℕ → In 3 vertex-kinds.ps
-vertex-at t = and 3 vertex-kinds.ps (is 3 vertex-kinds.ps μ-vertex t) vertex.Pre
+abbrev vertex-at : ℕ → In 4 vertex-kinds.ps
+vertex-at t = and 4 vertex-kinds.ps (is 4 vertex-kinds.ps μ-vertex t) vertex.Pre
 
-abbrev vertex-below : ℕ → In 3 vertex-kinds.ps
-vertex-below t = and 3 vertex-kinds.ps (falls 3 vertex-kinds.ps _<_ μ-vertex t) vertex.Pre
+abbrev vertex-below : ℕ → In 4 vertex-kinds.ps
+vertex-below t = and 4 vertex-kinds.ps (falls 4 vertex-kinds.ps _<_ μ-vertex t) vertex.Pre
 
 tail-returns : (t : ℕ) → tail-lts.Need-returns (vertex-below t, vertex.Post, tail-below t, tail.Post) (tail-at t) tail.Post
-tail-returns t c = tail-paid _ _ _ (c .if1 .taken)
+tail-returns t c = (tail-paid _ _ _ (c .if1 .taken), still-known (c .before .before .before .before .before .before .pre .1 .1))
 
 tail-shared-slice-read-v : (t : ℕ) → tail-lts.Need-shared-slice-read-v (vertex-below t, vertex.Post, tail-below t, tail.Post) (tail-at t) tail.Post
 tail-shared-slice-read-v t c = pos-of-ne-zero (c .before .if1 .left)
 
 tail-vertex-spend-requires : (t : ℕ) → tail-lts.Need-vertex-spend-requires (vertex-below t, vertex.Post, tail-below t, tail.Post) (tail-at t) tail.Post
 tail-vertex-spend-requires t c κs =
-    (omega (arith, c .before .before .before .before .before .before .pre .0), each-first _ _ (c .before .if1 .left) (c .before .before .before .before .before .before .pre .1))
+    let s = c .before .before .before .before .before .before .before .before in
+    (omega (arith, s .pre .0), (each-first _ _ (c .before .before .if1 .left) (s .pre .1 .0), s .pre .1 .1))
 
 tail-enum-known-b : (t : ℕ) → tail-lts.Need-enum-known-b (vertex-below t, vertex.Post, tail-below t, tail.Post) (tail-at t) tail.Post
 tail-enum-known-b t c = search needs
@@ -56,62 +60,150 @@ tail-enum-known-b t c = search needs
 tail-enum-told : (t : ℕ) → tail-lts.Need-enum-told (vertex-below t, vertex.Post, tail-below t, tail.Post) (tail-at t) tail.Post
 tail-enum-told t c = search needs
 
+tail-same-length : (t : ℕ) → tail-lts.Need-same-length (vertex-below t, vertex.Post, tail-below t, tail.Post) (tail-at t) tail.Post
+tail-same-length t c = c .before .before .before .before .vertex-spend .ensures .1 .long
+
 tail-returns-2 : (t : ℕ) → tail-lts.Need-returns-2 (vertex-below t, vertex.Post, tail-below t, tail.Post) (tail-at t) tail.Post
-tail-returns-2 t c = first-unpaid _ _ _ (c .before .before .before .before .if1 .left) (sym (c .before .before .vertex-spend .ensures) ∙ c .enum-told .given .1)
+tail-returns-2 t c =
+    let first = c .before .before .before .before .vertex-spend .ensures in
+    (first-unpaid _ _ _ (c .before .before .before .before .before .before .before .if1 .left) (sym (first .0) ∙ c .enum-told .given .1), first .1)
 
 tail-sub-tail-spend : (t : ℕ) → tail-lts.Need-sub-tail-spend (vertex-below t, vertex.Post, tail-below t, tail.Post) (tail-at t) tail.Post
-tail-sub-tail-spend t c = pos-of-ne-zero (c .before .before .before .before .before .if1 .left)
+tail-sub-tail-spend t c = pos-of-ne-zero (c .before .before .before .before .before .before .before .before .if1 .left)
 
 tail-part-tail-spend-start : (t : ℕ) → tail-lts.Need-part-tail-spend-start (vertex-below t, vertex.Post, tail-below t, tail.Post) (tail-at t) tail.Post
-tail-part-tail-spend-start t c = pos-of-ne-zero (c .before .before .before .before .before .if1 .left)
+tail-part-tail-spend-start t c = pos-of-ne-zero (c .before .before .before .before .before .before .before .before .if1 .left)
 
 tail-part-tail-spend-end : (t : ℕ) → tail-lts.Need-part-tail-spend-end (vertex-below t, vertex.Post, tail-below t, tail.Post) (tail-at t) tail.Post
 tail-part-tail-spend-end t c = search needs
 
 tail-tail-spend-requires : (t : ℕ) → tail-lts.Need-tail-spend-requires (vertex-below t, vertex.Post, tail-below t, tail.Post) (tail-at t) tail.Post
 tail-tail-spend-requires t c κs =
-    let s = c .before .before .before .before .before .before .before .before .before .before .before in
-    let n = c .before .before .before .before .before .before .if1 .left in
-    (omega (arith, s .pre .0, rest-shorter (s .args .tail .now) n), each-rest _ _ n (s .pre .1))
+    let s = c .before .before .before .before .before .before .before .before .before .before .before .before .before .before .before .before in
+    let n = c .before .before .before .before .before .before .before .before .before .before .if1 .left in
+    let known = c .before .before .before .before .before .before .before .vertex-spend .ensures .1 .known in
+    (omega (arith, s .pre .0, rest-shorter (s .args .tail .now) n), (each-rest _ _ n (s .pre .1 .0), known))
+
+tail-same-length-2 : (t : ℕ) → tail-lts.Need-same-length-2 (vertex-below t, vertex.Post, tail-below t, tail.Post) (tail-at t) tail.Post
+tail-same-length-2 t c = known-on (c .before .before .before .before .before .before .before .before .before .before .vertex-spend .ensures .1) (c .before .before .tail-spend .ensures .1) .long
 
 tail-returns-3 : (t : ℕ) → tail-lts.Need-returns-3 (vertex-below t, vertex.Post, tail-below t, tail.Post) (tail-at t) tail.Post
 tail-returns-3 t c =
-    first-paid _ _ _ (c .before .before .before .before .before .before .before .if1 .left)
-    (sym (c .before .before .before .before .before .vertex-spend .ensures) ∙ c .before .before .before .b .given .1) (c .tail-spend .ensures)
+    let n = c .before .before .before .before .before .before .before .before .before .before .before .before .before .if1 .left in
+    let first = c .before .before .before .before .before .before .before .before .before .before .vertex-spend .ensures in
+    let rest = c .before .before .tail-spend .ensures in
+    (first-paid _ _ _ n (sym (first .0) ∙ c .before .before .before .before .before .before .b .given .1) (rest .0), known-on (first .1) (rest .1))
 
-vertex-returns : (t : ℕ) → vertex-lts.Need-returns (tail-of.Asked, tail-of.Learnt, tail-below t, tail.Post) (vertex-at t) vertex.Post
-vertex-returns t c = root-unpaid _ (grounded _ _ _ _ _ (c .before .before .before .before .pre .1) .lines) (c .if1 .taken)
+vertex-returns : (t : ℕ) → vertex-lts.Need-returns (pay.Asked, pay.Learnt, tail-of.Asked, tail-of.Learnt, tail-below t, tail.Post) (vertex-at t) vertex.Post
+vertex-returns t c =
+    let p = c .before .before .before .before .before .pre .1 in
+    (root-unpaid _ (grounded _ _ _ _ _ (p .0) .lines) (c .if1 .taken), still-known (p .1))
 
-vertex-mul-root : (t : ℕ) → vertex-lts.Need-mul-root (tail-of.Asked, tail-of.Learnt, tail-below t, tail.Post) (vertex-at t) vertex.Post
-vertex-mul-root t c = omega (arith, grounded _ _ _ _ _ (c .before .before .before .before .pre .1) .vertex)
+vertex-mul-known : (t : ℕ) → vertex-lts.Need-mul-known (pay.Asked, pay.Learnt, tail-of.Asked, tail-of.Learnt, tail-below t, tail.Post) (vertex-at t) vertex.Post
+vertex-mul-known t c = let p = c .before .before .before .before .before .pre .1 in omega (arith, vertex-known _ _ (p .0) (p .1))
 
-vertex-shared-slice-read-root : (t : ℕ) → vertex-lts.Need-shared-slice-read-root (tail-of.Asked, tail-of.Learnt, tail-below t, tail.Post) (vertex-at t) vertex.Post
-vertex-shared-slice-read-root t c = grounded _ _ _ _ _ (c .before .before .before .before .before .pre .1) .vertex
+vertex-slice-read-known : (t : ℕ) → vertex-lts.Need-slice-read-known (pay.Asked, pay.Learnt, tail-of.Asked, tail-of.Learnt, tail-below t, tail.Post) (vertex-at t) vertex.Post
+vertex-slice-read-known t c = let p = c .before .before .before .before .before .before .pre .1 in vertex-known _ _ (p .0) (p .1)
 
-vertex-tail-of-requires : (t : ℕ) → vertex-lts.Need-tail-of-requires (tail-of.Asked, tail-of.Learnt, tail-below t, tail.Post) (vertex-at t) vertex.Post
-vertex-tail-of-requires t c κs = grounded _ _ _ _ _ (c .before .before .before .before .before .pre .1) .placed
+vertex-pay-requires : (t : ℕ) → vertex-lts.Need-pay-requires (pay.Asked, pay.Learnt, tail-of.Asked, tail-of.Learnt, tail-below t, tail.Post) (vertex-at t) vertex.Post
+vertex-pay-requires t c κs = search needs
 
-vertex-sub-tail-spend : (t : ℕ) → vertex-lts.Need-sub-tail-spend (tail-of.Asked, tail-of.Learnt, tail-below t, tail.Post) (vertex-at t) vertex.Post
-vertex-sub-tail-spend t c = grounded _ _ _ _ _ (c .before .before .before .before .before .before .pre .1) .deep
+vertex-returns-2 : (t : ℕ) → vertex-lts.Need-returns-2 (pay.Asked, pay.Learnt, tail-of.Asked, tail-of.Learnt, tail-below t, tail.Post) (vertex-at t) vertex.Post
+vertex-returns-2 t c =
+    let p = c .before .before .before .before .before .before .before .before .pre .1 in
+    (known-paid _ _ (p .0) (p .1) (c .before .if2 .taken) _ (c .pay .ensures), still-known (p .1))
 
-vertex-sub-tail-spend-2 : (t : ℕ) → vertex-lts.Need-sub-tail-spend-2 (tail-of.Asked, tail-of.Learnt, tail-below t, tail.Post) (vertex-at t) vertex.Post
-vertex-sub-tail-spend-2 t c = search needs
+vertex-mul-root : (t : ℕ) → vertex-lts.Need-mul-root (pay.Asked, pay.Learnt, tail-of.Asked, tail-of.Learnt, tail-below t, tail.Post) (vertex-at t) vertex.Post
+vertex-mul-root t c = omega (arith, grounded _ _ _ _ _ (c .before .before .before .before .before .before .before .pre .1 .0) .vertex)
 
-vertex-tail-spend-requires : (t : ℕ) → vertex-lts.Need-tail-spend-requires (tail-of.Asked, tail-of.Learnt, tail-below t, tail.Post) (vertex-at t) vertex.Post
+vertex-shared-slice-read-root : (t : ℕ) → vertex-lts.Need-shared-slice-read-root (pay.Asked, pay.Learnt, tail-of.Asked, tail-of.Learnt, tail-below t, tail.Post) (vertex-at t) vertex.Post
+vertex-shared-slice-read-root t c = grounded _ _ _ _ _ (c .before .before .before .before .before .before .before .before .pre .1 .0) .vertex
+
+vertex-tail-of-requires : (t : ℕ) → vertex-lts.Need-tail-of-requires (pay.Asked, pay.Learnt, tail-of.Asked, tail-of.Learnt, tail-below t, tail.Post) (vertex-at t) vertex.Post
+vertex-tail-of-requires t c κs = grounded _ _ _ _ _ (c .before .before .before .before .before .before .before .before .pre .1 .0) .placed
+
+vertex-sub-below : (t : ℕ) → vertex-lts.Need-sub-below (pay.Asked, pay.Learnt, tail-of.Asked, tail-of.Learnt, tail-below t, tail.Post) (vertex-at t) vertex.Post
+vertex-sub-below t c = search needs
+
+vertex-sub-tail-spend : (t : ℕ) → vertex-lts.Need-sub-tail-spend (pay.Asked, pay.Learnt, tail-of.Asked, tail-of.Learnt, tail-below t, tail.Post) (vertex-at t) vertex.Post
+vertex-sub-tail-spend t c = grounded _ _ _ _ _ (c .before .before .before .before .before .before .before .before .before .pre .1 .0) .deep
+
+vertex-tail-spend-requires : (t : ℕ) → vertex-lts.Need-tail-spend-requires (pay.Asked, pay.Learnt, tail-of.Asked, tail-of.Learnt, tail-below t, tail.Post) (vertex-at t) vertex.Post
 vertex-tail-spend-requires t c κs =
-    let s = c .before .before .before .before .before .before in
-    let g = grounded _ _ _ _ _ (s .pre .1) in (
-      omega (arith, s .pre .0, g .deep, g .short, ap length (c .tail-of .ensures)),
-      subst (AllGrounded (s .args .spans .now) (s .args .tails .now) (s .args .edges .now) (s .args .depth - 1)) (sym (c .tail-of .ensures)) (g .below),
+    let s = c .before .before .before .before .before .before .before .before .before .before in
+    let g = grounded _ _ _ _ _ (s .pre .1 .0) in (
+      omega (arith, s .pre .0, g .deep, g .short, ap length (c .before .tail-of .ensures)),
+      (
+        subst (AllGrounded (s .args .spans .now) (s .args .tails .now) (s .args .edges .now) (s .args .depth - 1)) (sym (c .before .tail-of .ensures)) (g .below),
+        s .pre .1 .1,
+      ),
     )
 
-vertex-returns-2 : (t : ℕ) → vertex-lts.Need-returns-2 (tail-of.Asked, tail-of.Learnt, tail-below t, tail.Post) (vertex-at t) vertex.Post
-vertex-returns-2 t c =
-    let a = c .before .before .before .before .before .before .before .args in
-    let g = grounded _ _ _ _ _ (c .before .before .before .before .before .before .before .pre .1) in
-    root-paid _ (g .lines) (c .before .before .before .if1 .left)
-    (c .tail-spend .ensures
-    ∙ ap (λ (vs : List ℕ). spend (a .budget - 1) (length (tailBill (a .spans .now) (a .tails .now) (a .edges .now) (a .depth - 1) vs))) (c .before .tail-of .ensures))
+vertex-enum-known-b : (t : ℕ) → vertex-lts.Need-enum-known-b (pay.Asked, pay.Learnt, tail-of.Asked, tail-of.Learnt, tail-below t, tail.Post) (vertex-at t) vertex.Post
+vertex-enum-known-b t c = search needs
+
+vertex-enum-told : (t : ℕ) → vertex-lts.Need-enum-told (pay.Asked, pay.Learnt, tail-of.Asked, tail-of.Learnt, tail-below t, tail.Post) (vertex-at t) vertex.Post
+vertex-enum-told t c = search needs
+
+vertex-same-length : (t : ℕ) → vertex-lts.Need-same-length (pay.Asked, pay.Learnt, tail-of.Asked, tail-of.Learnt, tail-below t, tail.Post) (vertex-at t) vertex.Post
+vertex-same-length t c = c .before .before .before .before .tail-spend .ensures .1 .long
+
+-- what the tail left of the budget is what the bill leaves
+vertex-paid : (t : ℕ) (c : vertex-lts.After-tail-spend (pay.Asked, pay.Learnt, tail-of.Asked, tail-of.Learnt, tail-below t, tail.Post) (vertex-at t) vertex.Post) {r : Budget} →
+    c .tail-spend .result ≡ r →
+    let a = c .before .before .before .before .before .before .before .before .before .before .before .args in
+    r ≡ spend (a .budget) (length (vertexBill (a .spans .now) (a .tails .now) (a .edges .now) (a .depth) (a .v .0)))
+vertex-paid t c q =
+    let s = c .before .before .before .before .before .before .before .before .before .before .before in
+    let a = s .args in
+    root-paid _ (grounded _ _ _ _ _ (s .pre .1 .0) .lines) (c .before .before .before .before .before .before .if1 .left)
+    (sym q ∙ c .tail-spend .ensures .0
+    ∙ ap (λ (vs : List ℕ). spend (a .budget - 1) (length (tailBill (a .spans .now) (a .tails .now) (a .edges .now) (a .depth - 1) vs))) (c .before .before .tail-of .ensures))
+
+vertex-returns-3 : (t : ℕ) → vertex-lts.Need-returns-3 (pay.Asked, pay.Learnt, tail-of.Asked, tail-of.Learnt, tail-below t, tail.Post) (vertex-at t) vertex.Post
+vertex-returns-3 t c =
+    let p = c .before .before .before .before in
+    (vertex-paid t p (c .enum-told .given .1), p .tail-spend .ensures .1)
+
+-- the bill has a line, the budget pays for it, and this is left
+vertex-left : (t : ℕ) (c : vertex-lts.After-known-told (pay.Asked, pay.Learnt, tail-of.Asked, tail-of.Learnt, tail-below t, tail.Post) (vertex-at t) vertex.Post) →
+    let a = c .before .before .before .before .before .before .before .before .before .before .before .before .before .before .before .before .args in
+    let n = length (vertexBill (a .spans .now) (a .tails .now) (a .edges .now) (a .depth) (a .v .0)) in
+    (0 < n) × (n ≤ a .budget) × (c .before .b .given .0 .0 ≡ a .budget - n)
+vertex-left t c =
+    let s = c .before .before .before .before .before .before .before .before .before .before .before .before .before .before .before .before in
+    let lines = grounded _ _ _ _ _ (s .pre .1 .0) .lines in
+    let paid = vertex-paid t (c .before .before .before .before .before) (c .before .b .given .1) in
+    (omega (arith, ap length lines), is-left _ _ (sym paid) .0, is-left _ _ (sym paid) .1)
+
+vertex-sub-lengths : (t : ℕ) → vertex-lts.Need-sub-lengths (pay.Asked, pay.Learnt, tail-of.Asked, tail-of.Learnt, tail-below t, tail.Post) (vertex-at t) vertex.Post
+vertex-sub-lengths t c = let n = vertex-left t c in omega (arith, n .0, n .1, n .2)
+
+vertex-mul-lengths : (t : ℕ) → vertex-lts.Need-mul-lengths (pay.Asked, pay.Learnt, tail-of.Asked, tail-of.Learnt, tail-below t, tail.Post) (vertex-at t) vertex.Post
+vertex-mul-lengths t c =
+    let s = c .before .before .before .before .before .before .before .before .before .before .before .before .before .before .before .before in
+    omega (arith, vertex-known _ _ (s .pre .1 .0) (c .before .before .before .before .before .tail-spend .ensures .1 .known))
+
+vertex-slice-write-lengths : (t : ℕ) → vertex-lts.Need-slice-write-lengths (pay.Asked, pay.Learnt, tail-of.Asked, tail-of.Learnt, tail-below t, tail.Post) (vertex-at t) vertex.Post
+vertex-slice-write-lengths t c =
+    let s = c .before .before .before .before .before .before .before .before .before .before .before .before .before .before .before .before in
+    vertex-known _ _ (s .pre .1 .0) (c .before .before .before .before .before .tail-spend .ensures .1 .known)
+
+-- the column stays right with the length that is stored
+vertex-stored : (t : ℕ) (c : vertex-lts.After-known-told (pay.Asked, pay.Learnt, tail-of.Asked, tail-of.Learnt, tail-below t, tail.Post) (vertex-at t) vertex.Post) →
+    let a = c .before .before .before .before .before .before .before .before .before .before .before .before .before .before .before .before .args in
+    let after = c .before .before .before .before .before .tail-spend .last .1 .1 .1 .1 .1 .0 in
+    KnownStill (a .spans .now) (a .tails .now) (a .edges .now) (a .lengths .now) (set after (a .v .0) (a .budget - c .before .b .given .0 .0))
+vertex-stored t c =
+    let s = c .before .before .before .before .before .before .before .before .before .before .before .before .before .before .before .before in
+    let n = vertex-left t c in
+    known-more _ _ (s .pre .1 .0) (omega (arith, n .1, n .2)) (c .before .before .before .before .before .tail-spend .ensures .1)
+
+vertex-same-length-2 : (t : ℕ) → vertex-lts.Need-same-length-2 (pay.Asked, pay.Learnt, tail-of.Asked, tail-of.Learnt, tail-below t, tail.Post) (vertex-at t) vertex.Post
+vertex-same-length-2 t c = simp length-set (c .before .before .before .before .before .tail-spend .ensures .1 .long)
+
+vertex-returns-4 : (t : ℕ) → vertex-lts.Need-returns-4 (pay.Asked, pay.Learnt, tail-of.Asked, tail-of.Learnt, tail-below t, tail.Post) (vertex-at t) vertex.Post
+vertex-returns-4 t c = (vertex-paid t (c .before .before .before .before .before) (c .before .b .given .1), vertex-stored t c)
 
 pub +tail-spend+vertex-spend-spec : {M : Type 1} → statement M
 +tail-spend+vertex-spend-spec =
@@ -124,18 +216,32 @@ pub +tail-spend+vertex-spend-spec : {M : Type 1} → statement M
     (tail-vertex-spend-requires t)
     (tail-enum-known-b t)
     (tail-enum-told t)
+    (tail-same-length t)
     (tail-returns-2 t)
     (tail-sub-tail-spend t)
     (tail-part-tail-spend-start t)
     (tail-part-tail-spend-end t)
     (tail-tail-spend-requires t)
+    (tail-same-length-2 t)
     (tail-returns-3 t))
-    (λ t. vertex-lts.spec (tail-of.Asked, tail-of.Learnt, tail-below t, tail.Post) (vertex-at t) vertex.Post
+    (λ t. vertex-lts.spec (pay.Asked, pay.Learnt, tail-of.Asked, tail-of.Learnt, tail-below t, tail.Post) (vertex-at t) vertex.Post
     (vertex-returns t)
+    (vertex-mul-known t)
+    (vertex-slice-read-known t)
+    (vertex-pay-requires t)
+    (vertex-returns-2 t)
     (vertex-mul-root t)
     (vertex-shared-slice-read-root t)
     (vertex-tail-of-requires t)
+    (vertex-sub-below t)
     (vertex-sub-tail-spend t)
-    (vertex-sub-tail-spend-2 t)
     (vertex-tail-spend-requires t)
-    (vertex-returns-2 t))
+    (vertex-enum-known-b t)
+    (vertex-enum-told t)
+    (vertex-same-length t)
+    (vertex-returns-3 t)
+    (vertex-sub-lengths t)
+    (vertex-mul-lengths t)
+    (vertex-slice-write-lengths t)
+    (vertex-same-length-2 t)
+    (vertex-returns-4 t))

@@ -7,7 +7,7 @@ use native.Mathlib.Omega.{arith}
 use Rattle.refusal.specs.declared.Acceptance.the-variants.{Accepted}
 use Rattle.columns.specs.Columns.{Entries, Columns, columns, entries}
 use Rattle.bill.specs.Billing.{partAcceptance}
-use Rattle.bill.proofs.Printed.{bill-refused, bill-placed, bill-grounded, vertex-printed}
+use Rattle.bill.proofs.Printed.{bill-refused, bill-placed, bill-grounded, bill-few, vertex-printed}
 
 -- the table and the answers; past the check of the part it is accepted
 abbrev tableOf : tie.Start → Columns
@@ -39,7 +39,9 @@ print-requires : tie.Need-print-requires
 print-requires c κs =
     let p = c .before .before in
     let s = entry p in
-    bill-grounded (s .args .measure) (tableOf s) (came s) (s .args .part .0) (accepted p)
+    let m = s .args .measure in
+    let v = s .args .part .0 in
+    (bill-grounded m (tableOf s) (came s) v (accepted p), bill-few m (tableOf s) (came s) v (accepted p))
 
 returns-2 : tie.Need-returns-2
 returns-2 c =
