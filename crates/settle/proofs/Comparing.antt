@@ -40,6 +40,15 @@ valuable w =
 room : (f : ℕ → ℕ) (n : ℕ) (old : List ℕ) {new : List ℕ} → n ≤ length old → new ≡ filled (below f n) old → n ≤ length new
 room f n old h p = omega (arith, ap length p, length-filled (below f n) old (omega (arith, length-below f n)))
 
+-- a line's value and height tell its test
+pub edge-told : (m : Measure) (c : Columns) (a : Answers) (e : ℕ) {x h : ℕ}
+    → x ≡ valueAt m (c .own) (c .strikes) (c .spans) (c .tails) (a .weights) (a .depths) e → h ≡ heightAt m (c .own) (c .strikes) (c .spans) (c .tails) (a .weights) (a .depths) e
+    → keepsUpAt (algebra m) (labels a (headAt c e)) x h e ≡ edgeRight (algebra m) (hypergraph c) (ownAt c) (labels a) e
+unfolding edgeRight valueAt heightAt
+edge-told m c a e p q =
+    ap₂ (λ (x y : ℕ). keepsUpAt (algebra m) (labels a (headAt c e)) x y e) p q
+    ∙ keeps-up-value (algebra m) (hypergraph c .live e) (ownAt c e) (hypergraph c .tail e) (cell (a .weights)) (cell (a .depths)) e (labels a (headAt c e))
+
 module _
     (m : Measure) {c : Columns} {a : Answers} {vs₀ hs₀ vs hs : List ℕ} (w : Weighable c a vs₀ hs₀)
     (f : (vs ≡ filled (valuesOf m (c .own) (c .strikes) (c .spans) (c .tails) (a .weights) (a .depths) (length (c .own))) vs₀)
@@ -80,10 +89,8 @@ module _
       go false false p r = rw (p, r)
 
   edge-fits : (e : ℕ) → e < length (c .heads) → edgeFits (c .heads) vs hs (labels a) (algebra m) e ≡ edgeRight (algebra m) (hypergraph c) (ownAt c) (labels a) e
-  unfolding edgeFits edgeRight valueAt heightAt
-  edge-fits e h =
-      ap₂ (λ (x y : ℕ). keepsUpAt (algebra m) (labels a (headAt c e)) x y e) (d .value e (omega (arith, lines t))) (d .height e (omega (arith, lines t)))
-      ∙ keeps-up-value (algebra m) (hypergraph c .live e) (ownAt c e) (hypergraph c .tail e) (cell (a .weights)) (cell (a .depths)) e (labels a (headAt c e))
+  unfolding edgeFits
+  edge-fits e h = edge-told m c a e (d .value e (omega (arith, lines t))) (d .height e (omega (arith, lines t)))
 
   vertices-fit : every (vertexFits (c .heads) vs hs (labels a)) (length (a .depths)) ≡ every (vertexRight (algebra m) (hypergraph c) (ownAt c) (labels a)) (length (a .depths))
   vertices-fit = every-same _ _ _ (λ v h. vertex-fits v)

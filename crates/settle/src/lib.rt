@@ -14,12 +14,14 @@ ghost use lib.ListN.{length};
 ghost use Rattle.weights.specs.Measures.{algebra};
 ghost use Rattle.provenance.specs.BestFirst.{labels};
 ghost use Rattle.provenance.specs.Local.{every};
+ghost use Rattle.provenance.specs.Values.{keepsUpAt};
 ghost use Rattle.columns.specs.Columns.{columns, answers, entries, cell};
 ghost use Rattle.columns.proofs.Accepted.{AcceptedLabels, AcceptedColumns};
 ghost use Rattle.columns.specs.Same.{sameAnswers, sameEntries};
 ghost use Rattle.columns.specs.Lent.{lent, Turning};
 ghost use Rattle.settle.specs.Settling.{answersOf, entriesOf, entryAt, settled};
 ghost use Rattle.settle.specs.Checking.{checked};
+ghost use Rattle.settle.specs.Resting.{rests};
 ghost use Rattle.settle.specs.Comparing.{vertexFits, edgeFits, Comparable, Weighable, allRight, fewLines};
 
 // The labels of an accepted table go into three of the answer columns, whatever they held.
@@ -185,6 +187,25 @@ fn vertex_right(
     height == d
 }
 
+// Whether a head with this label does not come after what its hyperedge e of this value and height
+// offers: nothing, at height 0.
+fn keeps_up(measure: Measure, l: Label, value: u64, height: u64, e: Hyperedge) -> bool
+    ensures { λ r. ⌜ r ≡ keepsUpAt (algebra measure) l value height (e .0) ⌝ }
+{
+    if height == 0 {
+        return true;
+    }
+    if l.depth == 0 {
+        return false;
+    }
+    let x = Label {
+        weight: Weight(value),
+        depth: height,
+        edge: e,
+    };
+    weights::ahead(measure, l, x)
+}
+
 // Whether the label of e's head does not come after the value and the height of e.
 fn edge_right(
     measure: Measure,
@@ -202,29 +223,75 @@ fn edge_right(
         ⌜ r ≡ edgeFits (now (heads .entry)) (now (values .entry)) (now (heights .entry)) (labels a) (algebra measure) (e .0) ⌝ }
 {
     let i = e.0 as usize;
-    let height = heights[i] as u64;
-    if height == 0 {
-        return true;
-    }
     let v = heads[i] as usize;
-    let depth = depths[v];
-    if depth == 0 {
-        return false;
-    }
     let weight = weights[v];
+    let depth = depths[v];
     let root = edges[v];
-    let value = values[i];
     let l = Label {
         weight: Weight(weight),
         depth,
         edge: Hyperedge(root),
     };
-    let x = Label {
-        weight: Weight(value),
-        depth: height,
-        edge: e,
+    let value = values[i];
+    let height = heights[i] as u64;
+    keeps_up(measure, l, value, height, e)
+}
+
+// Whether hyperedge e leaves the labels as they are: it is not its head's own, and the label of its
+// head does not come after what it offers. Its value and height are worked out as those of a table of
+// one line.
+pub fn line_rests(
+    measure: Measure,
+    e: Hyperedge,
+    heads: &[u64],
+    own: &[u64],
+    strikes: &[u64],
+    spans: &[u64],
+    tails: &[u64],
+    weights: &[u64],
+    depths: &[u64],
+    edges: &[u64],
+) -> bool
+    requires { let c = lent (now heads) (now own) (now strikes) (now spans) (now tails) (now depths) in
+        let a = answers (now weights) (now depths) (now edges) in
+        ⌜ (Turning c a) × (e .0 < length (now heads)) ⌝ }
+    ensures { λ r.
+        let c = lent (now (heads .entry)) (now (own .entry)) (now (strikes .entry)) (now (spans .entry)) (now (tails .entry)) (now (depths .entry)) in
+        let a = answers (now (weights .entry)) (now (depths .entry)) (now (edges .entry)) in
+        ⌜ r ≡ rests measure c a (e .0) ⌝ }
+{
+    let i = e.0 as usize;
+    let v = heads[i] as usize;
+    let weight = weights[v];
+    let depth = depths[v];
+    let root = edges[v];
+    if root == e.0 {
+        return false;
+    }
+    let l = Label {
+        weight: Weight(weight),
+        depth,
+        edge: Hyperedge(root),
     };
-    weights::ahead(measure, l, x)
+    let next = i + 1;
+    let from = 2 * i;
+    let to = from + 2;
+    let mut values = [0u64; 1];
+    let mut heights = [0u16; 1];
+    offers::line_values(
+        measure,
+        &own[i..next],
+        &strikes[i..next],
+        &spans[from..to],
+        tails,
+        weights,
+        depths,
+        &mut values,
+        &mut heights,
+    );
+    let value = values[0];
+    let height = heights[0] as u64;
+    keeps_up(measure, l, value, height, e)
 }
 
 // The same of every vertex.
