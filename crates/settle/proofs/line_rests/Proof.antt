@@ -51,7 +51,7 @@ shared-slice-read-root c = let p = c .before .before .before in omega (arith, in
 returns : tie.Need-returns
 returns c =
     let s = entry (c .before .before .before .before .before) in
-    rests-not (s .pre .0) (s .args .e .0) (s .pre .1) (s .args .measure) (c .if1 .taken)
+    rests-not (s .args .measure) (tableOf s) (came s) (s .args .e .0) (c .if1 .taken)
 
 part-line-values-end : tie.Need-part-line-values-end
 part-line-values-end c = let s = start c in omega (arith, table-accepted (tableOf s) (s .pre .0 .usable .accepted) .own, s .pre .1)
