@@ -16,14 +16,16 @@ use Rattle.refusal.specs.declared.Acceptance.the-variants.{Accepted, Refused}
 use Rattle.columns.specs.Columns.{Entries, Columns, strikeAt, withOwn, withStrike}
 use Rattle.columns.specs.Acceptance.{test, andThen, lentAcceptance}
 use Rattle.columns.proofs.Accepted.{AcceptedColumns, test-passed, both-accepted, columns-accepted, table-accepted}
-use Rattle.columns.proofs.Repriced.{acceptance-kept, strike-kept}
+use Rattle.columns.proofs.Repriced.{own-elsewhere, acceptance-kept, strike-elsewhere, strike-kept}
 use Rattle.columns.proofs.Usable.{same-table}
 use Rattle.columns.specs.Same.{sameEntries}
 use Rattle.settle.specs.Settling.{entriesOf}
 use Rattle.settle.proofs.Settled.{told-accepted, told-answers}
 use Rattle.settle.specs.Checking.{answersAcceptance}
+use Rattle.settle.specs.Resting.{OnlyAt}
+use Rattle.settle.proofs.Resting.{rests-asks, rests-stay}
 use Rattle.reprice.specs.Repricing.{lineAcceptance, repriceAcceptance, strikeAcceptance, numberedAcceptance, struckAcceptance, restoreAcceptance}
-use Rattle.reprice.specs.Repricing.{ChangeOutcome, changed, MarkOutcome, marked, Changeable, Markable, repriced, stricken, restored}
+use Rattle.reprice.specs.Repricing.{ChangeOutcome, changed, MarkOutcome, marked, Changeable, Markable, Renewable, repriced, stricken, restored}
 
 -- two tests of one refusal
 two-tests : (x : Acceptance) (a b : Bool) (r : Refusal) → andThen x (test (pick a b false) r Accepted) ≡ andThen (andThen x (test a r Accepted)) (test b r Accepted)
@@ -94,9 +96,6 @@ module _ (c : Columns) (a : Entries) (e w : ℕ) (h : Changeable c a e w) where
   changed-kept : AcceptedColumns (withOwn c e w) a
   changed-kept = record { table = acceptance-kept c e w (h .placed) (h .allowed) (h .accepted .table); sized = h .accepted .sized }
 
-  pub change-accepted : AcceptedColumns (same-table (withOwn c e w) (length (a .labels .depths))) a
-  change-accepted = told-accepted (withOwn c e w) a changed-kept
-
   module _ (m : Measure) where
     pub change-made : {b : Entries} → sameEntries a (entriesOf m c) ≡ true → b ≡ entriesOf m (same-table (withOwn c e w) (length (a .labels .depths)))
         → record { result = Accepted; own = set (c .own) e w; left = b } ≡ changed m c a e w (answersAcceptance m c a)
@@ -105,13 +104,22 @@ module _ (c : Columns) (a : Entries) (e w : ℕ) (h : Changeable c a e w) where
     pub change-refused : sameEntries a (entriesOf m c) ≡ false → record { result = Refused WrongAnswers; own = c .own; left = a } ≡ changed m c a e w (answersAcceptance m c a)
     change-refused q = rw q
 
+    -- where the answers are right, they can be renewed
+    pub change-renewable : sameEntries a (entriesOf m c) ≡ true → Renewable m (same-table (withOwn c e w) (length (a .labels .depths))) a e
+    change-renewable q =
+        let k = changed-kept in
+        let o : OnlyAt c e (set (c .own) e w) (c .strikes) = record { figures = own-elsewhere c e w; marks = λ x n. refl } in
+        record {
+          accepted = told-accepted (withOwn c e w) a k;
+          turning = rests-asks m c a (set (c .own) e w) (c .strikes) (h .accepted) (k .table) q;
+          numbered = omega (arith, h .placed, table-accepted c (h .accepted .table) .own);
+          stays = rests-stay m c a (set (c .own) e w) (c .strikes) (h .accepted) (k .table) q e o;
+        }
+
 -- the same of its mark
 module _ (c : Columns) (a : Entries) (e s : ℕ) (h : Markable c a e s) where
   marked-kept : AcceptedColumns (withStrike c e s) a
   marked-kept = record { table = strike-kept c e s (h .placed) (h .allowed) (h .accepted .table); sized = h .accepted .sized }
-
-  pub mark-accepted : AcceptedColumns (same-table (withStrike c e s) (length (a .labels .depths))) a
-  mark-accepted = told-accepted (withStrike c e s) a marked-kept
 
   module _ (m : Measure) where
     pub mark-made : {b : Entries} → sameEntries a (entriesOf m c) ≡ true → b ≡ entriesOf m (same-table (withStrike c e s) (length (a .labels .depths)))
@@ -120,6 +128,17 @@ module _ (c : Columns) (a : Entries) (e s : ℕ) (h : Markable c a e s) where
 
     pub mark-refused : sameEntries a (entriesOf m c) ≡ false → record { result = Refused WrongAnswers; strikes = c .strikes; left = a } ≡ marked m c a e s (answersAcceptance m c a)
     mark-refused q = rw q
+
+    pub mark-renewable : sameEntries a (entriesOf m c) ≡ true → Renewable m (same-table (withStrike c e s) (length (a .labels .depths))) a e
+    mark-renewable q =
+        let k = marked-kept in
+        let o : OnlyAt c e (c .own) (set (c .strikes) e s) = record { figures = λ x n. refl; marks = strike-elsewhere c e s } in
+        record {
+          accepted = told-accepted (withStrike c e s) a k;
+          turning = rests-asks m c a (c .own) (set (c .strikes) e s) (h .accepted) (k .table) q;
+          numbered = omega (arith, h .placed, table-accepted c (h .accepted .table) .strikes);
+          stays = rests-stay m c a (c .own) (set (c .strikes) e s) (h .accepted) (k .table) q e o;
+        }
 
 module _ (m : Measure) (c : Columns) (a : Entries) (e : ℕ) where
   -- a change is made of its acceptance

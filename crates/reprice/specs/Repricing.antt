@@ -1,7 +1,8 @@
 -- Repricing, striking and restoring a line: their refusals, and what they leave. The paper's "The calls" and "What is turned away"; document 02, 2026-02. Assumes
 -- nothing: these are definitions.
 use Prim.Native.Nat.{ℕ, _≤_, _<_}
-use mathlib.Core.Bool.{Bool, false, not}
+use mathlib.Core.Path.{_≡_}
+use mathlib.Core.Bool.{Bool, true, false, not}
 use mathlib.Core.List.{List}
 use lib.ListN.{length, set}
 use lib.Dec.{ltb, leb}
@@ -13,9 +14,11 @@ use Rattle.refusal.specs.declared.Acceptance.{Acceptance}
 use Rattle.refusal.specs.declared.Acceptance.the-variants.{Accepted, Refused}
 use Rattle.columns.specs.Columns.{Entries, Columns, strikeAt, withOwn, withStrike}
 use Rattle.columns.specs.Acceptance.{test, andThen, lentAcceptance}
+use Rattle.columns.specs.Lent.{Turning}
 use Rattle.columns.proofs.Accepted.{AcceptedColumns}
 use Rattle.settle.specs.Settling.{entriesOf}
 use Rattle.settle.specs.Checking.{answersAcceptance}
+use Rattle.settle.specs.Resting.{rests}
 
 -- line e exists and is not struck
 abbrev pub stands : Columns → ℕ → Bool
@@ -78,6 +81,14 @@ pub record Markable (c : Columns) (a : Entries) (e s : ℕ) : Type 0 where
   pub accepted : AcceptedColumns c a
   pub placed : e < length (c .strikes)
   pub allowed : s ≤ struckMark
+
+-- what renewing answers asks after a change of line e: the table as it now is, accepted; answer columns that can be looked at; and where the line rests, that they are
+-- right as they are
+pub record Renewable (m : Measure) (c : Columns) (a : Entries) (e : ℕ) : Type 0 where
+  pub accepted : AcceptedColumns c a
+  pub turning : Turning c (a .labels)
+  pub numbered : e < length (c .heads)
+  pub stays : rests m c (a .labels) e ≡ true → a ≡ entriesOf m c
 
 unfoldable pub repriced : Measure → Columns → Entries → (e w : ℕ) → ChangeOutcome
 repriced m c a e w = changed m c a e w (repriceAcceptance m c a e w)

@@ -1,5 +1,5 @@
 // Repricing, striking and restoring a line. Everything is checked before anything lent is written;
-// then the figure or the mark is stored and the table labelled anew.
+// then the figure or the mark is stored, and the answers are renewed.
 use refusal::Acceptance;
 use refusal::Refusal;
 use weights::Hyperedge;
@@ -8,8 +8,10 @@ use weights::Measure;
 use weights::Weight;
 ghost use mathlib.Core.Path.{_≡_};
 ghost use Rattle.columns.specs.Columns.{columns, entries};
+ghost use Rattle.columns.specs.Lent.{lent};
+ghost use Rattle.settle.specs.Settling.{entriesOf};
 ghost use Rattle.settle.specs.Checking.{answersAcceptance};
-ghost use Rattle.reprice.specs.Repricing.{numberedAcceptance, lineAcceptance, struckAcceptance, changed, marked, Changeable, Markable, repriced, stricken, restored};
+ghost use Rattle.reprice.specs.Repricing.{numberedAcceptance, lineAcceptance, struckAcceptance, changed, marked, Changeable, Markable, Renewable, repriced, stricken, restored};
 
 // Whether table and answer columns are accepted and the line exists: 1 to 6 and 21, 7, 9.
 fn check_numbered(
@@ -142,6 +144,57 @@ fn check_struck(
     Acceptance::Accepted
 }
 
+// The answers become those of the table as it is after a change of the line. Where the line rests
+// they stay, so that most changes look at one line and settle nothing.
+fn renew(
+    measure: Measure,
+    heads: &[u64],
+    own: &[u64],
+    strikes: &[u64],
+    spans: &[u64],
+    tails: &[u64],
+    weights: &mut [u64],
+    depths: &mut [u64],
+    edges: &mut [u64],
+    pieces: &mut [u64],
+    line: Hyperedge,
+)
+    requires { let c = lent (now heads) (now own) (now strikes) (now spans) (now tails) (now depths) in
+        let a = entries (now weights) (now depths) (now edges) (now pieces) in
+        ⌜ Renewable measure c a (line .0) ⌝ }
+    ensures { λ r.
+        let c = lent (now (heads .entry)) (now (own .entry)) (now (strikes .entry)) (now (spans .entry)) (now (tails .entry)) (now (depths .entry)) in
+        let a′ = entries (now (weights .exit)) (now (depths .exit)) (now (edges .exit)) (now (pieces .exit)) in
+        ⌜ a′ ≡ entriesOf measure c ⌝ }
+{
+    if settle::line_rests(
+        measure,
+        line,
+        heads,
+        own,
+        strikes,
+        spans,
+        tails,
+        weights,
+        depths,
+        edges,
+    ) {
+        return;
+    }
+    settle::label(
+        measure,
+        heads,
+        own,
+        strikes,
+        spans,
+        tails,
+        weights,
+        depths,
+        edges,
+        pieces,
+    );
+}
+
 // The line's own figure becomes this one, and the answers those of the table as it then is, which is
 // accepted as it was; or 8, where the lent answers are not this table's, and nothing has changed.
 fn change(
@@ -185,7 +238,7 @@ fn change(
     }
     let i = line.0 as usize;
     own[i] = figure.0;
-    settle::label(
+    renew(
         measure,
         heads,
         own,
@@ -196,6 +249,7 @@ fn change(
         depths,
         edges,
         pieces,
+        line,
     );
     Acceptance::Accepted
 }
@@ -242,7 +296,7 @@ fn put_mark(
     }
     let i = line.0 as usize;
     strikes[i] = mark.0;
-    settle::label(
+    renew(
         measure,
         heads,
         own,
@@ -253,6 +307,7 @@ fn put_mark(
         depths,
         edges,
         pieces,
+        line,
     );
     Acceptance::Accepted
 }
