@@ -1,23 +1,30 @@
 -- The lists of the lines of each head: they are linked from the last line down, and going along one finds the lines of its head in their order. Assumes nothing.
 use mathlib.Core.Path.{_≡_, refl, sym, _∙_, ap, subst}
 use mathlib.Core.Logic.{_≢_}
+use mathlib.Core.Bool.{Bool, true, false}
 use mathlib.Core.List.{List}
-use Prim.Native.Nat.{ℕ, zero, suc, _+_, _≤_, _<_}
+use Prim.Native.Nat.{ℕ, zero, suc, _+_, _≤_, _<_, min}
 use native.Mathlib.Numerals.{add-one}
 use native.Mathlib.Omega.{arith}
 use native.Mathlib.Decide.{ℕ-discrete}
 use lib.ListN.{length, set, length-set}
 use lib.Seq.{getD-set-same, getD-set-other}
+use lib.Dec.{eqb}
 use borrow.Author.Tests.{eq-eqb, ne-eqb}
+use Rattle.weights.specs.declared.Measure.{Measure}
 use Rattle.weights.specs.declared.Offer.{Offer}
 use Rattle.weights.specs.declared.Offer.the-variants.{Nothing}
-use Rattle.weights.specs.Measures.{Algebra}
+use Rattle.weights.specs.Choice.{pick}
+use Rattle.weights.specs.Measures.{algebra}
 use Rattle.provenance.specs.Hypergraph.{Hypergraph}
-use Rattle.provenance.specs.BestFirst.{earlier, offer}
+use Rattle.provenance.specs.BestFirst.{offer}
 use Rattle.provenance.specs.InOrder.{offerTo, first}
 use Rattle.columns.specs.Columns.{Columns, cell}
 use Rattle.columns.specs.Acceptance.{mostVertices, mostEdges}
 use Rattle.tables.specs.Table.{hypergraph}
+use Rattle.minima.specs.Minima.{none as noKey}
+use Rattle.queue.specs.Keys.{Fitting, nothing, keyOf}
+use Rattle.queue.proofs.Packing.{key-earlier, fitting-earlier}
 use Rattle.topological.specs.Walking.{end, Least, line, none, Linked, Linkable}
 
 -- what holds from k + 1 on and at k
@@ -76,12 +83,15 @@ module _ {hs fs ns : List ℕ} (e : ℕ) (l : Linked hs fs ns (e + 1)) (h : e < 
 
 -- Along a list
 
-module _ (A : Algebra) (c : Columns) (w d : ℕ → ℕ) (v : ℕ) where
+module _ (m : Measure) (c : Columns) (w d : ℕ → ℕ) (v : ℕ) where
   abbrev H : Hypergraph
   H = hypergraph c
 
+  abbrev offer′ : ℕ → Offer
+  offer′ = offer (algebra m) H (cell (c .own)) w d
+
   abbrev pub best : ℕ → Offer
-  best = first A H (cell (c .own)) w d v
+  best = first (algebra m) H (cell (c .own)) w d v
 
   -- lines of other heads offer v nothing
   skip : (k x : ℕ) → k ≤ x → ((e : ℕ) → k ≤ e → e < x → cell (c .heads) e ≢ v) → best x ≡ best k
@@ -93,12 +103,12 @@ module _ (A : Algebra) (c : Columns) (w d : ℕ → ℕ) (v : ℕ) where
       go (yes q) g = ap best (sym q)
       go (no n) g = rw (ne-eqb _ _ (f x (omega arith) (omega arith))) (g (omega arith))
 
-  -- the list is walked up to l: of the lines before, `o` is the first of what is offered
-  pub record Along (l : ℕ) (o : Offer) : Type 0 where
+  -- the list is walked up to l: of what the lines before offer, the first has this key
+  pub record Along (l key : ℕ) : Type 0 where
     pub place : ℕ
     pub within : place ≤ length (c .heads)
     pub least : Least (c .heads) v place l
-    pub so-far : o ≡ best place
+    pub so-far : key ≡ keyOf m (best place)
 
   -- l is a line of v, and none before it is left
   record At (k l : ℕ) : Type 0 where
@@ -115,26 +125,39 @@ module _ (A : Algebra) (c : Columns) (w d : ℕ → ℕ) (v : ℕ) where
   at-end h (line x a b q f) p = absurd (omega arith)
   at-end h (none f) p = f
 
-  module _ {l : ℕ} {o : Offer} (a : Along l o) where
+  -- what every line offers has room in a key
+  module _ (fits : (e : ℕ) → e < length (c .heads) → Fitting (offer′ e)) where
+    -- so has the first of it
+    pub fitting-best : (k : ℕ) → k ≤ length (c .heads) → Fitting (best k)
+    unfolding first offerTo
+    fitting-best zero h = nothing
+    fitting-best (suc k) h = fitting-earlier m (fitting-best k (omega arith)) (go (eqb (H .head k) v))
+      where
+        go : (b : Bool) → Fitting (pick b (offer′ k) Nothing)
+        go true = fits k h
+        go false = nothing
+
+    -- a line of v more
+    one-more : (l : ℕ) {key : ℕ} → l < length (c .heads) → cell (c .heads) l ≡ v → key ≡ keyOf m (best l) → min key (keyOf m (offer′ l)) ≡ keyOf m (best (l + 1))
+    unfolding first offerTo
+    one-more l h q p = rw (add-one l, eq-eqb _ _ q, p) (sym (key-earlier m (fitting-best l (omega arith)) (fits l h)))
+
+  module _ {l key : ℕ} (a : Along l key) where
     pub along-line : l ≢ end → l < length (c .heads)
     along-line n = at-line (a .least) n .numbered
 
-    pub along-end : length (c .heads) ≤ mostEdges → l ≡ end → o ≡ best (length (c .heads))
-    along-end h p = a .so-far ∙ sym (skip (a .place) (length (c .heads)) (a .within) (at-end h (a .least) p))
+    pub along-end : length (c .heads) ≤ mostEdges → l ≡ end → key ≡ keyOf m (best (length (c .heads)))
+    along-end h p = a .so-far ∙ ap (keyOf m) (sym (skip (a .place) (length (c .heads)) (a .within) (at-end h (a .least) p)))
 
     module _ {fs ns : List ℕ} (linked : Linked (c .heads) fs ns 0) (n : l ≢ end) where
-      one-more : cell (c .heads) l ≡ v → o ≡ best l → earlier A o (offer A H (cell (c .own)) w d l) ≡ best (l + 1)
-      unfolding first offerTo
-      one-more q p = rw (add-one l, eq-eqb _ _ q, p)
-
-      pub along-next : Along (cell ns l) (earlier A o (offer A H (cell (c .own)) w d l))
-      along-next =
+      pub along-next : ((e : ℕ) → e < length (c .heads) → Fitting (offer′ e)) → Along (cell ns l) (min key (keyOf m (offer′ l)))
+      along-next fits =
           let t = at-line (a .least) n in
           record {
             place = l + 1;
             within = omega (arith, t .numbered);
             least = subst (λ (y : ℕ). Least (c .heads) y (l + 1) (cell ns l)) (t .yields) (linked .nexts l (omega arith) (t .numbered));
-            so-far = one-more (t .yields) (a .so-far ∙ sym (skip (a .place) l (t .from-k) (t .others)));
+            so-far = one-more fits l (t .numbered) (t .yields) (a .so-far ∙ ap (keyOf m) (sym (skip (a .place) l (t .from-k) (t .others))));
           }
 
       pub along-further : length (c .heads) ≤ mostEdges → l < cell ns l
@@ -144,6 +167,6 @@ module _ (A : Algebra) (c : Columns) (w d : ℕ → ℕ) (v : ℕ) where
           further few (line x b i q f) = omega arith
           further few (none f) = omega (arith, at-line (a .least) n .numbered)
 
-  pub along-first : {fs ns : List ℕ} → Linked (c .heads) fs ns 0 → v < mostVertices → Along (cell fs v) Nothing
+  pub along-first : {fs ns : List ℕ} → Linked (c .heads) fs ns 0 → v < mostVertices → Along (cell fs v) noKey
   unfolding first
   along-first l h = record { place = 0; within = omega arith; least = l .firsts v h; so-far = refl }

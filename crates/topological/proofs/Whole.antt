@@ -11,8 +11,7 @@ use Rattle.weights.specs.declared.Label.{Label}
 use Rattle.weights.specs.declared.Measure.{Measure}
 use Rattle.weights.specs.declared.Offer.{Offer}
 use Rattle.weights.specs.Measures.{algebra}
-use Rattle.weights.proofs.Laws.{lawful, below-over}
-use Rattle.weights.proofs.Weighing.{weigh-within}
+use Rattle.weights.proofs.Laws.{lawful}
 use Rattle.refusal.specs.declared.Acceptance.the-variants.{Accepted}
 use Rattle.columns.specs.Columns.{Answers, Sized, Columns, answers, ownAt, cell}
 use Rattle.columns.specs.Acceptance.{mostVertices, mostEdges, acceptance}
@@ -28,6 +27,7 @@ use Rattle.provenance.proofs.InOrder.{First, first-is}
 use Rattle.queue.specs.Keys.{heavy}
 use Rattle.tables.specs.Table.{hypergraph}
 use Rattle.topological.specs.Walking.{end, Linked, Linkable, Visitable, Storable, putAt, Walkable}
+use Rattle.topological.proofs.Passing.{weigh-below}
 
 module _ (m : Measure) (c : Columns) where
   abbrev H : Hypergraph
@@ -59,7 +59,7 @@ module _ (m : Measure) (c : Columns) where
       labelled (First.found e due least) =
           let l : Label = candidate (algebra m) H (ownAt c) (labels a) e in
           let low : l .depth ≤ suc v = omega (arith, greatest-at-most (cell (a .depths)) v (g .shallow) (H .tail e)) in
-          let below : l .weight .0 < heavy = omega (arith, below-over m (weigh-within (lawful m) (ownAt c e) (each (cell (a .weights)) (H .tail e)))) in
+          let below : l .weight .0 < heavy = weigh-below m (ownAt c e) (each (cell (a .weights)) (H .tail e)) in
           record { size = sized-put a v l (g .size); shallow = λ u. go l low u (ℕ-discrete u v); light = λ u. weighed l below u (ℕ-discrete u v) }
         where
           weighed : (l : Label) → l .weight .0 < heavy → (u : ℕ) → Dec (u ≡ v) → cell (set (a .weights) v (l .weight .0)) u < heavy

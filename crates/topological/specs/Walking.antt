@@ -7,6 +7,7 @@ use lib.ListN.{length}
 use Rattle.weights.specs.declared.Measure.{Measure}
 use Rattle.weights.specs.declared.Offer.{Offer}
 use Rattle.weights.specs.declared.Offer.the-variants.{Nothing, Found}
+use Rattle.weights.specs.Figures.{greatest}
 use Rattle.weights.specs.Measures.{algebra}
 use Rattle.refusal.specs.declared.Acceptance.the-variants.{Accepted}
 use Rattle.columns.specs.Columns.{Answers, Columns, cell}
@@ -41,8 +42,10 @@ pub record Linkable (heads first next : List ℕ) : Type 0 where
   pub long : length heads ≤ length next
   pub empty : (v : ℕ) → v < mostVertices → cell first v ≡ end
 
--- line e can be read, and the weights that it lists can be summed
+-- line e can be read, its number has room in a key, its own weight is in range, and the weights that it lists can be summed
 pub record Weighable (e : ℕ) (os ms ss ts ws ds : List ℕ) : Type 0 where
+  pub numbered : e < mostEdges
+  pub figure : cell os e ≤ greatest
   pub edge : EdgeIn e os ms ss ts ws ds
   pub light : (v : ℕ) → cell ws v < heavy
 

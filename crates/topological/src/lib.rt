@@ -13,17 +13,18 @@ use weights::Vertex;
 use weights::Weight;
 ghost use mathlib.Core.Path.{_≡_};
 ghost use mathlib.Core.Bool.{true, not};
-ghost use Prim.Native.Nat.{_*_};
+ghost use Prim.Native.Nat.{_*_, _<_, min};
 ghost use lib.ListN.{length};
 ghost use Rattle.weights.specs.Figures.{isStruckMark};
 ghost use Rattle.weights.specs.Measures.{algebra};
 ghost use Rattle.provenance.specs.Labelling.{offerOf};
-ghost use Rattle.provenance.specs.BestFirst.{earlier};
 ghost use Rattle.provenance.specs.InOrder.{in-order};
 ghost use Rattle.columns.specs.Columns.{columns, answers, entries, tailOf, cell};
+ghost use Rattle.columns.specs.Acceptance.{mostEdges};
 ghost use Rattle.columns.specs.Lent.{lent};
 ghost use Rattle.columns.proofs.Accepted.{AcceptedLabels};
 ghost use Rattle.tables.specs.Table.{hypergraph};
+ghost use Rattle.queue.specs.Keys.{keyOf};
 ghost use Rattle.waiting.specs.Lines.{Passable};
 ghost use Rattle.topological.specs.Ordering.{orderedEdge, orderedEdgesAcceptance, orderedAcceptance, orderedLentAcceptance, settledInOrder};
 ghost use Rattle.topological.specs.Walking.{Linkable, Linked, Weighable, visited, Visitable, Walkable, putAt, Storable};
@@ -180,25 +181,19 @@ fn link(heads: &[u64], first: &mut [u16], next: &mut [u16])
     }
 }
 
-// The first of two offers.
-fn earlier(measure: Measure, a: Offer, b: Offer) -> Offer
-    ensures { λ r. ⌜ r ≡ earlier (algebra measure) a b ⌝ }
+// The lesser of two keys.
+fn lesser(a: u64, b: u64) -> u64
+    ensures { λ r. ⌜ r ≡ min a b ⌝ }
 {
-    let Offer::Found(y) = b else {
-        return a;
-    };
-    let Offer::Found(x) = a else {
-        return Offer::Found(y);
-    };
-    if weights::ahead(measure, x, y) {
-        return Offer::Found(x);
+    if b < a {
+        return b;
     }
-    Offer::Found(y)
+    a
 }
 
-// What hyperedge e of this own weight and tail gives from the labels in the columns; nothing where a
-// vertex of its tail is unmade. The weights are the walk's own, so a sum of at most 16 of them does
-// not wrap, and it is capped once, at the end.
+// The key of what hyperedge e of this own weight and tail gives from the labels in the columns; none
+// where a vertex of its tail is unmade. The weights are the walk's own, so a sum of at most 16 of them
+// does not wrap, and it is capped once, at the end.
 fn candidate(
     measure: Measure,
     e: Hyperedge,
@@ -206,9 +201,11 @@ fn candidate(
     tail: &[u64],
     weights: &[u64],
     depths: &[u64],
-) -> Offer
-    requires { ⌜ Passable (now tail) (now weights) (now depths) ⌝ }
-    ensures { λ r. ⌜ r ≡ offerOf (algebra measure) true (own .0) (now (tail .entry)) (cell (now (weights .entry))) (cell (now (depths .entry))) (e .0) ⌝ }
+) -> u64
+    requires { ⌜ (Passable (now tail) (now weights) (now depths)) × (e .0 < mostEdges) ⌝ }
+    ensures { λ r.
+        let o = offerOf (algebra measure) true (own .0) (now (tail .entry)) (cell (now (weights .entry))) (cell (now (depths .entry))) (e .0) in
+        ⌜ r ≡ keyOf measure o ⌝ }
 {
     let unit = Weight::unit(measure);
     let mut joined = unit.0;
@@ -218,7 +215,7 @@ fn candidate(
         let v = tail[i] as usize;
         let depth = depths[v];
         if depth == 0 {
-            return Offer::Nothing;
+            return minima::NONE;
         }
         let weight = weights[v];
         joined = waiting::joining(measure, joined, weight);
@@ -227,16 +224,17 @@ fn candidate(
     }
     let weight = own.finish(measure, Weight(joined));
     let depth = deepest + 1;
-    Offer::Found(Label {
+    let l = Label {
         weight,
         depth,
         edge: e,
-    })
+    };
+    queue::pack(measure, l)
 }
 
-// What hyperedge e of a table offers. It is what `offers::offer` answers, which caps every sum, and
-// which with a second caller would be inlined in neither.
-fn offer_in_order(
+// The key of what hyperedge e of a table offers; none where it is struck. With an empty tail that is
+// its own weight in every measure, so nothing is joined.
+fn key_in_order(
     measure: Measure,
     e: Hyperedge,
     own: &[u64],
@@ -245,25 +243,35 @@ fn offer_in_order(
     tails: &[u64],
     weights: &[u64],
     depths: &[u64],
-) -> Offer
+) -> u64
     requires { ⌜ Weighable (e .0) (now own) (now strikes) (now spans) (now tails) (now weights) (now depths) ⌝ }
     ensures { λ r.
         let live = not (isStruckMark (cell (now (strikes .entry)) (e .0))) in
         let tail = tailOf (now (spans .entry)) (now (tails .entry)) (e .0) in
-        ⌜ r ≡ offerOf (algebra measure) live (cell (now (own .entry)) (e .0)) tail (cell (now (weights .entry))) (cell (now (depths .entry))) (e .0) ⌝ }
+        let o = offerOf (algebra measure) live (cell (now (own .entry)) (e .0)) tail (cell (now (weights .entry))) (cell (now (depths .entry))) (e .0) in
+        ⌜ r ≡ keyOf measure o ⌝ }
 {
     let i = e.0 as usize;
     let mark = strikes[i];
     let struck = Mark(mark).is_struck();
     if struck {
-        return Offer::Nothing;
+        return minima::NONE;
     }
     let weight = own[i];
+    let size = spans[2 * i + 1];
+    if size == 0 {
+        let l = Label {
+            weight: Weight(weight),
+            depth: 1,
+            edge: e,
+        };
+        return queue::pack(measure, l);
+    }
     let tail = columns::tail_of(e, spans, tails);
     candidate(measure, e, Weight(weight), tail, weights, depths)
 }
 
-// The first of what the hyperedges of v offer it.
+// The first of what the hyperedges of v offer it. Of two offers the one with the lesser key is first.
 fn visit(
     measure: Measure,
     v: Vertex,
@@ -283,15 +291,20 @@ fn visit(
         let c = lent (now (heads .entry)) (now (own .entry)) (now (strikes .entry)) (now (spans .entry)) (now (tails .entry)) (now (depths .entry)) in
         ⌜ r ≡ visited measure c (now (weights .entry)) (now (depths .entry)) (v .0) ⌝ }
 {
-    let mut best = Offer::Nothing;
+    let mut best = minima::NONE;
     let mut l = first[v.0 as usize];
     while l != END {
-        let e = Hyperedge(l as u64);
-        let o = offer_in_order(measure, e, own, strikes, spans, tails, weights, depths);
-        best = earlier(measure, best, o);
+        let number = l as u64;
+        let e = Hyperedge(number);
+        let key = key_in_order(measure, e, own, strikes, spans, tails, weights, depths);
+        best = lesser(best, key);
         l = next[l as usize];
     }
-    best
+    if best == minima::NONE {
+        return Offer::Nothing;
+    }
+    let x = queue::unpack(measure, best);
+    Offer::Found(x)
 }
 
 // Vertex v gets what is offered to it.

@@ -1,25 +1,32 @@
--- `topological::visit` meets its contract. The invariant, for each vertex whose list starts where this one does: of the lines before l, `best` is the first of what
--- they offer it. Assumes nothing.
+-- `topological::visit` meets its contract. The invariant, for each vertex whose list starts where this one does: of the lines before l, `best` is the key of
+-- the first of what they offer it. Assumes nothing.
 use mathlib.Core.Path.{_≡_, refl, sym, _∙_, ap, subst}
-use Prim.Native.Nat.{ℕ, _≤_, _<_, _-_}
+use Prim.Native.Nat.{ℕ, _≤_, _<_, _-_, min}
 use native.Mathlib.Omega.{arith}
 use borrow.Author.Needs.{needs}
 use lib.ListN.{length}
-use Rattle.weights.specs.declared.Offer.the-variants.{Nothing}
+use Rattle.weights.specs.declared.Offer.{Offer}
+use Rattle.weights.specs.declared.Offer.the-variants.{Found}
 use Rattle.weights.specs.Measures.{algebra}
-use Rattle.provenance.specs.BestFirst.{earlier}
+use Rattle.provenance.specs.BestFirst.{offer}
 use Rattle.columns.specs.Columns.{Columns, cell}
 use Rattle.columns.specs.Lent.{lent}
 use Rattle.columns.specs.Acceptance.{mostVertices, mostEdges}
 use Rattle.columns.proofs.Accepted.{table-accepted}
 use Rattle.columns.proofs.Usable.{edge-in}
-use Rattle.topological.proofs.Linking.{Along, along-first, along-line, along-next, along-further, along-end}
+use Rattle.tables.specs.Table.{hypergraph}
+use Rattle.minima.specs.Minima.{none}
+use Rattle.queue.specs.Keys.{Fitting, keyOf}
+use Rattle.queue.proofs.Laws.{told-nothing, told-found}
+use Rattle.topological.specs.Walking.{end, visited}
+use Rattle.topological.proofs.Passing.{offer-fits}
+use Rattle.topological.proofs.Linking.{fitting-best, Along, along-first, along-line, along-next, along-further, along-end}
 use Rattle.topological.proofs.visit.Statement.{statement}
 use Rattle.topological.proofs.visit.Tie as tie
 
 abbrev Inv-loop : tie.InvT-loop
 Inv-loop measure heads own strikes spans tails weights depths first next best₀ l₀ best l =
-    (v : ℕ) → v < mostVertices → cell first v ≡ l₀ → Along (algebra measure) (lent heads own strikes spans tails depths) (cell weights) (cell depths) v l best
+    (v : ℕ) → v < mostVertices → cell first v ≡ l₀ → Along measure (lent heads own strikes spans tails depths) (cell weights) (cell depths) v l best
 
 abbrev μ-loop : tie.MeasureT-loop
 μ-loop measure heads own strikes spans tails weights depths first next best₀ l₀ best l = 65536 - l
@@ -33,6 +40,18 @@ low s = let u = s .pre .usable in omega (arith, s .pre .inside, u .vertices, tab
 
 few : (s : tie.Start Inv-loop μ-loop) → length (s .args .heads .now) ≤ mostEdges
 few s = table-accepted (tableOf s) (s .pre .usable .accepted) .edges
+
+-- what its lines offer has room in a key
+fits : (s : tie.Start Inv-loop μ-loop) (e : ℕ) → e < length (s .args .heads .now)
+    → let a = s .args in Fitting (offer (algebra (a .measure)) (hypergraph (tableOf s)) (cell (a .own .now)) (cell (a .weights .now)) (cell (a .depths .now)) e)
+fits s e h = offer-fits (s .args .measure) _ _ _ _ _ e (s .pre .usable .shallow) (omega (arith, few s))
+
+-- what it is offered, which has room in a key too
+abbrev offered : tie.Start Inv-loop μ-loop → Offer
+offered s = let a = s .args in visited (a .measure) (tableOf s) (a .weights .now) (a .depths .now) (a .v .0)
+
+fitting : (s : tie.Start Inv-loop μ-loop) → Fitting (offered s)
+fitting s = fitting-best (s .args .measure) (tableOf s) _ _ (s .args .v .0) (fits s) (length (s .args .heads .now)) (omega arith)
 
 abbrev begin : tie.After-shared-slice-known10 Inv-loop μ-loop → tie.Start Inv-loop μ-loop
 begin c = c .before .before .before .before .before .before .before .before .before .before
@@ -50,27 +69,31 @@ loop-holds : tie.Need-loop-holds Inv-loop μ-loop
 loop-holds c =
     let s = begin c in
     let a = s .args in
-    λ v h q. subst (λ (x : ℕ). Along (algebra (a .measure)) (tableOf s) (cell (a .weights .now)) (cell (a .depths .now)) v x Nothing) q
-    (along-first (algebra (a .measure)) (tableOf s) (cell (a .weights .now)) (cell (a .depths .now)) v (s .pre .linked) h)
+    λ v h q. subst (λ (x : ℕ). Along (a .measure) (tableOf s) (cell (a .weights .now)) (cell (a .depths .now)) v x none) q
+    (along-first (a .measure) (tableOf s) (cell (a .weights .now)) (cell (a .depths .now)) v (s .pre .linked) h)
 
 -- where the list of this vertex is walked up to
 along : (c : tie.At-loop Inv-loop μ-loop) → let s = entry c in let a = s .args in
-    Along (algebra (a .measure)) (tableOf s) (cell (a .weights .now)) (cell (a .depths .now)) (a .v .0) (c .loop .l) (c .loop .best)
+    Along (a .measure) (tableOf s) (cell (a .weights .now)) (cell (a .depths .now)) (a .v .0) (c .loop .l) (c .loop .best)
 along c = let s = entry c in c .loop .inv (s .args .v .0) (low s) refl
 
 numbered : (c : tie.In-loop Inv-loop μ-loop) → c .before .loop .l < length (entry (c .before) .args .heads .now)
 numbered c = along-line _ _ _ _ _ (along (c .before)) (c .loop-test .taken)
 
-cast-t21 : tie.Need-cast-t21 Inv-loop μ-loop
-cast-t21 c = omega (arith, numbered c, few (entry (c .before)))
+cast-number : tie.Need-cast-number Inv-loop μ-loop
+cast-number c = omega (arith, numbered c, few (entry (c .before)))
 
-offer-in-order-requires : tie.Need-offer-in-order-requires Inv-loop μ-loop
-offer-in-order-requires c κs =
-    let p = entry (c .before) .pre in
-    record { edge = edge-in (p .usable) (c .before .loop .l) (numbered c); light = p .light }
-
-earlier-requires : tie.Need-earlier-requires Inv-loop μ-loop
-earlier-requires c κs = search needs
+key-in-order-requires : tie.Need-key-in-order-requires Inv-loop μ-loop
+key-in-order-requires c κs =
+    let s = entry (c .before) in
+    let u = s .pre .usable in
+    let l = c .before .loop .l in
+    record {
+      numbered = omega (arith, numbered c, few s);
+      figure = table-accepted (tableOf s) (u .accepted) .each l (numbered c) .1 .own;
+      edge = edge-in u l (numbered c);
+      light = s .pre .light;
+    }
 
 cast-l : tie.Need-cast-l Inv-loop μ-loop
 cast-l c = let i = c .before .before in omega (arith, numbered i, few (entry (i .before)))
@@ -94,13 +117,28 @@ loop-again c =
     let i = o .before in
     let s = entry (i .before) in
     let a = s .args in
-    let A = algebra (a .measure) in
-    λ v h q. subst (Along A (tableOf s) (cell (a .weights .now)) (cell (a .depths .now)) v (cell (a .next .now) (i .before .loop .l)))
-    (sym (e .earlier .ensures ∙ ap (earlier A (i .before .loop .best)) (o .offer-in-order .ensures)))
-    (along-next A (tableOf s) (cell (a .weights .now)) (cell (a .depths .now)) v (i .before .loop .inv v h q) (s .pre .linked) (i .loop-test .taken))
+    let w = cell (a .weights .now) in
+    let d = cell (a .depths .now) in
+    λ v h q. subst (Along (a .measure) (tableOf s) w d v (cell (a .next .now) (i .before .loop .l)))
+    (sym (e .lesser .ensures ∙ ap (min (i .before .loop .best)) (o .key-in-order .ensures)))
+    (along-next (a .measure) (tableOf s) w d v (i .before .loop .inv v h q) (s .pre .linked) (i .loop-test .taken) (fits s))
+
+-- at the end of the list its key tells what is offered
+told : (c : tie.At-loop Inv-loop μ-loop) → c .loop .l ≡ end → c .loop .best ≡ keyOf (entry c .args .measure) (offered (entry c))
+told c p = along-end _ _ _ _ _ (along c) (few (entry c)) p
 
 returns : tie.Need-returns Inv-loop μ-loop
-returns c = along-end _ _ _ _ _ (along (c .before)) (few (entry (c .before))) (c .loop-test .left)
+returns c =
+    let t = c .before in
+    let s = entry (t .before) in
+    told-nothing (s .args .measure) (t .before .loop .best) (fitting s) (told (t .before) (t .loop-test .left)) (c .if1 .taken)
+
+returns-2 : tie.Need-returns-2 Inv-loop μ-loop
+returns-2 c =
+    let k = c .before in
+    let t = k .before in
+    let s = entry (t .before) in
+    ap Found (c .unpack .ensures) ∙ told-found (s .args .measure) (t .before .loop .best) (fitting s) (told (t .before) (t .loop-test .left)) (k .if1 .left)
 
 pub visit-spec : {M : Type 1} → statement M
 visit-spec =
@@ -111,12 +149,14 @@ visit-spec =
     mul-l
     shared-slice-read-l
     loop-holds
-    cast-t21
-    offer-in-order-requires
-    earlier-requires
+    cast-number
+    key-in-order-requires
+    (λ c κs. search needs)
     cast-l
     mul-l-2
     shared-slice-read-l-2
     loop-less
     loop-again
-    returns)
+    returns
+    (λ c κs. search needs)
+    returns-2)
