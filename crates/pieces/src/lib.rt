@@ -45,7 +45,7 @@ fn count_tail(tail: &[u64], pieces: &[u64]) -> u64
 }
 
 // What vertex v counts by the counts in a column: 0 where it is unmade.
-fn count_vertex(
+pub fn count_vertex(
     v: Vertex,
     spans: &[u64],
     tails: &[u64],

@@ -1,6 +1,7 @@
 pub mod Checking
 pub mod Linking
 pub mod Passing
+pub mod Counting
 pub mod Ordered
 pub mod Settled
 pub mod Exactly

@@ -1,31 +1,34 @@
 -- From the walk to the whole call, and what it leaves: on every table in order, and in every measure, what `settle` does. Assumes nothing.
 use mathlib.Core.Path.{_≡_, refl, sym, _∙_, ap, subst}
 use mathlib.Core.List.{List}
-use Prim.Native.Nat.{ℕ}
+use Prim.Native.Nat.{ℕ, _<_}
 use lib.Dec.{eqb}
 use lib.ListN.{length}
 use borrow.Author.Tests.{eqb-true}
 use Rattle.weights.specs.declared.Measure.{Measure}
+use Rattle.weights.specs.Measures.{algebra}
 use Rattle.weights.proofs.Laws.{lawful}
 use Rattle.refusal.specs.declared.Refusal.{Refusal}
 use Rattle.refusal.specs.declared.Refusal.the-variants.{AnswerLength}
 use Rattle.refusal.specs.declared.Acceptance.{Acceptance}
 use Rattle.refusal.specs.declared.Acceptance.the-variants.{Accepted, Refused}
-use Rattle.columns.specs.Columns.{Answers, Sized, Entries, Columns, ownAt}
+use Rattle.columns.specs.Columns.{Answers, Sized, Entries, Columns, ownAt, cell}
 use Rattle.columns.specs.Acceptance.{test, lentAcceptance}
 use Rattle.columns.proofs.Accepted.{refused, test-passed, both-accepted, AcceptedColumns}
 use Rattle.columns.proofs.Usable.{same-table}
+use Rattle.provenance.specs.Labelling.{Fixpoint}
 use Rattle.provenance.specs.BestFirst.{labels}
 use Rattle.provenance.proofs.InOrder.{in-order-best-first}
 use Rattle.tables.specs.Table.{hypergraph}
 use Rattle.tables.proofs.Formed.{well-formed}
 use Rattle.settle.specs.Settling.{answersOf, entriesOf, SettleOutcome, outcome, settled}
 use Rattle.settle.specs.Demands.{Demand2}
-use Rattle.settle.proofs.Demands.{demand-2}
+use Rattle.settle.proofs.Demands.{answers-fixpoint, demand-2}
 use Rattle.settle.proofs.Settled.{answers-countable, entered}
 use Rattle.pieces.specs.Counting.{Countable, counted}
 use Rattle.provenance.specs.Pieces.{pieceColumn}
 use Rattle.topological.specs.Ordering.{orderedAcceptance, orderedLentAcceptance, walked, walkedEntries, settledInOrder}
+use Rattle.topological.specs.Walking.{Upward}
 use Rattle.topological.proofs.Ordered.{ordered-accepted, table-in-order}
 
 module _ (c : Columns) (a : Entries) where
@@ -106,6 +109,15 @@ module _ (m : Measure) (c : Columns) (a : Entries) (h : AcceptedColumns c a) {b 
 
     pub walked-countable : Countable (c .spans) (c .tails) (b .depths) (b .edges) (a .pieces)
     walked-countable = answers-countable m c (h .table) right (h .sized .pieces)
+
+    -- from part 0 up: a chosen line yields its part, and lists only parts below that
+    pub walked-upward : Upward (c .spans) (c .tails) (b .depths) (b .edges)
+    walked-upward = record {
+      below = λ v d u i.
+          let fix = subst (λ (z : Answers). Fixpoint (algebra m) (hypergraph c) (ownAt c) (labels z)) (sym right) (answers-fixpoint m c (h .table)) in
+          let chosen = fix .chosen v (record { deep = d }) in
+          subst (λ (x : ℕ). u < x) (chosen .yields) (table-in-order c p .below (cell (b .edges) v) (chosen .ready .stands .numbered) u i);
+    }
 
     pub walked-counted : {new : List ℕ} → new ≡ counted (c .spans) (c .tails) (b .depths) (b .edges) → record { labels = b; pieces = new } ≡ walkedEntries m c
     walked-counted q = entered m c (h .table) right q ∙ sym (same-entries m c p)

@@ -1,7 +1,7 @@
 -- The lists of the lines of each head, and what the functions of the walk ask of their callers. Assumes nothing: these are definitions.
 use mathlib.Core.Path.{_≡_}
 use mathlib.Core.Logic.{_≢_}
-use mathlib.Core.List.{List}
+use mathlib.Core.List.{List, List·Memᴰ}
 use Prim.Native.Nat.{ℕ, _+_, _≤_, _<_}
 use lib.ListN.{length}
 use Rattle.weights.specs.declared.Measure.{Measure}
@@ -10,7 +10,7 @@ use Rattle.weights.specs.declared.Offer.the-variants.{Nothing, Found}
 use Rattle.weights.specs.Figures.{greatest}
 use Rattle.weights.specs.Measures.{algebra}
 use Rattle.refusal.specs.declared.Acceptance.the-variants.{Accepted}
-use Rattle.columns.specs.Columns.{Answers, Columns, cell}
+use Rattle.columns.specs.Columns.{Answers, Columns, tailOf, cell}
 use Rattle.columns.specs.Acceptance.{mostVertices, mostEdges, acceptance}
 use Rattle.columns.specs.Lent.{EdgeIn, Usable}
 use Rattle.provenance.specs.BestFirst.{put, blank}
@@ -76,3 +76,7 @@ pub record Walkable (c : Columns) (a : Answers) (first next : List ℕ) : Type 0
   pub accepted : acceptance c ≡ Accepted
   pub empty : a ≡ blank (c .vertices)
   pub linked : Linked (c .heads) first next 0
+
+-- the chosen line of a made part lists only parts below it
+pub record Upward (spans tails depths edges : List ℕ) : Type 0 where
+  pub below : (v : ℕ) → 0 < cell depths v → (u : ℕ) → List·Memᴰ u (tailOf spans tails (cell edges v)) → u < v

@@ -24,10 +24,11 @@ ghost use Rattle.columns.specs.Acceptance.{mostEdges};
 ghost use Rattle.columns.specs.Lent.{lent};
 ghost use Rattle.columns.proofs.Accepted.{AcceptedLabels};
 ghost use Rattle.tables.specs.Table.{hypergraph};
+ghost use Rattle.pieces.specs.Counting.{counted, Countable};
 ghost use Rattle.queue.specs.Keys.{keyOf};
 ghost use Rattle.waiting.specs.Lines.{Passable};
 ghost use Rattle.topological.specs.Ordering.{orderedEdge, orderedEdgesAcceptance, orderedAcceptance, orderedLentAcceptance, settledInOrder};
-ghost use Rattle.topological.specs.Walking.{Linkable, Linked, Weighable, visited, Visitable, Walkable, putAt, Storable};
+ghost use Rattle.topological.specs.Walking.{Linkable, Linked, Weighable, visited, Visitable, Walkable, putAt, Storable, Upward};
 
 // In place of a hyperedge, at the end of a list.
 const END: u16 = 65535;
@@ -409,6 +410,22 @@ fn label(
     );
 }
 
+// Leaves the piece counts in `pieces`, whatever it held. What a part's line lists is below it, so the
+// parts are counted from 0 up, and need not be gathered by depth.
+fn count_upward(spans: &[u64], tails: &[u64], depths: &[u64], edges: &[u64], pieces: &mut [u64])
+    requires { ⌜ (Countable (now spans) (now tails) (now depths) (now edges) (now pieces)) × Upward (now spans) (now tails) (now depths) (now edges) ⌝ }
+    ensures { λ r. ⌜ now (pieces .exit) ≡ counted (now (spans .entry)) (now (tails .entry)) (now (depths .entry)) (now (edges .entry)) ⌝ }
+{
+    columns::set_all(pieces, 0);
+    let mut i = 0;
+    while i < depths.len() {
+        let v = Vertex(i as u64);
+        let count = pieces::count_vertex(v, spans, tails, depths, edges, pieces);
+        pieces[i] = count;
+        i += 1;
+    }
+}
+
 // Leaves the entries of a table in order in the four answer columns, or refuses and leaves them as
 // they are.
 pub fn settle_ordered(
@@ -457,6 +474,6 @@ pub fn settle_ordered(
         depths,
         edges,
     );
-    pieces::count_pieces(spans, tails, depths, edges, pieces);
+    count_upward(spans, tails, depths, edges, pieces);
     Acceptance::Accepted
 }

@@ -9,7 +9,7 @@ use Rattle.columns.specs.Columns.{Entries, Columns, columns, entries}
 use Rattle.columns.proofs.Accepted.{AcceptedColumns, labels-accepted}
 use Rattle.settle.proofs.Settled.{told-accepted}
 use Rattle.topological.specs.Ordering.{orderedAcceptance, orderedLentAcceptance}
-use Rattle.topological.proofs.Settled.{lent-accepted, ordered-refused-left, ordered-all, walked-countable, walked-counted}
+use Rattle.topological.proofs.Settled.{lent-accepted, ordered-refused-left, ordered-all, walked-countable, walked-upward, walked-counted}
 
 -- the table and the answer columns as they came, which are accepted
 abbrev tableOf : tie.Start → Columns
@@ -35,12 +35,15 @@ label-requires c κs =
     let p = c .before .before .before in
     labels-accepted (told-accepted (tableOf (entry p)) (came (entry p)) (passed p .1))
 
-count-pieces-requires : tie.Need-count-pieces-requires
-count-pieces-requires c κs =
+count-upward-requires : tie.Need-count-upward-requires
+count-upward-requires c κs =
     let l = c .before .before .before .before .before .before .before .before .before in
     let p = l .before .before .before .before in
     let s = entry p in
-    walked-countable (s .args .measure) (tableOf s) (came s) (passed p .1) (l .label .ensures) (passed p .0)
+    let m = s .args .measure in (
+      walked-countable m (tableOf s) (came s) (passed p .1) (l .label .ensures) (passed p .0),
+      walked-upward m (tableOf s) (came s) (passed p .1) (l .label .ensures) (passed p .0),
+    )
 
 returns-2 : tie.Need-returns-2
 returns-2 c =
@@ -48,7 +51,7 @@ returns-2 c =
     let l = k .before .before .before .before .before .before .before .before .before .before in
     let p = l .before .before .before .before in
     let s = entry p in
-    let counts = walked-counted (s .args .measure) (tableOf s) (came s) (passed p .1) (l .label .ensures) (passed p .0) (k .count-pieces .ensures) in
+    let counts = walked-counted (s .args .measure) (tableOf s) (came s) (passed p .1) (l .label .ensures) (passed p .0) (k .count-upward .ensures) in
     ordered-all (s .args .measure) (tableOf s) (came s) _ (accepted p) counts
 
 pub settle-ordered-spec : {M : Type 1} → statement M
@@ -64,7 +67,7 @@ settle-ordered-spec =
     returns
     (λ c. search needs)
     label-requires
-    count-pieces-requires
+    count-upward-requires
     (λ c. search needs)
     (λ c. search needs)
     (λ c. search needs)
