@@ -6,7 +6,6 @@ use Prim.Native.Nat.{ℕ, _+_, _*_, _≤_, _<_, max}
 use native.Mathlib.Omega.{arith}
 use lib.ListN.{length}
 use Rattle.weights.specs.declared.Measure.{Measure}
-use Rattle.weights.specs.declared.Measure.the-variants.{Cost, Days, Grade}
 use Rattle.weights.specs.declared.Offer.the-variants.{Nothing, Found}
 use Rattle.weights.specs.Choice.{pick}
 use Rattle.weights.specs.Figures.{greatest}
@@ -22,7 +21,7 @@ use Rattle.provenance.proofs.Existence.{greatest-at-most}
 use Rattle.offers.proofs.Laws.{rest, rest-stop, rest-end}
 use Rattle.queue.specs.Keys.{heavy, Fits, Fitting, nothing, found}
 use Rattle.waiting.specs.Lines.{Passable, Carried}
-use Rattle.waiting.proofs.Keeping.{extends-refl}
+use Rattle.waiting.proofs.Keeping.{alone, extends-refl}
 use Rattle.topological.specs.Walking.{Weighable}
 
 -- the tail of a line that can be weighed can be passed
@@ -50,13 +49,7 @@ offer-fits m live own tail w d e f h = go live (noneZero d tail)
     go true false = nothing
     go true true = found fits
 
--- in every measure a line that lists nothing gives its own weight
-alone : (m : Measure) (own : ℕ) → own ≤ greatest → algebra m .finish own (algebra m .unit) ≡ own
-alone Cost own h = omega arith
-alone Days own h = omega arith
-alone Grade own h = omega arith
-
--- that has room in a key, and is what the line offers
+-- the own weight of a line that lists nothing has room in a key, and is what the line offers
 pub bought-fits : {own e : ℕ} → own ≤ greatest → e < mostEdges → Fits (label own 1 e)
 bought-fits h i = record { weight = omega arith; depth = omega arith; edge = i }
 

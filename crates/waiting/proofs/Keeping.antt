@@ -16,7 +16,7 @@ use Rattle.weights.specs.declared.Measure.{Measure}
 use Rattle.weights.specs.declared.Measure.the-variants.{Cost, Days, Grade}
 use Rattle.weights.specs.Labels.{label}
 use Rattle.weights.specs.Measures.{Algebra, algebra, fold}
-use Rattle.weights.specs.Figures.{over, isStruckMark}
+use Rattle.weights.specs.Figures.{over, greatest, isStruckMark}
 use Rattle.weights.specs.declared.Offer.{Offer}
 use Rattle.weights.specs.declared.Offer.the-variants.{Nothing, Found}
 use Rattle.provenance.specs.Labelling.{each, greatestDepth, noneZero}
@@ -77,6 +77,12 @@ plain-bound Days a x b h k = omega arith
 plain-bound Grade a x b h k = omega arith
 
 -- joining starts at a figure
+-- in every measure a hyperedge with an empty tail gives its own weight
+pub alone : (m : Measure) (own : ℕ) → own ≤ greatest → algebra m .finish own (algebra m .unit) ≡ own
+alone Cost own h = omega arith
+alone Days own h = omega arith
+alone Grade own h = omega arith
+
 pub unit-light : (m : Measure) → algebra m .unit < heavy
 unit-light Cost = omega arith
 unit-light Days = omega arith

@@ -10,14 +10,17 @@ use lib.ListN.{length, length-replicate, set}
 use lib.Seq.{getD-set-other, set-getD}
 use Rattle.weights.specs.declared.Measure.{Measure}
 use Rattle.weights.proofs.Choice.{apart}
+use Rattle.weights.specs.declared.Offer.the-variants.{Found}
+use Rattle.weights.specs.Labels.{label}
 use Rattle.weights.specs.Figures.{isStruckMark}
+use Rattle.queue.specs.Queue.{offered}
 use Rattle.weights.specs.Measures.{Algebra, algebra}
-use Rattle.columns.specs.Columns.{Columns, headAt, strikeAt, offsetAt, lengthAt, tailAt, cell}
+use Rattle.columns.specs.Columns.{Columns, headAt, ownAt, strikeAt, offsetAt, lengthAt, tailAt, cell}
 use Rattle.minima.specs.Minima.{none, keyIn, Grouped}
 use Rattle.minima.proofs.Laws.{no-keys, no-keys-grouped}
-use Rattle.waiting.specs.Lines.{Lines, lines, roomOf, pushed, Linkable, Linked, Untouched, Carried, Gone, ended, kept, Moved, stays, waits, Went, Offerable, Going, Starting, Rested, Empty}
-use Rattle.waiting.proofs.Keeping.{carried-none, pushed-sizes, went-stays, went-waits}
-use Rattle.waiting.proofs.Steps.{room-power, enough, edge-room, head-key, tail-length, tail-at, tail-below, edge-fits, went-on, linkable, pushable}
+use Rattle.waiting.specs.Lines.{Lines, lines, roomOf, pushed, Linkable, Linked, Queueable, Untouched, Carried, Gone, ended, kept, Moved, stays, waits, Went, Offerable, Going, Starting, Rested, Empty}
+use Rattle.waiting.proofs.Keeping.{alone, carried-none, pushed-sizes, went-stays, went-waits}
+use Rattle.waiting.proofs.Steps.{room-power, enough, own-low, arriving, arrived, edge-room, head-key, tail-length, tail-at, tail-below, edge-fits, went-on, linkable, pushable}
 use Rattle.waiting.proofs.Walking.{waiting-on}
 
 pub nothing-waits : {m : Measure} {c : Columns} {ws ds : List ℕ} {s : Lines} {q : List ℕ} → Empty m c ds s q → Starting m c ws ds s q 0
@@ -102,6 +105,20 @@ module _ {m : Measure} {c : Columns} {ws ds : List ℕ} {s : Lines} {q : List �
     first-waits n y =
         let v = cell (c .tails) (offsetAt c i) in
         went-on m c (cell ws) (cell ds) i q v 0 (algebra m .unit) 0 (gone-none refl) (tail-first n .0) (tail-first n .1) (linked-pushed s v i (x .untouched i (omega arith) h) y)
+
+    -- with no vertex listed it is past the end of its tail, and offers its own weight
+    module _ (n : lengthAt c i ≡ 0) where
+      past : length (tailAt c i) ≤ 0
+      past = omega (arith, tail-length o i h)
+
+      its-own : algebra m .finish (ownAt c i) (algebra m .unit) ≡ ownAt c i
+      its-own = alone m (ownAt c i) (own-low o i h)
+
+      pub own-queueable : Queueable (label (ownAt c i) 1 i) (c .heads) q
+      own-queueable = subst (λ (z : ℕ). Queueable (label z 1 i) (c .heads) q) its-own (arriving o (going refl) (gone-none refl) past .queueable)
+
+      pub own-offered : {q′ : List ℕ} → q′ ≡ offered m q (headAt c i) (Found (label (ownAt c i) 1 i)) → Went m c (cell ws) (cell ds) i s s q q′
+      own-offered e = arrived o (going refl) (gone-none refl) past (e ∙ ap (λ (z : ℕ). offered m q (headAt c i) (Found (label z 1 i))) (sym its-own))
 
     pub went-next : {s′ : Lines} {q′ : List ℕ} → Went m c (cell ws) (cell ds) i s s′ q q′ → Starting m c ws ds s′ q′ (i + 1)
     went-next {s′} {q′} y = go (y .moved)

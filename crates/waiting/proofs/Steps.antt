@@ -15,7 +15,7 @@ use Rattle.weights.specs.declared.Label.{Label}
 use Rattle.weights.specs.declared.Offer.{Offer}
 use Rattle.weights.specs.declared.Offer.the-variants.{Nothing, Found}
 use Rattle.weights.specs.Choice.{pick}
-use Rattle.weights.specs.Figures.{isStruckMark}
+use Rattle.weights.specs.Figures.{greatest, isStruckMark}
 use Rattle.weights.specs.Labels.{label}
 use Rattle.weights.specs.Measures.{Algebra, algebra, fold}
 use Rattle.provenance.specs.Hypergraph.{Hypergraph}
@@ -31,7 +31,7 @@ use Rattle.queue.specs.Keys.{Fits, Fitting, nothing, found}
 use Rattle.queue.specs.Queue.{offered}
 use Rattle.queue.proofs.Laws.{open-fits, open-unmade, open-made}
 use Rattle.waiting.specs.Lines.{Passable, Lines, Room, small, middle, large, holds, roomFor, roomOf, pushed, Carried, Gone, stays, waits, Went, Arriving, Offerable, Going, Linkable, Pushable}
-use Rattle.waiting.proofs.Keeping.{extends-refl}
+use Rattle.waiting.proofs.Keeping.{unit-light, extends-refl}
 
 -- which room a table is given
 pub room-small : (n k : ℕ) → holds small n k ≡ true → roomFor n k ≡ small
@@ -98,6 +98,9 @@ module _ {c : Columns} {ws ds q : List ℕ} (r : Offerable c ws ds q) (e : ℕ) 
 
   pub head-key : headAt c e < roomOf c .vertices
   head-key = omega (arith, enough r .vertices, head-below)
+
+  pub own-low : ownAt c e ≤ greatest
+  own-low = table-accepted c (r .usable .accepted) .each e h .1 .own
 
   pub within : offsetAt c e + lengthAt c e ≤ length (c .tails)
   within = table-accepted c (r .usable .accepted) .each e h .1 .within
@@ -200,11 +203,14 @@ module _ {m : Measure} {c : Columns} {ws ds q : List ℕ} {s : Lines} {e a b k :
 
   pub arriving : Arriving m (c .heads) (c .own) q e j g
   arriving = record {
-    head = y .numbered;
     figure = edge-in (r .usable) e (y .numbered) .own;
-    fits = found-fits (edge-fits r e (y .numbered) m) is-open;
-    grouped = r .grouped;
-    key = omega (arith, r .sized, head-key r e (y .numbered));
+    sum = omega (arith, own-low r e (y .numbered), p .passed .light, p .passed .inside, unit-light m, tail-length r e (y .numbered), short r e (y .numbered));
+    queueable = record {
+      head = y .numbered;
+      fits = found-fits (edge-fits r e (y .numbered) m) is-open;
+      grouped = r .grouped;
+      key = omega (arith, r .sized, head-key r e (y .numbered));
+    };
   }
 
   pub arrived : {q′ : List ℕ} → q′ ≡ offered m q (headAt c e) (Found (label (algebra m .finish (ownAt c e) j) (g + 1) e)) → Went m c (cell ws) (cell ds) e s s q q′

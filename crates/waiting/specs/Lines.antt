@@ -11,6 +11,7 @@ use lib.Dec.{leb}
 use Rattle.weights.specs.declared.Measure.{Measure}
 use Rattle.weights.specs.declared.Measure.the-variants.{Cost, Days, Grade}
 use Rattle.weights.specs.Figures.{isStruckMark}
+use Rattle.weights.specs.declared.Label.{Label}
 use Rattle.weights.specs.Labels.{label}
 use Rattle.weights.specs.Measures.{Algebra, algebra}
 use Rattle.provenance.specs.Labelling.{noneZero}
@@ -182,13 +183,18 @@ pub record Pushable (s : Lines) (v e i g : ℕ) : Type 0 where
   pub place : i < 65536
   pub depth : g < 65536
 
+-- a label can be offered to the head of its hyperedge
+pub record Queueable (l : Label) (heads q : List ℕ) : Type 0 where
+  pub head : l .edge .0 < length heads
+  pub fits : Fits l
+  pub grouped : Grouped q
+  pub key : cell heads (l .edge .0) < leaves q
+
 -- hyperedge e, whose tail is passed, can be offered to its head
 pub record Arriving (m : Measure) (heads own q : List ℕ) (e j g : ℕ) : Type 0 where
-  pub head : e < length heads
   pub figure : e < length own
-  pub fits : Fits (label (algebra m .finish (cell own e) j) (g + 1) e)
-  pub grouped : Grouped q
-  pub key : cell heads e < leaves q
+  pub sum : cell own e + j < 18446744073709551616
+  pub queueable : Queueable (label (algebra m .finish (cell own e) j) (g + 1) e) heads q
 
 -- hyperedges can be offered to their heads
 pub record Offerable (c : Columns) (ws ds q : List ℕ) : Type 0 where

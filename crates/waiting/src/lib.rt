@@ -13,12 +13,13 @@ ghost use mathlib.Core.Path.{_≡_};
 ghost use Prim.Native.Nat.{_+_, _<_, min};
 ghost use lib.ListN.{length};
 ghost use Rattle.weights.specs.declared.Offer.the-variants.{Found};
+ghost use Rattle.weights.specs.Figures.{capped};
 ghost use Rattle.weights.specs.Labels.{label};
 ghost use Rattle.weights.specs.Measures.{algebra};
 ghost use Rattle.columns.specs.Lent.{lent};
 ghost use Rattle.columns.specs.Columns.{cell};
 ghost use Rattle.queue.specs.Queue.{offered};
-ghost use Rattle.waiting.specs.Lines.{plain, Passable, lines, pushed, Carried, Gone, Linkable, Linked, Pushable, Arriving, Offerable, Going, Went, Wakeful, Starting, Waking, Rested, Empty};
+ghost use Rattle.waiting.specs.Lines.{plain, Passable, lines, pushed, Carried, Gone, Linkable, Linked, Pushable, Queueable, Arriving, Offerable, Going, Went, Wakeful, Starting, Waking, Rested, Empty};
 
 // In place of a hyperedge, at the end of a list.
 const END: u16 = 65535;
@@ -50,6 +51,28 @@ pub fn joining(measure: Measure, a: u64, b: u64) -> u64
         Measure::Cost => a + b,
         Measure::Days => deeper(a, b),
         Measure::Grade => lesser(a, b),
+    }
+}
+
+// A sum, above the ceiling or not, as a weight.
+fn capped(sum: u64) -> u64
+    ensures { λ r. ⌜ r ≡ capped sum ⌝ }
+{
+    if sum > Weight::CEILING.0 {
+        return Weight::OVER.0;
+    }
+    sum
+}
+
+// What an own weight and a tail's joined weights come to. Their sum does not wrap, so it is compared once.
+fn finishing(measure: Measure, own: u64, joined: u64) -> u64
+    requires { ⌜ own + joined < 18446744073709551616 ⌝ }
+    ensures { λ r. ⌜ r ≡ algebra measure .finish own joined ⌝ }
+{
+    match measure {
+        Measure::Cost => capped(own + joined),
+        Measure::Days => capped(own + joined),
+        Measure::Grade => lesser(own, joined),
     }
 }
 
@@ -121,6 +144,18 @@ fn wait(
     link(e, v, first, next);
 }
 
+// The head of a label's hyperedge is offered the label.
+fn offer(measure: Measure, l: Label, heads: &[u64], queue: &mut [u64])
+    requires { ⌜ Queueable l (now heads) (now queue) ⌝ }
+    ensures { λ r. ⌜ now (queue .exit) ≡ offered measure (now (queue .entry)) (cell (now (heads .entry)) (l .edge .0)) (Found l) ⌝ }
+{
+    let key = queue::pack(measure, l);
+    let e = l.edge;
+    let i = e.0 as usize;
+    let h = heads[i] as usize;
+    minima::lower(queue, h, key);
+}
+
 // Hyperedge e, whose tail is passed, is offered to its head.
 fn arrive(
     measure: Measure,
@@ -138,16 +173,14 @@ fn arrive(
     let i = e.0 as usize;
     let figure = own[i];
     let sum = to.joined;
-    let weight = Weight(figure).finish(measure, sum);
+    let weight = finishing(measure, figure, sum.0);
     let depth = to.deepest + 1;
     let l = Label {
-        weight,
+        weight: Weight(weight),
         depth,
         edge: e,
     };
-    let key = queue::pack(measure, l);
-    let h = heads[i] as usize;
-    minima::lower(queue, h, key);
+    offer(measure, l, heads, queue);
 }
 
 // Hyperedge e, whose head is unmade, goes on from where it is: it waits again, or is offered.
@@ -307,7 +340,8 @@ pub fn wake_all(
 }
 
 // Hyperedge e, unless it is struck, waits for the first vertex of its tail or is offered. To wait it
-// is linked alone: the columns start with what it has passed, which is nothing.
+// is linked alone: the columns start with what it has passed, which is nothing. One with an empty tail
+// offers its own weight, which nothing is joined to.
 fn begin(
     measure: Measure,
     e: Hyperedge,
@@ -346,13 +380,13 @@ fn begin(
         link(e, Vertex(v), first, next);
         return;
     }
-    let unit = Weight::unit(measure);
-    let to = Reached {
-        at: 0,
-        joined: unit,
-        deepest: 0,
+    let figure = own[i];
+    let l = Label {
+        weight: Weight(figure),
+        depth: 1,
+        edge: e,
     };
-    arrive(measure, e, to, heads, own, queue);
+    offer(measure, l, heads, queue);
 }
 
 // Every hyperedge that is not struck waits or is offered.

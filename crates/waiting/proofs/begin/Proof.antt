@@ -9,8 +9,8 @@ use borrow.Author.Needs.{needs}
 use Rattle.weights.specs.Figures.{isStruckMark}
 use Rattle.columns.specs.Columns.{cell}
 use Rattle.columns.proofs.Usable.{edge-in}
-use Rattle.waiting.proofs.Steps.{tails-few, tail-length, arriving, arrived}
-use Rattle.waiting.proofs.Starts.{struck-next, going, gone-none, first-linkable, first-waits, went-next}
+use Rattle.waiting.proofs.Steps.{tails-few}
+use Rattle.waiting.proofs.Starts.{struck-next, first-linkable, first-waits, own-queueable, own-offered, went-next}
 
 -- the start, seen from the test of the mark
 abbrev entry : tie.After-is-struck → tie.Start
@@ -64,28 +64,27 @@ returns-2 c =
     let w = first-waits (p .pre .1 .1) (p .pre .0) (p .pre .1 .0) (unstruck l) (t .if2 .taken) (k .link .ensures) in
     went-next (p .pre .1 .1) (p .pre .0) (p .pre .1 .0) (unstruck l) w
 
--- from the unit on: with no vertex listed it is past the end of its tail
-arrive-requires : tie.Need-arrive-requires
-arrive-requires c κs =
-    let u = c .before in
-    let l = u .before .before .before .before in
+shared-slice-read-figure : tie.Need-shared-slice-read-figure
+shared-slice-read-figure c =
+    let p = entry (c .before .before .before .before .before) in
+    omega (arith, edge-in (p .pre .0 .usable) (p .args .e .0) (p .pre .1 .0) .own)
+
+-- no vertex is listed
+offer-requires : tie.Need-offer-requires
+offer-requires c κs =
+    let t = c .before .before in
+    let l = t .before .before .before in
     let p = entry (l .before) in
-    let s = p .pre .1 .1 in
-    let g = going s (p .pre .0) (p .pre .1 .0) (unstruck l) (u .unit .ensures) in
-    let n = gone-none s (p .pre .0) (p .pre .1 .0) (unstruck l) (u .unit .ensures) in
-    arriving (p .pre .0) g n (omega (arith, tail-length (p .pre .0) (p .args .e .0) (p .pre .1 .0), u .before .if2 .left))
+    own-queueable (p .pre .1 .1) (p .pre .0) (p .pre .1 .0) (unstruck l) (t .if2 .left)
 
 returns-3 : tie.Need-returns-3
 returns-3 c =
     let k = c .before .before in
-    let u = k .before .before in
-    let l = u .before .before .before .before in
+    let t = k .before .before .before in
+    let l = t .before .before .before in
     let p = entry (l .before) in
-    let s = p .pre .1 .1 in
-    let g = going s (p .pre .0) (p .pre .1 .0) (unstruck l) (u .unit .ensures) in
-    let n = gone-none s (p .pre .0) (p .pre .1 .0) (unstruck l) (u .unit .ensures) in
-    let a = arrived (p .pre .0) g n (omega (arith, tail-length (p .pre .0) (p .args .e .0) (p .pre .1 .0), u .before .if2 .left)) (k .arrive .ensures) in
-    went-next s (p .pre .0) (p .pre .1 .0) (unstruck l) a
+    let w = own-offered (p .pre .1 .1) (p .pre .0) (p .pre .1 .0) (unstruck l) (t .if2 .left) (k .offer .ensures) in
+    went-next (p .pre .1 .1) (p .pre .0) (p .pre .1 .0) (unstruck l) w
 
 pub begin-spec : {M : Type 1} → statement M
 begin-spec =
@@ -108,7 +107,8 @@ begin-spec =
     (λ c. search needs)
     (λ c. search needs)
     returns-2
-    (λ c κs. search needs)
-    arrive-requires
+    (λ c. search needs)
+    shared-slice-read-figure
+    offer-requires
     (λ c. search needs)
     returns-3)
