@@ -213,17 +213,23 @@ static int right(struct view t, uint64_t measure, const uint64_t *figures, const
     return pieces_right(&t, depths, lines, pieces);
 }
 
-/* Pays for each line of a part's bill, and looks at no more than it pays for; whether that is all. */
-static int pay(const struct view *t, const uint64_t *lines, uint64_t part, uint64_t *budget)
+/* Pays for each line of a part's bill, of a part met again at once; whether the budget lasts. */
+static int pay(const struct view *t, const uint64_t *lines, uint64_t part, uint64_t *lengths, uint64_t *budget)
 {
     uint64_t line = lines[part], at = t->spans[2 * line], end = at + t->spans[2 * line + 1];
+    uint64_t before = *budget;
 
-    if (*budget == 0)
+    if (before == 0 || lengths[part] > before)
         return 0;
+    if (lengths[part] != 0) {
+        *budget -= lengths[part];
+        return 1;
+    }
     --*budget;
     for (; at < end; at++)
-        if (!pay(t, lines, t->tails[at], budget))
+        if (!pay(t, lines, t->tails[at], lengths, budget))
             return 0;
+    lengths[part] = before - *budget;
     return 1;
 }
 
@@ -242,9 +248,10 @@ static uint64_t *print_from(const struct view *t, const uint64_t *lines, uint64_
 static uint64_t print(const struct view *t, const uint64_t *lines, uint64_t part, uint64_t *room,
                       uint64_t most)
 {
-    uint64_t budget = most;
+    uint64_t budget = most, lengths[TOZBIERDU_MOST_PARTS];
 
-    return pay(t, lines, part, &budget) ? (uint64_t)(print_from(t, lines, part, room) - room) : 0;
+    memset(lengths, 0, t->n * sizeof *lengths);
+    return pay(t, lines, part, lengths, &budget) ? (uint64_t)(print_from(t, lines, part, room) - room) : 0;
 }
 
 #define CALL(name) plain_##name

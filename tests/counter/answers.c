@@ -241,14 +241,14 @@ static void test_demand_3(void)
 }
 
 const struct test answer_tests[] = {
-    { "worked_cost", test_worked_cost, 0 },
-    { "worked_days", test_worked_days, 0 },
-    { "worked_grade", test_worked_grade, 0 },
-    { "worked_repriced", test_worked_repriced, 0 },
-    { "worked_struck", test_worked_struck, 0 },
-    { "ceiling", test_ceiling, 0 },
-    { "most_pieces", test_most_pieces, 0 },
-    { "days_ceiling", test_days_ceiling, 0 },
-    { "demand_3", test_demand_3, 0 },
-    { NULL, NULL, 0 },
+    { "worked_cost", test_worked_cost },
+    { "worked_days", test_worked_days },
+    { "worked_grade", test_worked_grade },
+    { "worked_repriced", test_worked_repriced },
+    { "worked_struck", test_worked_struck },
+    { "ceiling", test_ceiling },
+    { "most_pieces", test_most_pieces },
+    { "days_ceiling", test_days_ceiling },
+    { "demand_3", test_demand_3 },
+    { NULL, NULL },
 };

@@ -57,11 +57,10 @@ int holds(const struct table *t, int column, const uint64_t *places);
 /* The bill of a part is of this length and has these lines. */
 void bill_is(struct table *t, uint64_t part, size_t length, const uint64_t *lines);
 
-/* A file's tests, the last with no name. A slow one runs only where it is named. */
+/* A file's tests, the last with no name. */
 struct test {
     const char *name;
     void (*run)(void);
-    int slow;
 };
 
 extern const struct test answer_tests[], refusal_tests[], room_tests[];
