@@ -12,7 +12,7 @@ use lib.Dec.{eqb}
 use borrow.Author.Tests.{eqb-true, eqb-false, eq-eqb, ne-eqb}
 use Rattle.weights.specs.Choice.{pick}
 use Rattle.columns.specs.Columns.{cell}
-use Rattle.pieces.specs.Counting.{Countable, lastOf, Linkable, Linked}
+use Rattle.pieces.specs.Counting.{Countable, lastOf, Linkable, Linked, Deepest}
 
 module _ (depth : ℕ → ℕ) (d : ℕ) where
   pub last-le : (k : ℕ) → lastOf depth d k ≤ k
@@ -79,9 +79,26 @@ linked-more {depths} {layers} {v} {last} {pieces} l h s = record {
     link u b (no n) = getD-set-other pieces v u (cell last (cell depths v)) 0 n ∙ l .links u (omega arith)
 
 -- a new array is cleared
+-- the greatest depth, of one vertex more
+module _ {depths : List ℕ} {layers v g g′ : ℕ} (d : Deepest depths layers v g) where
+  pub deepest-new : cell depths v < layers → g < cell depths v → g′ ≡ cell depths v → Deepest depths layers (v + 1) g′
+  deepest-new h l e = record { layer = omega arith; most = λ u k. go u (ℕ-discrete u v) k }
+    where
+      go : (u : ℕ) → Dec (u ≡ v) → u < v + 1 → cell depths u ≤ g′
+      go u (yes p) k = omega (arith, ap (cell depths) p)
+      go u (no n) k = omega (arith, d .most u (omega arith))
+
+  pub deepest-same : cell depths v ≤ g → g′ ≡ g → Deepest depths layers (v + 1) g′
+  deepest-same l e = record { layer = omega (arith, d .layer); most = λ u k. go u (ℕ-discrete u v) k }
+    where
+      go : (u : ℕ) → Dec (u ≡ v) → u < v + 1 → cell depths u ≤ g′
+      go u (yes p) k = omega (arith, ap (cell depths) p)
+      go u (no n) k = omega (arith, d .most u (omega arith))
+
 pub linkable-new : {spans tails depths edges pieces : List ℕ} → Countable spans tails depths edges pieces → Linkable depths (replicate 1025 0) pieces
 linkable-new c = record {
   level = c .pieces-level;
+  some = omega (arith, length-replicate {A = ℕ} 1025 0);
   shallow = λ v h. omega (arith, c .shallow v, c .few, length-replicate {A = ℕ} 1025 0);
   cleared = λ d h. getD-replicate 1025 d 0 0 (omega (arith, length-replicate {A = ℕ} 1025 0));
 }

@@ -13,7 +13,7 @@ use Rattle.provenance.proofs.Pieces.{pieces-most, length-below, below-at, below
 use Rattle.columns.specs.Columns.{cell, tailOf}
 use Rattle.columns.specs.Same.{equal}
 use Rattle.columns.proofs.Same.{equal-refl, equal-true}
-use Rattle.pieces.specs.Counting.{lists, choices, countOf, counted, Low, low, Countable, Staged}
+use Rattle.pieces.specs.Counting.{lists, choices, countOf, counted, Low, low, Countable, Deepest, Staged}
 use Rattle.pieces.proofs.Sums.{is-low}
 
 module _ (tail : ℕ → List ℕ) (depth edge p : ℕ → ℕ) (v : ℕ) where
@@ -34,9 +34,9 @@ module _ {spans tails depths edges pieces : List ℕ} (c : Countable spans tails
   beyond v h = List·getD-eq-default depths 0 {n = v} h
 
   -- all depths are counted
-  pub all-counted : {d n : ℕ} {new : List ℕ} → length depths < d → Staged depths (countOf spans tails depths edges) d n new → new ≡ counted spans tails depths edges
+  pub all-counted : {layers g d n : ℕ} {new : List ℕ} → Deepest depths layers (length depths) g → g < d → Staged depths (countOf spans tails depths edges) d n new → new ≡ counted spans tails depths edges
   unfolding counted
-  all-counted {new = new} h s = below-is (countOf spans tails depths edges) (length depths) new (s .level) (λ v l. s .lower v l (omega (arith, c .shallow v)))
+  all-counted {new = new} m h s = below-is (countOf spans tails depths edges) (length depths) new (s .level) (λ v l. s .lower v l (omega (arith, m .most v l)))
 
   -- the rule holds everywhere
   pub all-right : ((v : ℕ) → v < length depths → cell pieces v ≡ rule pieces v) → true ≡ equal pieces (counted spans tails depths edges)

@@ -59,6 +59,7 @@ lastOf depth d (suc k) = pick (eqb (depth k) d) (k + 1) (lastOf depth d k)
 
 pub record Linkable (depths last pieces : List ℕ) : Type 0 where
   pub level : length pieces ≡ length depths
+  pub some : 0 < length last
   pub shallow : (v : ℕ) → v < length depths → cell depths v < length last
   pub cleared : (d : ℕ) → d < length last → cell last d ≡ 0
 
@@ -68,6 +69,11 @@ pub record Linked (depths : List ℕ) (layers v : ℕ) (last pieces : List ℕ) 
   pub pieces-level : length pieces ≡ length depths
   pub ends : (d : ℕ) → d < layers → cell last d ≡ lastOf (cell depths) d v
   pub links : (u : ℕ) → u < v → cell pieces u ≡ lastOf (cell depths) (cell depths u) u
+
+-- of the vertices below v none is deeper than g, which is one of so many depths
+pub record Deepest (depths : List ℕ) (layers v g : ℕ) : Type 0 where
+  pub layer : g < layers
+  pub most : (u : ℕ) → u < v → cell depths u ≤ g
 
 -- while counting: the vertices of lower depth than d are counted, and of depth d those from `next` on; the others are linked
 pub record Staged (depths : List ℕ) (count : ℕ → ℕ) (d next : ℕ) (pieces : List ℕ) : Type 0 where

@@ -9,7 +9,7 @@ ghost use lib.ListN.{length};
 ghost use Rattle.provenance.specs.Pieces.{mostPieces, pieceCount, pieceLocal};
 ghost use Rattle.columns.specs.Columns.{cell, tailOf};
 ghost use Rattle.columns.specs.Same.{equal};
-ghost use Rattle.pieces.specs.Counting.{counted, countOf, low, Low, Summable, Countable, Linkable, Linked, Staged, Layer};
+ghost use Rattle.pieces.specs.Counting.{counted, countOf, low, Low, Summable, Countable, Linkable, Linked, Deepest, Staged, Layer};
 
 // The greatest count; more are counted as so many.
 pub const MOST_PIECES: u64 = 1000000000;
@@ -68,19 +68,25 @@ pub fn count_vertex(
 
 // Links the vertices of each depth from the last on, in the places where their counts will stand:
 // each place holds the vertex before it of its depth, and 1 more, or 0. `last`, all 0 at first, gets
-// the last vertex of each depth, and 1 more.
-fn link(depths: &[u64], last: &mut [u64], pieces: &mut [u64])
+// the last vertex of each depth, and 1 more. Gives the greatest depth.
+fn link(depths: &[u64], last: &mut [u64], pieces: &mut [u64]) -> usize
     requires { ⌜ Linkable (now depths) (now last) (now pieces) ⌝ }
-    ensures { λ r. ⌜ Linked (now (depths .entry)) (length (now (last .entry))) (length (now (depths .entry))) (now (last .exit)) (now (pieces .exit)) ⌝ }
+    ensures linked { λ r. ⌜ Linked (now (depths .entry)) (length (now (last .entry))) (length (now (depths .entry))) (now (last .exit)) (now (pieces .exit)) ⌝ }
+    ensures deepest { λ r. ⌜ Deepest (now (depths .entry)) (length (now (last .entry))) (length (now (depths .entry))) r ⌝ }
 {
+    let mut deepest: usize = 0;
     let mut i = 0;
     while i < depths.len() {
         let d = depths[i] as usize;
         let before = last[d];
         pieces[i] = before;
         last[d] = i as u64 + 1;
+        if deepest < d {
+            deepest = d;
+        }
         i += 1;
     }
+    deepest
 }
 
 // Counts the vertices of depth d, where those of lower depth are counted.
@@ -112,9 +118,9 @@ pub fn count_pieces(spans: &[u64], tails: &[u64], depths: &[u64], edges: &[u64],
     ensures { λ r. ⌜ now (pieces .exit) ≡ counted (now (spans .entry)) (now (tails .entry)) (now (depths .entry)) (now (edges .entry)) ⌝ }
 {
     let mut last = [0u64; 1025];
-    link(depths, &mut last, pieces);
+    let deepest = link(depths, &mut last, pieces);
     let mut d: usize = 0;
-    while d <= depths.len() {
+    while d <= deepest {
         count_layer(d, &last, spans, tails, depths, edges, pieces);
         d += 1;
     }

@@ -12,10 +12,10 @@ use Rattle.pieces.proofs.count_pieces.Statement.{statement}
 use Rattle.pieces.proofs.count_pieces.Tie as tie
 
 abbrev Inv-loop : tie.InvT-loop
-Inv-loop spans tails depths edges pieces₀ last d₀ pieces d = (d ≤ length depths + 1) × Staged depths (countOf spans tails depths edges) d (length depths) pieces
+Inv-loop spans tails depths edges pieces₀ last deepest d₀ pieces d = (d ≤ deepest + 1) × Staged depths (countOf spans tails depths edges) d (length depths) pieces
 
 abbrev μ-loop : tie.MeasureT-loop
-μ-loop spans tails depths edges pieces₀ last d₀ pieces d = length depths + 1 - d
+μ-loop spans tails depths edges pieces₀ last deepest d₀ pieces d = deepest + 1 - d
 
 abbrev after-link : tie.At-loop Inv-loop μ-loop → tie.After-link Inv-loop μ-loop
 after-link l = l .before .before .before .before
@@ -27,15 +27,15 @@ link-requires : tie.Need-link-requires Inv-loop μ-loop
 link-requires c κs = linkable-new (c .before .before .before .before .before .before .before .pre)
 
 loop-holds : tie.Need-loop-holds Inv-loop μ-loop
-loop-holds c = (omega arith, staged-none _ (c .before .before .before .link .ensures))
+loop-holds c = (omega arith, staged-none _ (c .before .before .before .link .ensures .0))
 
 count-layer-requires : tie.Need-count-layer-requires Inv-loop μ-loop
 count-layer-requires c κs =
     let l = c .before .before .before in
     let k = entry (after-link l) .pre in
     let s = l .loop .inv .1 in
-    let m = after-link l .link .ensures in
-    let h : l .loop .d < 1025 = omega (arith, k .few, c .before .before .loop-test .taken) in
+    let m = after-link l .link .ensures .0 in
+    let h : l .loop .d < 1025 = omega (arith, after-link l .link .ensures .1 .layer, c .before .before .loop-test .taken) in
     record { countable = countable-still k (s .level ∙ sym (k .pieces-level)); layer = omega (arith, m .last-level); end = m .ends (l .loop .d) h; staged = s }
 
 loop-again : tie.Need-loop-again Inv-loop μ-loop
@@ -45,7 +45,7 @@ same-length : tie.Need-same-length Inv-loop μ-loop
 same-length c = let l = c .before in l .loop .inv .1 .level ∙ sym (entry (after-link l) .pre .pieces-level)
 
 returns : tie.Need-returns Inv-loop μ-loop
-returns c = let l = c .before in all-counted (entry (after-link l) .pre) (c .loop-test .left) (l .loop .inv .1)
+returns c = let l = c .before in all-counted (entry (after-link l) .pre) (after-link l .link .ensures .1) (c .loop-test .left) (l .loop .inv .1)
 
 pub count-pieces-spec : {M : Type 1} → statement M
 count-pieces-spec =
