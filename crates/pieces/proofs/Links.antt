@@ -95,10 +95,10 @@ module _ {depths : List ℕ} {layers v g g′ : ℕ} (d : Deepest depths layers 
       go u (yes p) k = omega (arith, ap (cell depths) p)
       go u (no n) k = omega (arith, d .most u (omega arith))
 
-pub linkable-new : {spans tails depths edges pieces : List ℕ} → Countable spans tails depths edges pieces → Linkable depths (replicate 1025 0) pieces
-linkable-new c = record {
+pub linkable-new : {spans tails depths edges pieces : List ℕ} → Countable spans tails depths edges pieces → (r : ℕ) → length depths < r → Linkable depths (replicate r 0) pieces
+linkable-new c r k = record {
   level = c .pieces-level;
-  some = omega (arith, length-replicate {A = ℕ} 1025 0);
-  shallow = λ v h. omega (arith, c .shallow v, c .few, length-replicate {A = ℕ} 1025 0);
-  cleared = λ d h. getD-replicate 1025 d 0 0 (omega (arith, length-replicate {A = ℕ} 1025 0));
+  some = omega (arith, length-replicate {A = ℕ} r 0);
+  shallow = λ v h. omega (arith, c .shallow v, length-replicate {A = ℕ} r 0);
+  cleared = λ d h. getD-replicate r d 0 0 (omega (arith, length-replicate {A = ℕ} r 0));
 }

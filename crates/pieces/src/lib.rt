@@ -4,7 +4,7 @@
 use weights::Hyperedge;
 use weights::Vertex;
 ghost use mathlib.Core.Path.{_≡_};
-ghost use Prim.Native.Nat.{_<_, min};
+ghost use Prim.Native.Nat.{_≤_, _<_, min};
 ghost use lib.ListN.{length};
 ghost use Rattle.provenance.specs.Pieces.{mostPieces, pieceCount, pieceLocal};
 ghost use Rattle.columns.specs.Columns.{cell, tailOf};
@@ -112,18 +112,55 @@ fn count_layer(
     }
 }
 
+// Counts depth by depth, with a column that is all 0 for the last vertex of each depth.
+fn count_in(
+    spans: &[u64],
+    tails: &[u64],
+    depths: &[u64],
+    edges: &[u64],
+    pieces: &mut [u64],
+    last: &mut [u64],
+)
+    requires { ⌜ (Countable (now spans) (now tails) (now depths) (now edges) (now pieces)) × Linkable (now depths) (now last) (now pieces) ⌝ }
+    ensures { λ r. ⌜ now (pieces .exit) ≡ counted (now (spans .entry)) (now (tails .entry)) (now (depths .entry)) (now (edges .entry)) ⌝ }
+{
+    let deepest = link(depths, last, pieces);
+    let mut d: usize = 0;
+    while d <= deepest {
+        count_layer(d, last, spans, tails, depths, edges, pieces);
+        d += 1;
+    }
+}
+
+// The same with a column of its own. A few vertices are given few places, as every place has to be
+// cleared.
+fn count_few(spans: &[u64], tails: &[u64], depths: &[u64], edges: &[u64], pieces: &mut [u64])
+    requires { ⌜ (Countable (now spans) (now tails) (now depths) (now edges) (now pieces)) × (length (now depths) ≤ 64) ⌝ }
+    ensures { λ r. ⌜ now (pieces .exit) ≡ counted (now (spans .entry)) (now (tails .entry)) (now (depths .entry)) (now (edges .entry)) ⌝ }
+{
+    let mut last = [0u64; 65];
+    count_in(spans, tails, depths, edges, pieces, &mut last);
+}
+
+// The same of any number of vertices.
+fn count_many(spans: &[u64], tails: &[u64], depths: &[u64], edges: &[u64], pieces: &mut [u64])
+    requires { ⌜ Countable (now spans) (now tails) (now depths) (now edges) (now pieces) ⌝ }
+    ensures { λ r. ⌜ now (pieces .exit) ≡ counted (now (spans .entry)) (now (tails .entry)) (now (depths .entry)) (now (edges .entry)) ⌝ }
+{
+    let mut last = [0u64; 1025];
+    count_in(spans, tails, depths, edges, pieces, &mut last);
+}
+
 // Leaves the piece counts in `pieces`, whatever it held.
 pub fn count_pieces(spans: &[u64], tails: &[u64], depths: &[u64], edges: &[u64], pieces: &mut [u64])
     requires { ⌜ Countable (now spans) (now tails) (now depths) (now edges) (now pieces) ⌝ }
     ensures { λ r. ⌜ now (pieces .exit) ≡ counted (now (spans .entry)) (now (tails .entry)) (now (depths .entry)) (now (edges .entry)) ⌝ }
 {
-    let mut last = [0u64; 1025];
-    let deepest = link(depths, &mut last, pieces);
-    let mut d: usize = 0;
-    while d <= deepest {
-        count_layer(d, &last, spans, tails, depths, edges, pieces);
-        d += 1;
+    if depths.len() <= 64 {
+        count_few(spans, tails, depths, edges, pieces);
+        return;
     }
+    count_many(spans, tails, depths, edges, pieces);
 }
 
 // Whether no count of a column is above the greatest.

@@ -3,7 +3,6 @@ use mathlib.Core.Path.{sym, _∙_, ap, subst}
 use mathlib.Core.List.{List}
 use Prim.Native.Nat.{ℕ, _<_}
 use native.Mathlib.Omega.{arith}
-use lib.ListN.{length}
 use borrow.Author.Needs.{needs}
 use Rattle.provenance.specs.Pieces.{pieceCount}
 use Rattle.columns.specs.Columns.{cell}
