@@ -195,8 +195,9 @@ module _ {m : Measure} {c : Columns} {a : Answers} {s : Lines} {q : List ℕ} (u
           → Offerable (same-table c (length (b .depths))) (b .weights) (b .depths) q′
           × ((x < length (b .depths)) × Waking m (same-table c (length (b .depths))) (b .weights) (b .depths) s q′ x (cell (s .first) x))
       waking-after {q′} r =
-          let e : q′ ≡ raised q v = r ∙ ap (raised q) h in (
-            subst (λ (z : Answers). Offerable (same-table c (length (z .depths))) (z .weights) (z .depths) q′) (sym p) (offerable-after q′ (subst Grouped (sym e) (raised-grouped q v (offerable .grouped) wide)) (ap length e ∙ raised-sized)),
+          let e : q′ ≡ raised q v = r ∙ ap (raised q) h in
+          let g = subst Grouped (sym e) (raised-grouped q v (offerable .grouped) wide) in (
+            subst (λ (z : Answers). Offerable (same-table c (length (z .depths))) (z .weights) (z .depths) q′) (sym p) (offerable-after q′ g (ap length e ∙ raised-sized)),
             (
               omega (arith, ap (λ (z : Answers). length (z .depths)) p, same-vertices, head-below),
               subst (λ (z : Answers). Waking m (same-table c (length (z .depths))) (z .weights) (z .depths) s q′ x (cell (s .first) x)) (sym p)

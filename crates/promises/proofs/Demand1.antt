@@ -115,7 +115,8 @@ module _ (m : Measure) (c : Columns) (a : Entries) (e : ℕ) where
 
 -- "Print a bill." 1 to 7, 11, 8, 12, 13. "A bill returns its length; the room behind it keeps its bytes." What `billOf` is, the bill's rule says
 module _ (m : Measure) (c : Columns) (a : Entries) (v : ℕ) (room : List ℕ) where
-  pub bill : Owed extent.Refused room (RightBill m c a v (length room)) (λ _. extent.Length (length (billOf c (a .labels) v))) (λ _. billOf c (a .labels) v ++ drop (length (billOf c (a .labels) v)) room)
+  pub bill : Owed extent.Refused room (RightBill m c a v (length room)) (λ _. extent.Length (length (billOf c (a .labels) v)))
+      (λ _. billOf c (a .labels) v ++ drop (length (billOf c (a .labels) v)) room)
       (WrongBill m c a v (length room)) (billed m c a v room .result) (billed m c a v room .left)
   bill = bill-owes m c a v room
 

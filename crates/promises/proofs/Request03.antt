@@ -62,7 +62,8 @@ pub days-mean : (c : Columns) (a : Entries) → settled Days c a .result ≡ Acc
 days-mean c a h v = demand-2 Days c a h v .worth
 
 -- "Example P4 becomes 1700 for parts 2 and 3"
-pub days-p4 : Settles Days worked five (entries (1200 ∷ 300 ∷ 1700 ∷ 1700 ∷ 0 ∷ []) (1 ∷ 1 ∷ 2 ∷ 3 ∷ 0 ∷ []) (0 ∷ 1 ∷ 2 ∷ 4 ∷ 0 ∷ []) (1 ∷ 1 ∷ 2 ∷ 4 ∷ 0 ∷ [])) (Made ∷ Made ∷ Made ∷ Made ∷ Unmade ∷ [])
+pub days-p4 : Settles Days worked five (entries (1200 ∷ 300 ∷ 1700 ∷ 1700 ∷ 0 ∷ []) (1 ∷ 1 ∷ 2 ∷ 3 ∷ 0 ∷ []) (0 ∷ 1 ∷ 2 ∷ 4 ∷ 0 ∷ []) (1 ∷ 1 ∷ 2 ∷ 4 ∷ 0 ∷ []))
+    (Made ∷ Made ∷ Made ∷ Made ∷ Unmade ∷ [])
 unfolding cases AllHold
 days-p4 = every-case-holds .1 .1 .1 .1 .0
 

@@ -86,7 +86,8 @@ answers-ranged m c p v = record { label = go (answers-means m c p v); pieces = s
 -- The list -------------------------------------------------------------------------------------------------------------------------------------
 
 row-length : (v : ℕ) (e : Entry)
-    → length (row v e) ≡ length (digits v) + (1 + length (stateWord (e .state))) + (1 + length (digits (e .weight .0))) + (1 + length (digits (e .depth))) + (1 + length (digits (e .edge .0))) + (1 + length (digits (e .pieces))) + 1
+    → length (row v e) ≡ length (digits v) + (1 + length (stateWord (e .state))) + (1 + length (digits (e .weight .0))) + (1 + length (digits (e .depth)))
+    + (1 + length (digits (e .edge .0))) + (1 + length (digits (e .pieces))) + 1
 unfolding row
 row-length v e =
     let s : List ℕ = 32 ∷ stateWord (e .state) in

@@ -35,7 +35,8 @@ ready c = let s = entry c in let a = s .args in append-passed (a .measure) (tabl
 returns : tie.Need-returns
 returns c =
     let k = c .before .before .before in
-    let s = k .before .before .before .before .before .before .before .before .before .before .before .before .before .before .before .before .before .before .before .before .before .before .before .before in
+    let half = k .before .before .before .before .before .before .before .before .before .before .before .before in
+    let s = half .before .before .before .before .before .before .before .before .before .before .before .before in
     refused-grown (s .args .measure) (tableOf s) (s .args .in-use) (came s) (s .args .index .now) (s .args .list .now) (lineOf s) (sym (k .check .ensures) ∙ c .before .a .given .1)
 
 end-of-requires : tie.Need-end-of-requires

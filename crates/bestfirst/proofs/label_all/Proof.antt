@@ -14,13 +14,15 @@ label-middle-requires : tie.Need-label-middle-requires
 label-middle-requires c κs =
     let t = c .before .before .before in
     let f = t .before .before in
-    (f .before .before .before .before .before .before .before .before .before .before .pre, room-middle _ _ (sym (f .before .holds .ensures) ∙ f .if1 .left) (sym (t .before .holds2 .ensures) ∙ t .if2 .taken))
+    let s = f .before .before .before .before .before .before .before .before .before .before in
+    (s .pre, room-middle _ _ (sym (f .before .holds .ensures) ∙ f .if1 .left) (sym (t .before .holds2 .ensures) ∙ t .if2 .taken))
 
 label-large-requires : tie.Need-label-large-requires
 label-large-requires c κs =
     let t = c .before .before .before in
     let f = t .before .before in
-    (f .before .before .before .before .before .before .before .before .before .before .pre, room-large _ _ (sym (f .before .holds .ensures) ∙ f .if1 .left) (sym (t .before .holds2 .ensures) ∙ t .if2 .left))
+    let s = f .before .before .before .before .before .before .before .before .before .before in
+    (s .pre, room-large _ _ (sym (f .before .holds .ensures) ∙ f .if1 .left) (sym (t .before .holds2 .ensures) ∙ t .if2 .left))
 
 pub label-all-spec : {M : Type 1} → statement M
 label-all-spec =

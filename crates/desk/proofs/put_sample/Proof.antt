@@ -6,10 +6,16 @@ use Rattle.desk.proofs.put_sample.Statement.{statement}
 use Rattle.desk.proofs.put_sample.Tie as tie
 
 returns : tie.Need-returns
-returns c = replied-as _ _ _ (short-sample (c .before .before .before .before .before .before .before .args .input .now) (let h = c .before .before .before .before .if1 .taken in omega arith)) (c .before .before .put-mean .ensures)
+returns c =
+    let k = c .before .before .before .before in
+    let h = k .if1 .taken in
+    replied-as _ _ _ (short-sample (k .before .before .before .args .input .now) (omega arith)) (c .before .before .put-mean .ensures)
 
 returns-2 : tie.Need-returns-2
-returns-2 c = replied-as _ _ _ (long-sample (c .before .before .before .before .before .before .before .args .input .now) (let h = c .before .before .before .before .if1 .left in omega arith)) (c .before .before .put-refusal .ensures)
+returns-2 c =
+    let k = c .before .before .before .before in
+    let h = k .if1 .left in
+    replied-as _ _ _ (long-sample (k .before .before .before .args .input .now) (omega arith)) (c .before .before .put-refusal .ensures)
 
 pub put-sample-spec : {M : Type 1} → statement M
 put-sample-spec =

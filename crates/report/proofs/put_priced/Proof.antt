@@ -14,7 +14,8 @@ use Rattle.report.proofs.put_priced.Tie as tie
 
 -- what is to be written, where settling was refused and where it was accepted
 refused : (c : tie.After-answer)
-    → let s = c .before .before .before .before .before .before .before .before .before .before .before .before .before .before .before .before .before .before .before .before .before .before .before .before .before in
+    → let half = c .before .before .before .before .before .before .before .before .before .before .before .before in
+    let s = half .before .before .before .before .before .before .before .before .before .before .before .before .before in
     priced (s .args .n)
     (settled (s .args .measure) (columns (s .args .n) (s .args .heads .now) (s .args .own .now) (s .args .strikes .now) (s .args .spans .now) (s .args .tails .now))
     (entries (s .args .weights .now) (s .args .depths .now) (s .args .edges .now) (s .args .pieces .now))) ≡ refusedLine
@@ -22,7 +23,8 @@ refused : (c : tie.After-answer)
 refused c = priced-refused _ _ _ _ _ (c .before .before .before .before .before .before .before .before .before .before .settle .ensures) _ (c .answer .given .1)
 
 accepted : (c : tie.After-enum-told)
-    → let s = c .before .before .before .before .before .before .before .before .before .before .before .before .before .before .before .before .before .before .before .before .before .before .before .before .before in
+    → let half = c .before .before .before .before .before .before .before .before .before .before .before .before in
+    let s = half .before .before .before .before .before .before .before .before .before .before .before .before .before in
     let k = c .before .before .before .before .before .before .before .before .before .before .settle in
     priced (s .args .n)
     (settled (s .args .measure) (columns (s .args .n) (s .args .heads .now) (s .args .own .now) (s .args .strikes .now) (s .args .spans .now) (s .args .tails .now))
@@ -33,7 +35,9 @@ accepted : (c : tie.After-enum-told)
 accepted c = priced-accepted _ _ _ _ _ (c .before .before .before .before .before .before .before .before .before .before .settle .ensures) (c .enum-told .given .1)
 
 put-refused-requires : tie.Need-put-refused-requires
-put-refused-requires c κs = c .before .before .before .before .before .before .before .before .before .before .before .before .before .before .before .before .before .before .before .before .before .before .before .before .before .before .before .pre .1
+put-refused-requires c κs =
+    let half = c .before .before .before .before .before .before .before .before .before .before .before .before .before in
+    half .before .before .before .before .before .before .before .before .before .before .before .before .before .before .pre .1
 
 returns : tie.Need-returns
 returns c = let p = c .before .before in written-as _ _ _ (sym (refused (p .before .before .before))) (p .put-refused .ensures)
@@ -42,12 +46,11 @@ enum-told : tie.Need-enum-told
 enum-told c = search needs
 
 put-list-requires : tie.Need-put-list-requires
-put-list-requires c κs = let a = c .before .before .before .before .before in
-    subst
-    (λ (z : List ℕ). length z ≤ length
-    (a .before .before .before .before .before .before .before .before .before .before .before .before .before .before .before .before .before .before .before .before .before .before .before .before .before .args .room .now))
-    (accepted a)
-    (a .before .before .before .before .before .before .before .before .before .before .before .before .before .before .before .before .before .before .before .before .before .before .before .before .before .pre .0)
+put-list-requires c κs =
+    let a = c .before .before .before .before .before in
+    let half = a .before .before .before .before .before .before .before .before .before .before .before .before in
+    let s = half .before .before .before .before .before .before .before .before .before .before .before .before .before in
+    subst (λ (z : List ℕ). length z ≤ length (s .args .room .now)) (accepted a) (s .pre .0)
 
 returns-2 : tie.Need-returns-2
 returns-2 c = let p = c .before .before in written-as _ _ _ (sym (accepted (p .before .before .before .before .before .before))) (p .put-list .ensures)

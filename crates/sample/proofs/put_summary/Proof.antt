@@ -13,7 +13,9 @@ returns : tie.Need-returns
 returns c = said-as _ _ _ (summary-refused _ _ (c .before .before .before .before .before .summary .given .1)) (c .before .before .put-refusal .ensures)
 
 returns-2 : tie.Need-returns-2
-returns-2 c = said-as _ _ _ (summary-moments _ _ (c .before .before .before .before .before .before .before .summary2 .given .1)) (record { status = refl; written = c .before .before .put-fractions .ensures })
+returns-2 c =
+    let k = c .before .before .before .before .before .before .before in
+    said-as _ _ _ (summary-moments _ _ (k .summary2 .given .1)) (record { status = refl; written = c .before .before .put-fractions .ensures })
 
 pub put-summary-spec : {M : Type 1} → statement M
 put-summary-spec =

@@ -28,7 +28,8 @@ returns c =
 returns-2 : tie.Need-returns-2
 returns-2 c =
     let o = c .before .before in
-    let p = o .before .before .before .before .before .before .before .before .before .before .before .before .before .before .before .before .before .before .before .before .before .before .before .before in
+    let half = o .before .before .before .before .before .before .before .before .before .before .before .before in
+    let p = half .before .before .before .before .before .before .before .before .before .before .before .before in
     let q = p .before .before .before .before .before .before .before .before .before .before .before .before .before in
     let m = q .before .before in
     let s = m .before .before .before .before .before .before .before .before .before .before .before .before .before .before in
@@ -40,7 +41,8 @@ returns-2 c =
 returns-3 : tie.Need-returns-3
 returns-3 c =
     let o = c .before .before .before .before .before in
-    let p = o .before .before .before .before .before .before .before .before .before .before .before .before .before .before .before .before .before .before .before .before .before .before .before .before in
+    let half = o .before .before .before .before .before .before .before .before .before .before .before .before in
+    let p = half .before .before .before .before .before .before .before .before .before .before .before .before in
     let q = p .before .before .before .before .before .before .before .before .before .before .before .before .before in
     let m = q .before .before in
     let s = m .before .before .before .before .before .before .before .before .before .before .before .before .before .before in
