@@ -1,6 +1,5 @@
--- The laws by which a room is filled: nothing more is written, the root is, or a part of the room is lent for the first bill of a tail and the rest is filled behind
--- it. Assumes nothing.
-use mathlib.Core.Path.{_≡_, sym, _∙_, ap, ap₂}
+-- The laws by which a room is filled: nothing is written yet, the root is, or the part behind what is written is lent for the next bill of a tail. Assumes nothing.
+use mathlib.Core.Path.{_≡_, sym, _∙_, ap, ap₂, subst}
 use mathlib.Core.List.{List, [], _∷_, _++_, append-assoc, append-nil}
 use Prim.Native.Nat.{ℕ, _+_, _-_, _≤_, _<_}
 use native.Mathlib.Omega.{arith}
@@ -9,8 +8,8 @@ use lib.Seq.{take-all, take-at, drop-at, drop-drop}
 use borrow.Rule.Slice.PartMut.{putMid}
 use Rattle.columns.specs.Columns.{tailOf}
 use Rattle.columns.specs.Filled.{filled}
-use Rattle.bill.specs.Walk.{vertexBill, tailBill, VertexFits, TailFits, WrittenFrom}
-use Rattle.bill.proofs.Walks.{Below, grounded, each-first, each-rest, rest, bills-none, bills-more, bills-length}
+use Rattle.bill.specs.Walk.{vertexBill, tailBill, Grounded, VertexFits, TailFits, WrittenFrom}
+use Rattle.bill.proofs.Walks.{Below, grounded, each-at, bills-none, bills-next, bills-all, bills-within}
 
 -- a room from a place on, as it is lent; and the room once that part has come back as ys
 abbrev pub lent : List ℕ → ℕ → List ℕ
@@ -48,36 +47,36 @@ write-root {e} {es} {new} {room} {to} {left} q h w = go room h w
     go [] k w = absurd (omega arith)
     go (x ∷ xs) k w = record { reaches = rw q (omega (arith, w .reaches)); content = rw q (w .content) }
 
--- the first bill of a tail, in the part that is lent for it, and the others behind it
-module _ (room : List ℕ) (from : ℕ) {n : ℕ} {first ys : List ℕ} (h : from + length first ≤ length room) (w : WrittenFrom 0 first (lent room from) n ys) where
-  first-written : returned room from ys ≡ (take from room ++ first) ++ drop (length first) (drop from room)
-  unfolding filled
-  first-written =
-      returned-is room from ys
-      ∙ ap (λ (zs : List ℕ). take from room ++ zs) (w .content ∙ ap (filled first) (lent-is room from))
-      ∙ sym (append-assoc (take from room) first (drop (length first) (drop from room)))
+-- one writing after another
+write-on : {from to end : ℕ} {new next room now left : List ℕ} → from + length new ≤ length room → WrittenFrom from new room to now → WrittenFrom to next now end left
+    → WrittenFrom from (new ++ next) room end left
+unfolding filled
+write-on {from} {to} {end} {new} {next} {room} {now} {left} h w v = record {
+  reaches = simp length-append (omega (arith, v .reaches, w .reaches));
+  content = v .content ∙ ap₂ _++_ kept (ap (filled next) behind) ∙ regroup;
+}
+  where
+    parts : now ≡ (take from room ++ new) ++ drop (length new) (drop from room)
+    parts = w .content ∙ sym (append-assoc (take from room) new (drop (length new) (drop from room)))
 
-  head-length : length (take from room ++ first) ≡ from + n
-  head-length = simp (length-append, length-take) (omega (arith, w .reaches))
+    reach : length (take from room ++ new) ≡ to
+    reach = simp (length-append, length-take) (omega (arith, w .reaches))
 
-  returned-length : length (returned room from ys) ≡ length room
-  returned-length = rw first-written (simp (length-append, length-take, length-drop) (omega arith))
+    kept : take to now ≡ take from room ++ new
+    kept = ap (take to) parts ∙ take-at (take from room ++ new) (drop (length new) (drop from room)) to reach
 
-  write-more : {rest new : List ℕ} {to : ℕ} {left : List ℕ} → new ≡ first ++ rest → WrittenFrom (from + n) rest (returned room from ys) to left → WrittenFrom from new room to left
-  unfolding filled
-  write-more {rest} {new} {to} {left} q v = record {
-    reaches = rw q (simp length-append (omega (arith, v .reaches, w .reaches)));
-    content = rw q (v .content ∙ ap₂ _++_ kept (ap (filled rest) behind) ∙ regroup);
-  }
-    where
-      kept : take (from + n) (returned room from ys) ≡ take from room ++ first
-      kept = ap (take (from + n)) first-written ∙ take-at (take from room ++ first) (drop (length first) (drop from room)) (from + n) head-length
+    behind : drop to now ≡ drop (length new) (drop from room)
+    behind = ap (drop to) parts ∙ drop-at (take from room ++ new) (drop (length new) (drop from room)) to reach
 
-      behind : drop (from + n) (returned room from ys) ≡ drop (length first) (drop from room)
-      behind = ap (drop (from + n)) first-written ∙ drop-at (take from room ++ first) (drop (length first) (drop from room)) (from + n) head-length
+    regroup : (take from room ++ new) ++ filled next (drop (length new) (drop from room)) ≡ take from room ++ filled (new ++ next) (drop from room)
+    regroup = rw (length-append new next, drop-drop (length next) (length new) (drop from room)) (simp append-assoc)
 
-      regroup : (take from room ++ first) ++ filled rest (drop (length first) (drop from room)) ≡ take from room ++ filled (first ++ rest) (drop from room)
-      regroup = rw (length-append first rest, drop-drop (length rest) (length first) (drop from room)) (simp append-assoc)
+-- what is written into the part that is lent is written from its start on
+write-lent : (room : List ℕ) (from : ℕ) {n : ℕ} {new ys : List ℕ} → WrittenFrom 0 new (lent room from) n ys → WrittenFrom from new room (from + n) (returned room from ys)
+write-lent room from {n} {new} {ys} w = record {
+  reaches = omega (arith, w .reaches);
+  content = returned-is room from ys ∙ ap (λ (zs : List ℕ). take from room ++ zs) (w .content ∙ ap (filled new) (lent-is room from));
+}
 
 -- what `vertex_bill` goes by: the root is written, and the tail behind it
 module _ {spans tails edges : List ℕ} {depth v : ℕ} {room : List ℕ} (f : VertexFits spans tails edges depth v room) {vs : List ℕ} (q : vs ≡ tailOf spans tails (getD edges v 0)) where
@@ -100,34 +99,43 @@ module _ {spans tails edges : List ℕ} {depth v : ℕ} {room : List ℕ} (f : V
     pub vertex-kept : length left ≡ length room
     vertex-kept = written-length vertex-written (omega (arith, f .fits))
 
--- what `tail_bill` goes by: nothing is left, or the first bill is written and the others behind it
-module _ {spans tails edges : List ℕ} {depth : ℕ} {tail : List ℕ} {at : ℕ} {room : List ℕ} (f : TailFits spans tails edges depth tail at room) where
-  pub tail-done : length tail ≡ 0 → WrittenFrom at (tailBill spans tails edges depth tail) room at room
-  tail-done h = write-none at _ room (bills-none _ tail h)
+-- what `tail_bill` goes by: the bills of the parts up to a place are written, the next one goes behind them
+module _ {spans tails edges : List ℕ} {depth : ℕ} {tail : List ℕ} {from : ℕ} {room : List ℕ} (f : TailFits spans tails edges depth tail from room) where
+  pub none-written : WrittenFrom from (tailBill spans tails edges depth (take 0 tail)) room from room
+  none-written = write-none from _ room (bills-none (vertexBill spans tails edges depth) tail)
 
-  module _ (n : ¬ (length tail ≡ 0)) where
-    lines-more : length (tailBill spans tails edges depth tail) ≡ length (vertexBill spans tails edges depth (getD tail 0 0)) + length (tailBill spans tails edges depth (rest tail))
-    lines-more = bills-length (vertexBill spans tails edges depth) tail n
+  module _ (i : ℕ) {at : ℕ} {now : List ℕ} (w : WrittenFrom from (tailBill spans tails edges depth (take i tail)) room at now) where
+    so-far-within : from + length (tailBill spans tails edges depth (take i tail)) ≤ length room
+    so-far-within = omega (arith, f .fits, bills-within (vertexBill spans tails edges depth) tail i)
 
-    pub first-fits : VertexFits spans tails edges depth (getD tail 0 0) (lent room at)
-    first-fits = record {
-      grounded = each-first _ tail n (f .grounded);
-      fits = omega (arith, f .fits, lines-more, lent-length room at (omega (arith, f .fits)));
-    }
+    pub room-kept : length now ≡ length room
+    room-kept = written-length w so-far-within
 
-    first-within : at + length (vertexBill spans tails edges depth (getD tail 0 0)) ≤ length room
-    first-within = omega (arith, f .fits, lines-more)
+    pub reached-within : at ≤ length now
+    reached-within = omega (arith, w .reaches, so-far-within, room-kept)
 
-    module _ {count : ℕ} {ys : List ℕ} (w : WrittenFrom 0 (vertexBill spans tails edges depth (getD tail 0 0)) (lent room at) count ys) where
-      pub rest-fits : TailFits spans tails edges depth (rest tail) (at + count) (returned room at ys)
-      rest-fits = record {
-        grounded = each-rest _ tail n (f .grounded);
-        fits = omega (arith, f .fits, lines-more, w .reaches, returned-length room at first-within w);
+    pub all-written : length tail ≤ i → WrittenFrom from (tailBill spans tails edges depth tail) room at now
+    all-written h = subst (λ (es : List ℕ). WrittenFrom from es room at now) (bills-all (vertexBill spans tails edges depth) tail h) w
+
+    module _ (h : i < length tail) where
+      next-within : at + length (vertexBill spans tails edges depth (getD tail i 0)) ≤ length now
+      next-within =
+          let before = tailBill spans tails edges depth (take i tail) in
+          let one = vertexBill spans tails edges depth (getD tail i 0) in
+          let long = ap length (bills-next (vertexBill spans tails edges depth) tail h) ∙ length-append before one in
+          omega (arith, f .fits, w .reaches, long, bills-within (vertexBill spans tails edges depth) tail (i + 1), room-kept)
+
+      pub next-fits : VertexFits spans tails edges depth (getD tail i 0) (lent now at)
+      next-fits = record {
+        grounded = each-at (Grounded spans tails edges depth) tail i h (f .grounded);
+        fits = omega (arith, next-within, lent-length now at reached-within);
       }
 
-      module _ {to : ℕ} {left : List ℕ} (v : WrittenFrom (at + count) (tailBill spans tails edges depth (rest tail)) (returned room at ys) to left) where
-        pub tail-written : WrittenFrom at (tailBill spans tails edges depth tail) room to left
-        tail-written = write-more room at first-within w (bills-more _ tail n) v
+      module _ {count : ℕ} {ys : List ℕ} (v : WrittenFrom 0 (vertexBill spans tails edges depth (getD tail i 0)) (lent now at) count ys) where
+        pub next-reached : at + count ≤ length now
+        next-reached = omega (arith, next-within, v .reaches)
 
-        pub tail-kept : length left ≡ length room
-        tail-kept = written-length tail-written (f .fits)
+        pub next-written : WrittenFrom from (tailBill spans tails edges depth (take (i + 1) tail)) room (at + count) (returned now at ys)
+        next-written =
+            let more = write-on so-far-within w (write-lent now at v) in
+            subst (λ (es : List ℕ). WrittenFrom from es room (at + count) (returned now at ys)) (sym (bills-next (vertexBill spans tails edges depth) tail h)) more

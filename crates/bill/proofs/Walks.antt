@@ -1,63 +1,53 @@
 -- The laws by which the walks of a bill go. Assumes nothing.
 use mathlib.Core.Path.{_≡_, refl, sym, _∙_, ap, subst}
-use mathlib.Core.List.{List, [], _∷_, _++_}
-use Prim.Native.Nat.{ℕ, zero, suc, _+_, _-_, _*_, _≤_, _<_}
+use mathlib.Core.List.{List, [], _∷_, _++_, append-assoc, append-nil}
+use Prim.Native.Nat.{ℕ, zero, suc, _+_, _-_, _≤_, _<_}
 use native.Mathlib.Nat.{sub-zero}
+use native.Mathlib.Numerals.{add-one}
 use native.Mathlib.Omega.{arith}
 use native.Mathlib.Decide.{decLe}
-use lib.ListN.{length, getD, take, drop, length-append, length-take, length-drop}
-use lib.Seq.{take-all}
+use lib.ListN.{length, getD, take, drop, length-append, take-append-drop}
+use lib.Seq.{take-all, take-suc}
 use borrow.Author.Tests.{le-leb, lt-leb}
 use Rattle.provenance.specs.Support.{bills, bill}
-use Rattle.columns.specs.Acceptance.{longestTail}
 use Rattle.columns.specs.Columns.{tailOf}
 use Rattle.bill.specs.declared.Budget.{Budget}
 use Rattle.bill.specs.declared.Budget.the-variants.{Left, Spent}
 use Rattle.columns.specs.Lent.{Placed}
 use Rattle.bill.specs.Walk.{vertexBill, tailBill, Each, Grounded, AllGrounded, spend}
 
--- the measure: depth, then the listed parts left; a list of 16 parts and its end are fewer than 18
-abbrev pub μ : (depth left : ℕ) → ℕ
-μ depth left = depth * 18 + left
+-- what holds of every number of a list holds of the one at a place
+pub each-at : (P : ℕ → Type 0) (xs : List ℕ) (i : ℕ) → i < length xs → Each P xs → P (getD xs i 0)
+unfolding Each
+each-at P [] i h ps = absurd (omega arith)
+each-at P (x ∷ xs) zero h ps = ps .0
+each-at P (x ∷ xs) (suc i) h ps = each-at P xs i (omega arith) (ps .1)
 
--- a list without its first number
-abbrev pub rest : List ℕ → List ℕ
-rest xs = take (length xs - 1) (drop 1 xs)
+-- the bills of two lists stand one behind the other
+bills-append : (f : ℕ → List ℕ) (xs ys : List ℕ) → bills f (xs ++ ys) ≡ bills f xs ++ bills f ys
+unfolding bills
+bills-append f [] ys = refl
+bills-append f (x ∷ xs) ys = ap (λ (zs : List ℕ). f x ++ zs) (bills-append f xs ys) ∙ sym (append-assoc (f x) (bills f xs) (bills f ys))
 
-pub rest-shorter : (xs : List ℕ) → ¬ (length xs ≡ 0) → length (rest xs) < length xs
-rest-shorter xs n = simp (length-take, length-drop) (omega arith)
-
-uncons : (xs : List ℕ) → ¬ (length xs ≡ 0) → xs ≡ getD xs 0 0 ∷ rest xs
-uncons [] n = absurd (n refl)
-uncons (x ∷ xs) n = ap (λ (ys : List ℕ). x ∷ ys) (sym (take-all (length (x ∷ xs) - 1) xs (omega arith)))
-
-module _ (P : ℕ → Type 0) (xs : List ℕ) (n : ¬ (length xs ≡ 0)) where
-  each-uncons : Each P xs → Each P (getD xs 0 0 ∷ rest xs)
-  each-uncons = subst (Each P) (uncons xs n)
-
-  pub each-first : Each P xs → P (getD xs 0 0)
-  unfolding Each
-  each-first ps = each-uncons ps .0
-
-  pub each-rest : Each P xs → Each P (rest xs)
-  unfolding Each
-  each-rest ps = each-uncons ps .1
-
+-- the bills of the parts of a list up to a place: of none, of one more, of all, and never longer than these
 module _ (f : ℕ → List ℕ) (xs : List ℕ) where
-  pub bills-none : length xs ≡ 0 → bills f xs ≡ []
+  pub bills-none : bills f (take 0 xs) ≡ []
   unfolding bills
-  bills-none h = go xs h
-    where
-      go : (ys : List ℕ) → length ys ≡ 0 → bills f ys ≡ []
-      go [] k = refl
-      go (y ∷ ys) k = absurd (omega arith)
+  bills-none = refl
 
-  pub bills-more : ¬ (length xs ≡ 0) → bills f xs ≡ f (getD xs 0 0) ++ bills f (rest xs)
+  pub bills-next : {i : ℕ} → i < length xs → bills f (take (i + 1) xs) ≡ bills f (take i xs) ++ f (getD xs i 0)
   unfolding bills
-  bills-more n = ap (bills f) (uncons xs n)
+  bills-next {i} h =
+      let one = ap (λ (z : ℕ). take z xs) (add-one i) ∙ take-suc xs i 0 h in
+      ap (bills f) one ∙ bills-append f (take i xs) (getD xs i 0 ∷ []) ∙ ap (λ (zs : List ℕ). bills f (take i xs) ++ zs) (append-nil (f (getD xs i 0)))
 
-  pub bills-length : ¬ (length xs ≡ 0) → length (bills f xs) ≡ length (f (getD xs 0 0)) + length (bills f (rest xs))
-  bills-length n = ap length (bills-more n) ∙ length-append (f (getD xs 0 0)) (bills f (rest xs))
+  pub bills-all : {i : ℕ} → length xs ≤ i → bills f (take i xs) ≡ bills f xs
+  bills-all {i} h = ap (bills f) (take-all i xs h)
+
+  pub bills-within : (i : ℕ) → length (bills f (take i xs)) ≤ length (bills f xs)
+  bills-within i =
+      let parts = ap (bills f) (sym (take-append-drop i xs)) ∙ bills-append f (take i xs) (drop i xs) in
+      omega (arith, ap length parts, length-append (bills f (take i xs)) (bills f (drop i xs)))
 
 -- a part of the bill: its line, and the parts below it
 module _ (spans tails edges : List ℕ) where
@@ -65,7 +55,6 @@ module _ (spans tails edges : List ℕ) where
     pub deep : 0 < depth
     pub vertex : v < length edges
     pub placed : Placed spans tails (getD edges v 0)
-    pub short : length (tailOf spans tails (getD edges v 0)) ≤ longestTail
     pub below : AllGrounded spans tails edges (depth - 1) (tailOf spans tails (getD edges v 0))
     pub lines : vertexBill spans tails edges depth v ≡ getD edges v 0 ∷ tailBill spans tails edges (depth - 1) (tailOf spans tails (getD edges v 0))
 
@@ -79,7 +68,6 @@ module _ (spans tails edges : List ℕ) where
         deep = omega arith;
         vertex = g .0;
         placed = g .1;
-        short = simp length-take (omega (arith, g .1 .short));
         below = subst (λ (k : ℕ). AllGrounded spans tails edges k tail) (sym e) (g .2);
         lines = ap (λ (k : ℕ). getD edges v 0 ∷ tailBill spans tails edges k tail) (sym e);
       }
@@ -127,15 +115,24 @@ module _ (b : ℕ) {e : ℕ} {es xs : List ℕ} (q : xs ≡ e ∷ es) where
       let k : 1 + length es ≡ length (e ∷ es) = omega arith in
       rw q (p ∙ spend-more b 1 (length es) (omega arith) ∙ ap (spend b) k)
 
--- no part, and one part and then the rest
+-- a budget pays for the parts of a list up to a place: for none, for one more, for all
 module _ (b : ℕ) (f : ℕ → List ℕ) (xs : List ℕ) where
-  pub tail-paid : length xs ≡ 0 → Left b ≡ spend b (length (bills f xs))
-  tail-paid h = rw (bills-none f xs h) (sym (spend-paid b 0 (omega arith) ∙ ap Left (sub-zero b)))
+  pub none-paid : Left b ≡ spend b (length (bills f (take 0 xs)))
+  none-paid = rw (bills-none f xs) (sym (spend-paid b 0 (omega arith) ∙ ap Left (sub-zero b)))
 
-  pub first-unpaid : ¬ (length xs ≡ 0) → spend b (length (f (getD xs 0 0))) ≡ Spent → Spent ≡ spend b (length (bills f xs))
-  first-unpaid n p = sym (spend-short b (length (bills f xs)) (omega (arith, bills-length f xs n, is-spent b (length (f (getD xs 0 0))) p)))
+  module _ {i l : ℕ} (p : Left l ≡ spend b (length (bills f (take i xs)))) where
+    pub all-paid : length xs ≤ i → Left l ≡ spend b (length (bills f xs))
+    all-paid h = p ∙ ap (λ (es : List ℕ). spend b (length es)) (bills-all f xs h)
 
-  pub first-paid : ¬ (length xs ≡ 0) → {l : ℕ} → spend b (length (f (getD xs 0 0))) ≡ Left l → {r : Budget} → r ≡ spend l (length (bills f (rest xs))) → r ≡ spend b (length (bills f xs))
-  first-paid n {l} p q =
-      let h = is-left b (length (f (getD xs 0 0))) p in
-      q ∙ ap (λ (k : ℕ). spend k (length (bills f (rest xs)))) (h .1) ∙ spend-more b (length (f (getD xs 0 0))) (length (bills f (rest xs))) (h .0) ∙ ap (spend b) (sym (bills-length f xs n))
+    pub next-paid : i < length xs → {r : Budget} → r ≡ spend l (length (f (getD xs i 0))) → r ≡ spend b (length (bills f (take (i + 1) xs)))
+    next-paid h q =
+        let n = length (bills f (take i xs)) in
+        let m = length (f (getD xs i 0)) in
+        let k = is-left b n (sym p) in
+        let one = ap length (bills-next f xs h) ∙ length-append (bills f (take i xs)) (f (getD xs i 0)) in
+        q ∙ ap (λ (z : ℕ). spend z m) (k .1) ∙ spend-more b n m (k .0) ∙ ap (spend b) (sym one)
+
+    pub next-unpaid : i < length xs → Spent ≡ spend l (length (f (getD xs i 0))) → Spent ≡ spend b (length (bills f xs))
+    next-unpaid h q =
+        let n = is-spent b (length (bills f (take (i + 1) xs))) (sym (next-paid h q)) in
+        sym (spend-short b (length (bills f xs)) (omega (arith, n, bills-within f xs (i + 1))))

@@ -66,7 +66,8 @@ fn vertex_spend(
     Budget::Left(rest)
 }
 
-// The same for the bills of the vertices of a tail.
+// The same for the bills of the vertices of a tail. A loop, so that the stack grows with the depth of
+// a bill and not with the lengths of its tails.
 fn tail_spend(
     depth: u64,
     tail: &[u64],
@@ -80,15 +81,18 @@ fn tail_spend(
     ensures { λ r. ⌜ r ≡ spend budget (length (tailBill (now (spans .entry)) (now (tails .entry)) (now (edges .entry)) depth (now (tail .entry)))) ⌝ }
     ensures known { λ r. ⌜ KnownStill (now (spans .entry)) (now (tails .entry)) (now (edges .entry)) (now (lengths .entry)) (now (lengths .exit)) ⌝ }
 {
-    if tail.len() == 0 {
-        return Budget::Left(budget);
+    let mut left = budget;
+    let mut i = 0;
+    while i < tail.len() {
+        let v = tail[i];
+        let b = vertex_spend(depth, Vertex(v), spans, tails, edges, lengths, left);
+        let Budget::Left(rest) = b else {
+            return Budget::Spent;
+        };
+        left = rest;
+        i += 1;
     }
-    let v = tail[0];
-    let b = vertex_spend(depth, Vertex(v), spans, tails, edges, lengths, budget);
-    let Budget::Left(rest) = b else {
-        return Budget::Spent;
-    };
-    tail_spend(depth, &tail[1..], spans, tails, edges, lengths, rest)
+    Budget::Left(left)
 }
 
 // Writes the bill of v, which is at most `depth` deep, from the start of a room that holds it, and
@@ -125,20 +129,15 @@ fn tail_bill(
     requires { ⌜ TailFits (now spans) (now tails) (now edges) depth (now tail) filled (now room) ⌝ }
     ensures { λ r. ⌜ WrittenFrom filled (tailBill (now (spans .entry)) (now (tails .entry)) (now (edges .entry)) depth (now (tail .entry))) (now (room .entry)) r (now (room .exit)) ⌝ }
 {
-    if tail.len() == 0 {
-        return filled;
+    let mut at = filled;
+    let mut i = 0;
+    while i < tail.len() {
+        let v = tail[i];
+        let length = vertex_bill(depth, Vertex(v), spans, tails, edges, &mut room[at..]);
+        at += length;
+        i += 1;
     }
-    let v = tail[0];
-    let length = vertex_bill(depth, Vertex(v), spans, tails, edges, &mut room[filled..]);
-    tail_bill(
-        depth,
-        &tail[1..],
-        spans,
-        tails,
-        edges,
-        room,
-        filled + length,
-    )
+    at
 }
 
 // Whether the table, the answers and the part allow a bill: 1 to 7 and 21, 11, 8 and 12.

@@ -1,15 +1,15 @@
 -- `bill::vertex_bill` and `bill::tail_bill` meet their contracts: the root is written, and behind it the bills of the tail, each into what remains of the room. Depth
--- falls, then the tail that is left. Assumes nothing.
-use mathlib.Core.Path.{refl, ap}
-use Prim.Native.Nat.{ℕ, _+_, _<_}
-use native.Mathlib.Nat.{pos-of-ne-zero}
+-- falls from a part to its tail. Assumes nothing.
+use mathlib.Core.Path.{refl}
+use Prim.Native.Nat.{ℕ, _+_, _-_, _*_, _<_}
 use native.Mathlib.Omega.{arith}
 use borrow.Author.Needs.{needs}
 use borrow.Fn.Kinds.{In}
 use borrow.Fn.PlainCycle.{Measures, is, falls, and}
-use lib.ListN.{length}
-use Rattle.bill.proofs.Walks.{μ, rest-shorter, grounded}
-use Rattle.bill.proofs.Rooms.{root-fits, below-fits, vertex-written, vertex-kept, tail-done, first-fits, rest-fits, tail-written, tail-kept}
+use lib.ListN.{length, take}
+use Rattle.bill.specs.Walk.{tailBill, WrittenFrom}
+use Rattle.bill.proofs.Walks.{grounded}
+use Rattle.bill.proofs.Rooms.{root-fits, below-fits, vertex-written, vertex-kept, none-written, room-kept, reached-within, all-written, next-fits, next-reached, next-written}
 use Rattle.bill.proofs.tail_bill.Reads as tail
 use Rattle.bill.proofs.tail_bill.Kinds as tail-kinds
 use Rattle.bill.proofs.+tail_bill+vertex_bill.Lts-tail_bill as tail-lts
@@ -20,11 +20,12 @@ use Rattle.columns.proofs.tail_of.Reads as tail-of
 use Rattle.bill.proofs.+tail_bill+vertex_bill.{statement}
 use Rattle.bill.proofs.+tail_bill+vertex_bill.Tie.{close}
 
+-- a tail calls at its own depth, a vertex at one less
 abbrev μ-tail : Measures 5 tail-kinds.ps ℕ
-μ-tail κs a = μ (a .0) (length (a .1 .0 .now) + 1)
+μ-tail κs a = 2 * a .0 + 1
 
 abbrev μ-vertex : Measures 4 vertex-kinds.ps ℕ
-μ-vertex κs a = μ (a .0) 0
+μ-vertex κs a = 2 * a .0
 
 -- what each is given at the measure t, and what a call of it asks below t
 abbrev tail-at : ℕ → In 5 tail-kinds.ps
@@ -39,63 +40,74 @@ vertex-at t = and 4 vertex-kinds.ps (is 4 vertex-kinds.ps μ-vertex t) vertex.Pr
 abbrev vertex-below : ℕ → In 4 vertex-kinds.ps
 vertex-below t = and 4 vertex-kinds.ps (falls 4 vertex-kinds.ps _<_ μ-vertex t) vertex.Pre
 
-tail-returns : (t : ℕ) → tail-lts.Need-returns (vertex-below t, vertex.Post, tail-below t, tail.Post) (tail-at t) tail.Post
-tail-returns t c = tail-done (c .before .before .before .before .before .before .pre .1) (c .if1 .taken)
+-- the bills of the parts up to i are written from the start on, and reach to `at`
+abbrev Inv-loop : tail-lts.InvT-loop
+Inv-loop depth tail spans tails edges room₀ filled at₀ i₀ room at i = WrittenFrom filled (tailBill spans tails edges depth (take i tail)) room₀ at room
 
-tail-shared-slice-read-v : (t : ℕ) → tail-lts.Need-shared-slice-read-v (vertex-below t, vertex.Post, tail-below t, tail.Post) (tail-at t) tail.Post
-tail-shared-slice-read-v t c = pos-of-ne-zero (c .before .if1 .left)
+abbrev μ-loop : tail-lts.MeasureT-loop
+μ-loop depth tail spans tails edges room₀ filled at₀ i₀ room at i = length tail - i
 
-tail-mul-vertex-bill : (t : ℕ) → tail-lts.Need-mul-vertex-bill (vertex-below t, vertex.Post, tail-below t, tail.Post) (tail-at t) tail.Post
-tail-mul-vertex-bill t c = search needs
+-- the function's entry, from the head of the loop
+abbrev entry : {t : ℕ} → tail-lts.At-loop (vertex-below t, vertex.Post) (tail-at t) tail.Post Inv-loop μ-loop →
+    tail-lts.Start (vertex-below t, vertex.Post) (tail-at t) tail.Post Inv-loop μ-loop
+entry l = l .before .before .before .before .before .before
 
-tail-sub-vertex-bill : (t : ℕ) → tail-lts.Need-sub-vertex-bill (vertex-below t, vertex.Post, tail-below t, tail.Post) (tail-at t) tail.Post
-tail-sub-vertex-bill t c = search needs
+tail-loop-holds : (t : ℕ) → tail-lts.Need-loop-holds (vertex-below t, vertex.Post) (tail-at t) tail.Post Inv-loop μ-loop
+tail-loop-holds t c = none-written (c .before .before .before .before .before .pre .1)
 
-tail-part-vertex-bill-start : (t : ℕ) → tail-lts.Need-part-vertex-bill-start (vertex-below t, vertex.Post, tail-below t, tail.Post) (tail-at t) tail.Post
-tail-part-vertex-bill-start t c = search needs
+tail-mul-v : (t : ℕ) → tail-lts.Need-mul-v (vertex-below t, vertex.Post) (tail-at t) tail.Post Inv-loop μ-loop
+tail-mul-v t c = search needs
 
-tail-part-vertex-bill-end : (t : ℕ) → tail-lts.Need-part-vertex-bill-end (vertex-below t, vertex.Post, tail-below t, tail.Post) (tail-at t) tail.Post
+tail-shared-slice-read-v : (t : ℕ) → tail-lts.Need-shared-slice-read-v (vertex-below t, vertex.Post) (tail-at t) tail.Post Inv-loop μ-loop
+tail-shared-slice-read-v t c = search needs
+
+tail-mul-vertex-bill : (t : ℕ) → tail-lts.Need-mul-vertex-bill (vertex-below t, vertex.Post) (tail-at t) tail.Post Inv-loop μ-loop
+tail-mul-vertex-bill t c =
+    let l = c .before .before in
+    let f = entry l .pre .1 in
+    omega (arith, reached-within f (l .loop .i) (l .loop .inv), room-kept f (l .loop .i) (l .loop .inv))
+
+tail-sub-vertex-bill : (t : ℕ) → tail-lts.Need-sub-vertex-bill (vertex-below t, vertex.Post) (tail-at t) tail.Post Inv-loop μ-loop
+tail-sub-vertex-bill t c = let l = c .before .before in reached-within (entry l .pre .1) (l .loop .i) (l .loop .inv)
+
+tail-part-vertex-bill-start : (t : ℕ) → tail-lts.Need-part-vertex-bill-start (vertex-below t, vertex.Post) (tail-at t) tail.Post Inv-loop μ-loop
+tail-part-vertex-bill-start t c = let l = c .before .before in reached-within (entry l .pre .1) (l .loop .i) (l .loop .inv)
+
+tail-part-vertex-bill-end : (t : ℕ) → tail-lts.Need-part-vertex-bill-end (vertex-below t, vertex.Post) (tail-at t) tail.Post Inv-loop μ-loop
 tail-part-vertex-bill-end t c = search needs
 
-tail-vertex-bill-requires : (t : ℕ) → tail-lts.Need-vertex-bill-requires (vertex-below t, vertex.Post, tail-below t, tail.Post) (tail-at t) tail.Post
-tail-vertex-bill-requires t c κs = (
-  omega (arith, c .before .before .before .before .before .before .before .before .pre .0),
-  first-fits (c .before .before .before .before .before .before .before .before .pre .1) (c .before .before .if1 .left),
-)
+tail-vertex-bill-requires : (t : ℕ) → tail-lts.Need-vertex-bill-requires (vertex-below t, vertex.Post) (tail-at t) tail.Post Inv-loop μ-loop
+tail-vertex-bill-requires t c κs =
+    let k = c .before .before in
+    let s = entry (k .before) in
+    (omega (arith, s .pre .0), next-fits (s .pre .1) (k .before .loop .i) (k .before .loop .inv) (k .loop-test .taken))
 
-tail-sub-tail-bill : (t : ℕ) → tail-lts.Need-sub-tail-bill (vertex-below t, vertex.Post, tail-below t, tail.Post) (tail-at t) tail.Post
-tail-sub-tail-bill t c = pos-of-ne-zero (c .before .before .before .before .before .if1 .left)
+tail-add-at : (t : ℕ) → tail-lts.Need-add-at (vertex-below t, vertex.Post) (tail-at t) tail.Post Inv-loop μ-loop
+tail-add-at t c =
+    let p = c .before .before in
+    let k = p .before .before .before in
+    let l = k .before in
+    let f = entry l .pre .1 in
+    let reached = next-reached f (l .loop .i) (l .loop .inv) (k .loop-test .taken) (p .vertex-bill .ensures) in
+    omega (arith, reached, room-kept f (l .loop .i) (l .loop .inv), entry l .good)
 
-tail-part-tail-bill-start : (t : ℕ) → tail-lts.Need-part-tail-bill-start (vertex-below t, vertex.Post, tail-below t, tail.Post) (tail-at t) tail.Post
-tail-part-tail-bill-start t c = pos-of-ne-zero (c .before .before .before .before .before .if1 .left)
+tail-add-i : (t : ℕ) → tail-lts.Need-add-i (vertex-below t, vertex.Post) (tail-at t) tail.Post Inv-loop μ-loop
+tail-add-i t c = search needs
 
-tail-part-tail-bill-end : (t : ℕ) → tail-lts.Need-part-tail-bill-end (vertex-below t, vertex.Post, tail-below t, tail.Post) (tail-at t) tail.Post
-tail-part-tail-bill-end t c = search needs
+tail-loop-less : (t : ℕ) → tail-lts.Need-loop-less (vertex-below t, vertex.Post) (tail-at t) tail.Post Inv-loop μ-loop
+tail-loop-less t c = search needs
 
-tail-add-tail-bill : (t : ℕ) → tail-lts.Need-add-tail-bill (vertex-below t, vertex.Post, tail-below t, tail.Post) (tail-at t) tail.Post
-tail-add-tail-bill t c =
-    let s = c .before .before .before .before .before .before .before .before .before .before .before .before .before in
-    omega (arith, rest-fits (s .pre .1) (c .before .before .before .before .before .before .before .if1 .left) (c .before .before .before .before .vertex-bill .ensures) .fits)
+tail-loop-again : (t : ℕ) → tail-lts.Need-loop-again (vertex-below t, vertex.Post) (tail-at t) tail.Post Inv-loop μ-loop
+tail-loop-again t c =
+    let p = c .before .before in
+    let k = p .before .before .before in
+    next-written (entry (k .before) .pre .1) (k .before .loop .i) (k .before .loop .inv) (k .loop-test .taken) (p .vertex-bill .ensures)
 
-tail-tail-bill-requires : (t : ℕ) → tail-lts.Need-tail-bill-requires (vertex-below t, vertex.Post, tail-below t, tail.Post) (tail-at t) tail.Post
-tail-tail-bill-requires t c κs =
-    let s = c .before .before .before .before .before .before .before .before .before .before .before .before .before in
-    let n = c .before .before .before .before .before .before .before .if1 .left in
-    (omega (arith, s .pre .0, rest-shorter (s .args .tail .now) n), rest-fits (s .pre .1) n (c .before .before .before .before .vertex-bill .ensures))
+tail-same-length : (t : ℕ) → tail-lts.Need-same-length (vertex-below t, vertex.Post) (tail-at t) tail.Post Inv-loop μ-loop
+tail-same-length t c = let l = c .before in room-kept (entry l .pre .1) (l .loop .i) (l .loop .inv)
 
-tail-same-length : (t : ℕ) → tail-lts.Need-same-length (vertex-below t, vertex.Post, tail-below t, tail.Post) (tail-at t) tail.Post
-tail-same-length t c =
-    tail-kept
-    (c .before .before .before .before .before .before .before .before .before .before .before .before .before .before .before .before .pre .1)
-    (c .before .before .before .before .before .before .before .before .before .before .if1 .left)
-    (c .before .before .before .before .before .before .before .vertex-bill .ensures) (c .before .before .tail-bill .ensures)
-
-tail-returns-2 : (t : ℕ) → tail-lts.Need-returns-2 (vertex-below t, vertex.Post, tail-below t, tail.Post) (tail-at t) tail.Post
-tail-returns-2 t c =
-    tail-written
-    (c .before .before .before .before .before .before .before .before .before .before .before .before .before .before .before .before .pre .1)
-    (c .before .before .before .before .before .before .before .before .before .before .if1 .left)
-    (c .before .before .before .before .before .before .before .vertex-bill .ensures) (c .before .before .tail-bill .ensures)
+tail-returns : (t : ℕ) → tail-lts.Need-returns (vertex-below t, vertex.Post) (tail-at t) tail.Post Inv-loop μ-loop
+tail-returns t c = let l = c .before in all-written (entry l .pre .1) (l .loop .i) (l .loop .inv) (c .loop-test .left)
 
 vertex-mul-root : (t : ℕ) → vertex-lts.Need-mul-root (tail-of.Asked, tail-of.Learnt, tail-below t, tail.Post) (vertex-at t) vertex.Post
 vertex-mul-root t c = omega (arith, grounded _ _ _ _ _ (c .before .before .before .before .pre .1 .grounded) .vertex)
@@ -116,7 +128,7 @@ vertex-tail-bill-requires : (t : ℕ) → vertex-lts.Need-tail-bill-requires (ta
 vertex-tail-bill-requires t c κs =
     let s = c .before .before .before .before .before .before .before in
     let g = grounded _ _ _ _ _ (s .pre .1 .grounded) in
-    (omega (arith, s .pre .0, g .deep, g .short, ap length (c .before .tail-of .ensures)), below-fits (s .pre .1) (c .before .tail-of .ensures))
+    (omega (arith, s .pre .0, g .deep), below-fits (s .pre .1) (c .before .tail-of .ensures))
 
 vertex-same-length : (t : ℕ) → vertex-lts.Need-same-length (tail-of.Asked, tail-of.Learnt, tail-below t, tail.Post) (vertex-at t) vertex.Post
 vertex-same-length t c =
@@ -133,21 +145,23 @@ pub +tail-bill+vertex-bill-spec : {M : Type 1} → statement M
     close
     μ-tail
     μ-vertex
-    (λ t. tail-lts.spec (vertex-below t, vertex.Post, tail-below t, tail.Post) (tail-at t) tail.Post
-    (tail-returns t)
+    (λ t. tail-lts.spec (vertex-below t, vertex.Post) (tail-at t) tail.Post
+    Inv-loop
+    μ-loop
+    (tail-loop-holds t)
+    (tail-mul-v t)
     (tail-shared-slice-read-v t)
     (tail-mul-vertex-bill t)
     (tail-sub-vertex-bill t)
     (tail-part-vertex-bill-start t)
     (tail-part-vertex-bill-end t)
     (tail-vertex-bill-requires t)
-    (tail-sub-tail-bill t)
-    (tail-part-tail-bill-start t)
-    (tail-part-tail-bill-end t)
-    (tail-add-tail-bill t)
-    (tail-tail-bill-requires t)
+    (tail-add-at t)
+    (tail-add-i t)
+    (tail-loop-less t)
+    (tail-loop-again t)
     (tail-same-length t)
-    (tail-returns-2 t))
+    (tail-returns t))
     (λ t. vertex-lts.spec (tail-of.Asked, tail-of.Learnt, tail-below t, tail.Post) (vertex-at t) vertex.Post
     (vertex-mul-root t)
     (vertex-shared-slice-read-root t)

@@ -1,17 +1,17 @@
 -- `bill::vertex_spend` and `bill::tail_spend` meet their contracts: a budget pays for a bill whose length is known at once, and else for the root, then for the bills of
--- the tail one after the other. Depth falls, then the tail that is left. Assumes nothing.
+-- the tail one after the other. Depth falls from a part to its tail. Assumes nothing.
 use mathlib.Core.Path.{_≡_, sym, _∙_, ap, subst}
 use mathlib.Core.List.{List}
-use Prim.Native.Nat.{ℕ, _+_, _-_, _≤_, _<_}
-use native.Mathlib.Nat.{pos-of-ne-zero}
+use Prim.Native.Nat.{ℕ, _+_, _-_, _*_, _≤_, _<_}
 use native.Mathlib.Omega.{arith}
 use borrow.Author.Needs.{needs}
 use borrow.Fn.Kinds.{In}
 use borrow.Fn.PlainCycle.{Measures, is, falls, and}
-use lib.ListN.{length, set, length-set}
+use lib.ListN.{length, take, set, length-set}
 use Rattle.bill.specs.declared.Budget.{Budget}
+use Rattle.bill.specs.declared.Budget.the-variants.{Left}
 use Rattle.bill.specs.Walk.{vertexBill, tailBill, AllGrounded, KnownStill, spend}
-use Rattle.bill.proofs.Walks.{μ, rest-shorter, each-first, each-rest, grounded, is-left, root-unpaid, root-paid, tail-paid, first-unpaid, first-paid}
+use Rattle.bill.proofs.Walks.{each-at, grounded, is-left, root-unpaid, root-paid, none-paid, all-paid, next-paid, next-unpaid}
 use Rattle.bill.proofs.Lengths.{still-known, known-on, vertex-known, known-paid, known-more}
 use Rattle.bill.proofs.tail_spend.Reads as tail
 use Rattle.bill.proofs.tail_spend.Kinds as tail-kinds
@@ -24,11 +24,12 @@ use Rattle.columns.proofs.tail_of.Reads as tail-of
 use Rattle.bill.proofs.+tail_spend+vertex_spend.{statement}
 use Rattle.bill.proofs.+tail_spend+vertex_spend.Tie.{close}
 
+-- a tail calls at its own depth, a vertex at one less
 abbrev μ-tail : Measures 5 tail-kinds.ps ℕ
-μ-tail κs a = μ (a .0) (length (a .1 .0 .now) + 1)
+μ-tail κs a = 2 * a .0 + 1
 
 abbrev μ-vertex : Measures 4 vertex-kinds.ps ℕ
-μ-vertex κs a = μ (a .0) 0
+μ-vertex κs a = 2 * a .0
 
 -- what each is given at the measure t, and what a call of it asks below t
 abbrev tail-at : ℕ → In 5 tail-kinds.ps
@@ -43,56 +44,72 @@ vertex-at t = and 4 vertex-kinds.ps (is 4 vertex-kinds.ps μ-vertex t) vertex.Pr
 abbrev vertex-below : ℕ → In 4 vertex-kinds.ps
 vertex-below t = and 4 vertex-kinds.ps (falls 4 vertex-kinds.ps _<_ μ-vertex t) vertex.Pre
 
-tail-returns : (t : ℕ) → tail-lts.Need-returns (vertex-below t, vertex.Post, tail-below t, tail.Post) (tail-at t) tail.Post
-tail-returns t c = (tail-paid _ _ _ (c .if1 .taken), still-known (c .before .before .before .before .before .before .pre .1 .1))
+-- the parts up to i are paid, `left` is what they leave, and the column of lengths is right
+abbrev Inv-loop : tail-lts.InvT-loop
+Inv-loop depth tail spans tails edges lengths₀ budget left₀ i₀ lengths left i =
+    (Left left ≡ spend budget (length (tailBill spans tails edges depth (take i tail)))) × KnownStill spans tails edges lengths₀ lengths
 
-tail-shared-slice-read-v : (t : ℕ) → tail-lts.Need-shared-slice-read-v (vertex-below t, vertex.Post, tail-below t, tail.Post) (tail-at t) tail.Post
-tail-shared-slice-read-v t c = pos-of-ne-zero (c .before .if1 .left)
+abbrev μ-loop : tail-lts.MeasureT-loop
+μ-loop depth tail spans tails edges lengths₀ budget left₀ i₀ lengths left i = length tail - i
 
-tail-vertex-spend-requires : (t : ℕ) → tail-lts.Need-vertex-spend-requires (vertex-below t, vertex.Post, tail-below t, tail.Post) (tail-at t) tail.Post
+-- the function's entry, from the head of the loop
+abbrev entry : {t : ℕ} → tail-lts.At-loop (vertex-below t, vertex.Post) (tail-at t) tail.Post Inv-loop μ-loop →
+    tail-lts.Start (vertex-below t, vertex.Post) (tail-at t) tail.Post Inv-loop μ-loop
+entry l = l .before .before .before .before .before .before
+
+tail-loop-holds : (t : ℕ) → tail-lts.Need-loop-holds (vertex-below t, vertex.Post) (tail-at t) tail.Post Inv-loop μ-loop
+tail-loop-holds t c = let s = c .before .before .before .before .before in (none-paid _ _ (s .args .tail .now), still-known (s .pre .1 .1))
+
+tail-mul-v : (t : ℕ) → tail-lts.Need-mul-v (vertex-below t, vertex.Post) (tail-at t) tail.Post Inv-loop μ-loop
+tail-mul-v t c = search needs
+
+tail-shared-slice-read-v : (t : ℕ) → tail-lts.Need-shared-slice-read-v (vertex-below t, vertex.Post) (tail-at t) tail.Post Inv-loop μ-loop
+tail-shared-slice-read-v t c = search needs
+
+tail-vertex-spend-requires : (t : ℕ) → tail-lts.Need-vertex-spend-requires (vertex-below t, vertex.Post) (tail-at t) tail.Post Inv-loop μ-loop
 tail-vertex-spend-requires t c κs =
-    let s = c .before .before .before .before .before .before .before .before in
-    (omega (arith, s .pre .0), (each-first _ _ (c .before .before .if1 .left) (s .pre .1 .0), s .pre .1 .1))
+    let k = c .before .before in
+    let s = entry (k .before) in
+    (omega (arith, s .pre .0), (each-at _ _ _ (k .loop-test .taken) (s .pre .1 .0), k .before .loop .inv .1 .known))
 
-tail-enum-known-b : (t : ℕ) → tail-lts.Need-enum-known-b (vertex-below t, vertex.Post, tail-below t, tail.Post) (tail-at t) tail.Post
+tail-enum-known-b : (t : ℕ) → tail-lts.Need-enum-known-b (vertex-below t, vertex.Post) (tail-at t) tail.Post Inv-loop μ-loop
 tail-enum-known-b t c = search needs
 
-tail-enum-told : (t : ℕ) → tail-lts.Need-enum-told (vertex-below t, vertex.Post, tail-below t, tail.Post) (tail-at t) tail.Post
+tail-enum-told : (t : ℕ) → tail-lts.Need-enum-told (vertex-below t, vertex.Post) (tail-at t) tail.Post Inv-loop μ-loop
 tail-enum-told t c = search needs
 
-tail-same-length : (t : ℕ) → tail-lts.Need-same-length (vertex-below t, vertex.Post, tail-below t, tail.Post) (tail-at t) tail.Post
-tail-same-length t c = c .before .before .before .before .vertex-spend .ensures .1 .long
+tail-same-length : (t : ℕ) → tail-lts.Need-same-length (vertex-below t, vertex.Post) (tail-at t) tail.Post Inv-loop μ-loop
+tail-same-length t c =
+    let p = c .before .before .before .before in
+    known-on (p .before .before .before .before .loop .inv .1) (p .vertex-spend .ensures .1) .long
 
-tail-returns-2 : (t : ℕ) → tail-lts.Need-returns-2 (vertex-below t, vertex.Post, tail-below t, tail.Post) (tail-at t) tail.Post
-tail-returns-2 t c =
-    let first = c .before .before .before .before .vertex-spend .ensures in
-    (first-unpaid _ _ _ (c .before .before .before .before .before .before .before .if1 .left) (sym (first .0) ∙ c .enum-told .given .1), first .1)
+tail-returns : (t : ℕ) → tail-lts.Need-returns (vertex-below t, vertex.Post) (tail-at t) tail.Post Inv-loop μ-loop
+tail-returns t c =
+    let p = c .before .before .before .before in
+    let k = p .before .before .before in
+    let next = p .vertex-spend .ensures in
+    let so-far = k .before .loop .inv in
+    (next-unpaid _ _ _ (so-far .0) (k .loop-test .taken) (sym (c .enum-told .given .1) ∙ next .0), known-on (so-far .1) (next .1))
 
-tail-sub-tail-spend : (t : ℕ) → tail-lts.Need-sub-tail-spend (vertex-below t, vertex.Post, tail-below t, tail.Post) (tail-at t) tail.Post
-tail-sub-tail-spend t c = pos-of-ne-zero (c .before .before .before .before .before .before .before .before .if1 .left)
+tail-add-i : (t : ℕ) → tail-lts.Need-add-i (vertex-below t, vertex.Post) (tail-at t) tail.Post Inv-loop μ-loop
+tail-add-i t c = search needs
 
-tail-part-tail-spend-start : (t : ℕ) → tail-lts.Need-part-tail-spend-start (vertex-below t, vertex.Post, tail-below t, tail.Post) (tail-at t) tail.Post
-tail-part-tail-spend-start t c = pos-of-ne-zero (c .before .before .before .before .before .before .before .before .if1 .left)
+tail-loop-less : (t : ℕ) → tail-lts.Need-loop-less (vertex-below t, vertex.Post) (tail-at t) tail.Post Inv-loop μ-loop
+tail-loop-less t c = search needs
 
-tail-part-tail-spend-end : (t : ℕ) → tail-lts.Need-part-tail-spend-end (vertex-below t, vertex.Post, tail-below t, tail.Post) (tail-at t) tail.Post
-tail-part-tail-spend-end t c = search needs
+tail-loop-again : (t : ℕ) → tail-lts.Need-loop-again (vertex-below t, vertex.Post) (tail-at t) tail.Post Inv-loop μ-loop
+tail-loop-again t c =
+    let p = c .before .before .before .before .before in
+    let k = p .before .before .before in
+    let next = p .vertex-spend .ensures in
+    let so-far = k .before .loop .inv in
+    (next-paid _ _ _ (so-far .0) (k .loop-test .taken) (sym (c .before .b .given .1) ∙ next .0), known-on (so-far .1) (next .1))
 
-tail-tail-spend-requires : (t : ℕ) → tail-lts.Need-tail-spend-requires (vertex-below t, vertex.Post, tail-below t, tail.Post) (tail-at t) tail.Post
-tail-tail-spend-requires t c κs =
-    let s = c .before .before .before .before .before .before .before .before .before .before .before .before .before .before .before .before in
-    let n = c .before .before .before .before .before .before .before .before .before .before .if1 .left in
-    let known = c .before .before .before .before .before .before .before .vertex-spend .ensures .1 .known in
-    (omega (arith, s .pre .0, rest-shorter (s .args .tail .now) n), (each-rest _ _ n (s .pre .1 .0), known))
+tail-same-length-2 : (t : ℕ) → tail-lts.Need-same-length-2 (vertex-below t, vertex.Post) (tail-at t) tail.Post Inv-loop μ-loop
+tail-same-length-2 t c = c .before .loop .inv .1 .long
 
-tail-same-length-2 : (t : ℕ) → tail-lts.Need-same-length-2 (vertex-below t, vertex.Post, tail-below t, tail.Post) (tail-at t) tail.Post
-tail-same-length-2 t c = known-on (c .before .before .before .before .before .before .before .before .before .before .vertex-spend .ensures .1) (c .before .before .tail-spend .ensures .1) .long
-
-tail-returns-3 : (t : ℕ) → tail-lts.Need-returns-3 (vertex-below t, vertex.Post, tail-below t, tail.Post) (tail-at t) tail.Post
-tail-returns-3 t c =
-    let n = c .before .before .before .before .before .before .before .before .before .before .before .before .before .if1 .left in
-    let first = c .before .before .before .before .before .before .before .before .before .before .vertex-spend .ensures in
-    let rest = c .before .before .tail-spend .ensures in
-    (first-paid _ _ _ n (sym (first .0) ∙ c .before .before .before .before .before .before .b .given .1) (rest .0), known-on (first .1) (rest .1))
+tail-returns-2 : (t : ℕ) → tail-lts.Need-returns-2 (vertex-below t, vertex.Post) (tail-at t) tail.Post Inv-loop μ-loop
+tail-returns-2 t c = let all = c .before .loop .inv in (all-paid _ _ _ (all .0) (c .loop-test .left), all .1)
 
 vertex-returns : (t : ℕ) → vertex-lts.Need-returns (pay.Asked, pay.Learnt, tail-of.Asked, tail-of.Learnt, tail-below t, tail.Post) (vertex-at t) vertex.Post
 vertex-returns t c =
@@ -132,7 +149,7 @@ vertex-tail-spend-requires : (t : ℕ) → vertex-lts.Need-tail-spend-requires (
 vertex-tail-spend-requires t c κs =
     let s = c .before .before .before .before .before .before .before .before .before .before in
     let g = grounded _ _ _ _ _ (s .pre .1 .0) in (
-      omega (arith, s .pre .0, g .deep, g .short, ap length (c .before .tail-of .ensures)),
+      omega (arith, s .pre .0, g .deep),
       (
         subst (AllGrounded (s .args .spans .now) (s .args .tails .now) (s .args .edges .now) (s .args .depth - 1)) (sym (c .before .tail-of .ensures)) (g .below),
         s .pre .1 .1,
@@ -210,20 +227,22 @@ pub +tail-spend+vertex-spend-spec : {M : Type 1} → statement M
     close
     μ-tail
     μ-vertex
-    (λ t. tail-lts.spec (vertex-below t, vertex.Post, tail-below t, tail.Post) (tail-at t) tail.Post
-    (tail-returns t)
+    (λ t. tail-lts.spec (vertex-below t, vertex.Post) (tail-at t) tail.Post
+    Inv-loop
+    μ-loop
+    (tail-loop-holds t)
+    (tail-mul-v t)
     (tail-shared-slice-read-v t)
     (tail-vertex-spend-requires t)
     (tail-enum-known-b t)
     (tail-enum-told t)
     (tail-same-length t)
-    (tail-returns-2 t)
-    (tail-sub-tail-spend t)
-    (tail-part-tail-spend-start t)
-    (tail-part-tail-spend-end t)
-    (tail-tail-spend-requires t)
+    (tail-returns t)
+    (tail-add-i t)
+    (tail-loop-less t)
+    (tail-loop-again t)
     (tail-same-length-2 t)
-    (tail-returns-3 t))
+    (tail-returns-2 t))
     (λ t. vertex-lts.spec (pay.Asked, pay.Learnt, tail-of.Asked, tail-of.Learnt, tail-below t, tail.Post) (vertex-at t) vertex.Post
     (vertex-returns t)
     (vertex-mul-known t)
