@@ -102,7 +102,8 @@ module _ (m : Measure) (c : Columns) (a : Entries) (v places : ℕ) where
   unfolding billAcceptance partAcceptance
   right-bill g =
       let p = lent-exactly c a .1 (g .lent) in
-      rw (p, lt-ltb v (c .vertices) (g .part), same-exactly m c a p .1 (g .answers), lt-ltb 0 k (made-deep (g .answers v (g .part) .means) (g .made)), le-leb (length (billOf c (a .labels) v)) places (g .room))
+      let deep = made-deep (g .answers v (g .part) .means) (g .made) in
+      rw (p, lt-ltb v (c .vertices) (g .part), same-exactly m c a p .1 (g .answers), lt-ltb 0 k deep, le-leb (length (billOf c (a .labels) v)) places (g .room))
 
   -- "Print a bill"
   pub bill-exactly : (billAcceptance m c a v places ≡ answer.Accepted) ↔ RightBill m c a v places

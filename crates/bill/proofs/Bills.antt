@@ -89,7 +89,8 @@ module _ (m : Measure) (c : Columns) (a : Entries) (v : ℕ) (room : List ℕ) w
   unfolding billed billAcceptance
   bill-printed size e = go (billAcceptance m c a v (length room)) refl e
     where
-      go : (x : Acceptance) → billAcceptance m c a v (length room) ≡ x → outcome x (billOf c (a .labels) v) room .result ≡ Length size → Printed m c a v room size (outcome x (billOf c (a .labels) v) room .left)
+      go : (x : Acceptance) → billAcceptance m c a v (length room) ≡ x → outcome x (billOf c (a .labels) v) room .result ≡ Length size
+          → Printed m c a v room size (outcome x (billOf c (a .labels) v) room .left)
       go (answer.Refused r) p q = let z : _≡_ {A = ℕ} 0 1 = cc in absurd (omega arith)
       go answer.Accepted p q =
           let h : size ≡ length (billOf c (a .labels) v) = cc in

@@ -201,8 +201,59 @@ fn check_part(
     Acceptance::Accepted
 }
 
+// What the bill of v leaves of a budget, with a column of its own for the lengths. A table of few
+// vertices is given few places, as every place has to be cleared.
+fn spend_few(
+    depth: u64,
+    v: Vertex,
+    spans: &[u64],
+    tails: &[u64],
+    edges: &[u64],
+    budget: usize,
+) -> Budget
+    requires { ⌜ (Grounded (now spans) (now tails) (now edges) depth (v .0)) × (length (now edges) ≤ 64) ⌝ }
+    ensures { λ r. ⌜ r ≡ spend budget (length (vertexBill (now (spans .entry)) (now (tails .entry)) (now (edges .entry)) depth (v .0))) ⌝ }
+{
+    let mut lengths = [0u64; 64];
+    vertex_spend(depth, v, spans, tails, edges, &mut lengths, budget)
+}
+
+// The same of any table.
+fn spend_many(
+    depth: u64,
+    v: Vertex,
+    spans: &[u64],
+    tails: &[u64],
+    edges: &[u64],
+    budget: usize,
+) -> Budget
+    requires { ⌜ (Grounded (now spans) (now tails) (now edges) depth (v .0)) × (length (now edges) ≤ mostVertices) ⌝ }
+    ensures { λ r. ⌜ r ≡ spend budget (length (vertexBill (now (spans .entry)) (now (tails .entry)) (now (edges .entry)) depth (v .0))) ⌝ }
+{
+    let mut lengths = [0u64; 1024];
+    vertex_spend(depth, v, spans, tails, edges, &mut lengths, budget)
+}
+
+// The same, with as many places as the table asks for.
+fn spend_all(
+    depth: u64,
+    v: Vertex,
+    spans: &[u64],
+    tails: &[u64],
+    edges: &[u64],
+    budget: usize,
+) -> Budget
+    requires { ⌜ (Grounded (now spans) (now tails) (now edges) depth (v .0)) × (length (now edges) ≤ mostVertices) ⌝ }
+    ensures { λ r. ⌜ r ≡ spend budget (length (vertexBill (now (spans .entry)) (now (tails .entry)) (now (edges .entry)) depth (v .0))) ⌝ }
+{
+    if edges.len() <= 64 {
+        return spend_few(depth, v, spans, tails, edges, budget);
+    }
+    spend_many(depth, v, spans, tails, edges, budget)
+}
+
 // Prints the bill of v, which is at most `depth` deep. Nothing is written before the whole bill is
-// known to fit: 13. A table has at most 1,024 vertices, so each has its place in `lengths`.
+// known to fit: 13.
 fn print(
     depth: u64,
     v: Vertex,
@@ -214,8 +265,7 @@ fn print(
     requires { ⌜ (Grounded (now spans) (now tails) (now edges) depth (v .0)) × (length (now edges) ≤ mostVertices) ⌝ }
     ensures { λ r. ⌜ record { result = r; left = now (room .exit) } ≡ printed (vertexBill (now (spans .entry)) (now (tails .entry)) (now (edges .entry)) depth (v .0)) (now (room .entry)) ⌝ }
 {
-    let mut lengths = [0u64; 1024];
-    let budget = vertex_spend(depth, v, spans, tails, edges, &mut lengths, room.len());
+    let budget = spend_all(depth, v, spans, tails, edges, room.len());
     match budget {
         Budget::Spent => return Extent::Refused(Refusal::BillRoom),
         Budget::Left(_) => {}

@@ -34,7 +34,8 @@ module _ {spans tails depths edges pieces : List ℕ} (c : Countable spans tails
   beyond v h = List·getD-eq-default depths 0 {n = v} h
 
   -- all depths are counted
-  pub all-counted : {layers g d n : ℕ} {new : List ℕ} → Deepest depths layers (length depths) g → g < d → Staged depths (countOf spans tails depths edges) d n new → new ≡ counted spans tails depths edges
+  pub all-counted : {layers g d n : ℕ} {new : List ℕ} → Deepest depths layers (length depths) g → g < d → Staged depths (countOf spans tails depths edges) d n new
+      → new ≡ counted spans tails depths edges
   unfolding counted
   all-counted {new = new} m h s = below-is (countOf spans tails depths edges) (length depths) new (s .level) (λ v l. s .lower v l (omega (arith, m .most v l)))
 
