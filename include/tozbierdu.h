@@ -32,13 +32,12 @@
  * while it runs. No call allocates, keeps a pointer or has state of its own, so calls on different
  * columns can run at once.
  *
- * THE STACK. tozbierdu_bill goes as deep as the bill does and needs under 4 MiB: with this version
- * 3.93 MB for 1024 levels of 16 needed parts each. A main thread's usual 8 MiB holds it; a thread that
- * prints bills wants as much. tozbierdu_append needs under 256 KiB: with this version 222 KB. The calls
- * that settle or check answers, which are tozbierdu_settle, _reprice, _strike, _restore, _check_answers
- * and _replay, need under 96 KiB: with this version 74 KB, of which local arrays take 68,736 bytes, and
- * for a replay 88 KB. The others need under 32 KiB. What is said of settle, reprice and bill holds of
- * libcounter.a too.
+ * THE STACK. tozbierdu_bill goes as deep as the bill does and needs under 256 KiB: with this version
+ * 193 KB for 1024 levels, however many parts each needs. tozbierdu_append needs under 256 KiB too: with
+ * this version 229 KB. The calls that settle or check answers, which are tozbierdu_settle, _reprice,
+ * _strike, _restore, _check_answers and _replay, need under 96 KiB: with this version 82 KB, of which
+ * local arrays take 75,776 bytes, and for a replay 88 KB. The others need under 32 KiB. What is said of
+ * settle, reprice and bill holds of libcounter.a too.
  */
 #ifndef TOZBIERDU_H
 #define TOZBIERDU_H

@@ -218,7 +218,7 @@ static const struct called calls[] = {
     { "settle", settle_it, 96, 1 }, { "settle_ordered", settle_ordered, 32, 1 },
     { "check_answers", check_answers, 96, 1 }, { "entry", entry, 32, 0 },
     { "reprice", reprice, 96, 1 }, { "strike", strike, 96, 1 }, { "restore", restore, 96, 1 },
-    { "index_table", index_table, 32, 0 }, { "append", append, 256, 1 }, { "bill", bill, 4096, 1 },
+    { "index_table", index_table, 32, 0 }, { "append", append, 256, 1 }, { "bill", bill, 256, 1 },
     { "read_table", read_table, 32, 0 }, { "text_column", text_column, 32, 0 }, { "write_table", write_table, 32, 1 },
     { "summarize", summarize, 32, 0 }, { "replay", replay, 96, 1 },
     { "shuffle", shuffle, 32, 0 }, { "unshuffle", unshuffle, 32, 0 },

@@ -196,7 +196,7 @@ static void test_stack(void)
         printf("stack: settle %zu, reprice %zu, bill %zu bytes\n", settling, repricing, billing);
     check(settling < (size_t)96 << 10, "settle takes under 96 KiB");
     check(repricing < (size_t)96 << 10, "reprice takes under 96 KiB");
-    check(billing < (size_t)4 << 20, "bill takes under 4 MiB");
+    check(billing < (size_t)256 << 10, "bill takes under 256 KiB");
 }
 
 const struct test room_tests[] = {
