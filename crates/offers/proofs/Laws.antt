@@ -8,13 +8,12 @@ use native.Mathlib.Omega.{arith}
 use lib.ListN.{length, getD, drop, drop-of-length-le}
 use lib.Seq.{drop-cons}
 use borrow.Author.Tests.{eq-eqb, ne-eqb}
-use Rattle.weights.specs.declared.Offer.{Offer}
 use Rattle.weights.specs.declared.Offer.the-variants.{Nothing, Found}
 use Rattle.weights.specs.Figures.{isStruckMark}
 use Rattle.weights.specs.Measures.{Algebra, fold, weigh}
-use Rattle.weights.specs.Choice.{pick}
 use Rattle.weights.specs.Labels.{label}
 use Rattle.provenance.specs.Labelling.{each, greatestDepth, noneZero, offerOf}
+use Rattle.offers.specs.Passing.{rest}
 
 max-assoc : (a b c : ℕ) → max a (max b c) ≡ max (max a b) c
 max-assoc a b c = omega arith
@@ -24,10 +23,6 @@ zero-max a = omega arith
 
 max-zero : (a : ℕ) → max a 0 ≡ a
 max-zero a = omega arith
-
--- what is left of a tail gives, where what went before joins to j and is d deep
-unfoldable pub rest : Algebra → (e own : ℕ) → (weight depth : ℕ → ℕ) → (j d : ℕ) → List ℕ → Offer
-rest A e own w t j d vs = pick (noneZero t vs) (Found (label (A .finish own (fold (A .join) j (each w vs))) (max d (greatestDepth t vs) + 1) e)) Nothing
 
 module _ (A : Algebra) (e own : ℕ) (w t : ℕ → ℕ) (j d : ℕ) (tail : List ℕ) (i : ℕ) where
   pub rest-more : i < length tail → ¬ (t (getD tail i 0) ≡ 0) → rest A e own w t (A .join j (w (getD tail i 0))) (max d (t (getD tail i 0))) (drop (i + 1) tail) ≡ rest A e own w t j d (drop i tail)

@@ -13,6 +13,8 @@ use Rattle.weights.specs.Measures.{algebra}
 use Rattle.provenance.specs.Labelling.{valueOf, heightOf}
 use Rattle.columns.specs.Columns.{cell, tailOf}
 use Rattle.columns.specs.Lent.{EdgeIn}
+use Rattle.queue.specs.Keys.{heavy}
+use Rattle.offers.specs.Passing.{Light}
 
 -- the numbers that f gives below k, in order
 unfoldable pub below : (ℕ → ℕ) → ℕ → List ℕ
@@ -55,8 +57,10 @@ pub record Notable (i : ℕ) (o : Offer) (vs hs : List ℕ) : Type 0 where
   pub height : i < length hs
   pub small : heightIn o < 65536
 
--- every line of an accepted table can be read, and has its place in both columns
+-- every line of an accepted table can be read and summed, and has its place in both columns
 pub record Valuable (os ms ss ts ws ds vs hs : List ℕ) : Type 0 where
   pub each : (e : ℕ) → e < length os → EdgeIn e os ms ss ts ws ds
+  pub figures : (e : ℕ) → e < length os → cell os e < heavy
+  pub light : Light ws
   pub values : length os ≤ length vs
   pub heights : length os ≤ length hs

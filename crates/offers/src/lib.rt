@@ -8,15 +8,21 @@ use weights::Offer;
 use weights::Weight;
 ghost use mathlib.Core.Path.{_≡_};
 ghost use mathlib.Core.Bool.{not};
-ghost use Prim.Native.Nat.{max};
+ghost use Prim.Native.Nat.{_+_, _/_, _≤_, _<_, min, max};
 ghost use lib.ListN.{length, set};
-ghost use Rattle.weights.specs.Figures.{isStruckMark};
+ghost use Rattle.weights.specs.Figures.{isStruckMark, capped};
 ghost use Rattle.weights.specs.Measures.{algebra};
 ghost use Rattle.provenance.specs.Labelling.{offerOf};
 ghost use Rattle.columns.specs.Columns.{tailOf, cell};
 ghost use Rattle.columns.specs.Filled.{filled};
-ghost use Rattle.columns.specs.Lent.{Legible, EdgeIn};
+ghost use Rattle.columns.specs.Acceptance.{mostVertices, allBelow};
+ghost use Rattle.columns.specs.Lent.{EdgeIn};
+ghost use Rattle.queue.specs.Keys.{heavy};
+ghost use Rattle.offers.specs.Passing.{plain, Light, Passable};
 ghost use Rattle.offers.specs.Values.{valueIn, heightIn, valuesOf, heightsOf, Notable, Valuable};
+
+// Weights below it are light: a tail of them can be summed.
+const HEAVY: u64 = 1099511627776;
 
 // The greater of two depths.
 pub fn deeper(a: u64, b: u64) -> u64
@@ -28,8 +34,77 @@ pub fn deeper(a: u64, b: u64) -> u64
     a
 }
 
+// The lesser of two grades.
+fn lesser(a: u64, b: u64) -> u64
+    ensures { λ r. ⌜ r ≡ min a b ⌝ }
+{
+    if a > b {
+        return b;
+    }
+    a
+}
+
+// Two weights of a tail, joined. A sum is capped only at the end of the tail, where it has no more
+// than 16 weights.
+pub fn joining(measure: Measure, a: u64, b: u64) -> u64
+    requires { ⌜ a + b < 18446744073709551616 ⌝ }
+    ensures { λ r. ⌜ r ≡ plain measure a b ⌝ }
+{
+    match measure {
+        Measure::Cost => a + b,
+        Measure::Days => deeper(a, b),
+        Measure::Grade => lesser(a, b),
+    }
+}
+
+// A sum that did not wrap, capped.
+fn cap(sum: u64) -> u64
+    ensures { λ r. ⌜ r ≡ capped sum ⌝ }
+{
+    if sum > Weight::CEILING.0 {
+        return Weight::OVER.0;
+    }
+    sum
+}
+
+// An own weight with the joined weights of its tail: here a sum is capped.
+pub fn finishing(measure: Measure, own: u64, joined: u64) -> u64
+    requires { ⌜ own + joined < 18446744073709551616 ⌝ }
+    ensures { λ r. ⌜ r ≡ algebra measure .finish own joined ⌝ }
+{
+    match measure {
+        Measure::Cost => cap(own + joined),
+        Measure::Days => cap(own + joined),
+        Measure::Grade => lesser(own, joined),
+    }
+}
+
+// How many times HEAVY goes into a weight: not once into a light one.
+fn share(weight: u64) -> u64
+    ensures { λ r. ⌜ (r ≡ weight / heavy) × (r < 16777216) ⌝ }
+{
+    weight / HEAVY
+}
+
+// Whether every weight of a column is light, so that those of a tail can be summed. Dividing and
+// adding takes fewer instructions than as many comparisons of 64 bits.
+pub fn all_light(weights: &[u64]) -> bool
+    requires { ⌜ length (now weights) ≤ mostVertices ⌝ }
+    ensures { λ r. ⌜ r ≡ allBelow heavy (now (weights .entry)) ⌝ }
+{
+    let mut shares: u64 = 0;
+    let mut i = 0;
+    while i < weights.len() {
+        let weight = weights[i];
+        shares += share(weight);
+        i += 1;
+    }
+    shares == 0
+}
+
 // What hyperedge e of this own weight, mark and tail gives from the labels in the columns; nothing
-// where it is struck or a vertex of its tail is unmade.
+// where it is struck or a vertex of its tail is unmade. The weights are light, so a sum of at most 17
+// of them does not wrap, and it is capped once, at the end.
 fn candidate(
     measure: Measure,
     e: Hyperedge,
@@ -39,13 +114,14 @@ fn candidate(
     weights: &[u64],
     depths: &[u64],
 ) -> Offer
-    requires { ⌜ Legible (now tail) (now weights) (now depths) ⌝ }
+    requires { ⌜ (Passable (now tail) (now weights) (now depths)) × (own .0 < heavy) ⌝ }
     ensures { λ r. ⌜ r ≡ offerOf (algebra measure) (not (isStruckMark (mark .0))) (own .0) (now (tail .entry)) (cell (now (weights .entry))) (cell (now (depths .entry))) (e .0) ⌝ }
 {
     if mark.is_struck() {
         return Offer::Nothing;
     }
-    let mut joined = Weight::unit(measure);
+    let unit = Weight::unit(measure);
+    let mut joined = unit.0;
     let mut deepest: u64 = 0;
     let mut i = 0;
     while i < tail.len() {
@@ -55,14 +131,14 @@ fn candidate(
             return Offer::Nothing;
         }
         let weight = weights[v];
-        joined = joined.join(measure, Weight(weight));
+        joined = joining(measure, joined, weight);
         deepest = deeper(deepest, depth);
         i += 1;
     }
-    let weight = own.finish(measure, joined);
+    let weight = finishing(measure, own.0, joined);
     let depth = deepest + 1;
     Offer::Found(Label {
-        weight,
+        weight: Weight(weight),
         depth,
         edge: e,
     })
@@ -79,7 +155,7 @@ pub fn offer(
     weights: &[u64],
     depths: &[u64],
 ) -> Offer
-    requires { ⌜ EdgeIn (e .0) (now own) (now strikes) (now spans) (now tails) (now weights) (now depths) ⌝ }
+    requires { ⌜ (EdgeIn (e .0) (now own) (now strikes) (now spans) (now tails) (now weights) (now depths)) × (cell (now own) (e .0) < heavy) × Light (now weights) ⌝ }
     ensures { λ r.
         let live = not (isStruckMark (cell (now (strikes .entry)) (e .0))) in
         let tail = tailOf (now (spans .entry)) (now (tails .entry)) (e .0) in

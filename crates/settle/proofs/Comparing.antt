@@ -8,6 +8,7 @@ use lib.ListN.{length}
 use lib.Dec.{ltb, eqb}
 use borrow.Author.Tests.{ltb-true, eqb-false}
 use Rattle.weights.specs.declared.Measure.{Measure}
+use Rattle.weights.specs.Figures.{greatest}
 use Rattle.weights.specs.Measures.{algebra}
 use Rattle.weights.specs.Choice.{pick}
 use Rattle.columns.specs.Columns.{Answers, Columns, cell, headAt, ownAt}
@@ -30,11 +31,22 @@ use Rattle.settle.specs.Comparing.{vertexFits, edgeFits, Comparable, Wei
 lines : {c : Columns} {a : Answers} → Turning c a → length (c .own) ≡ length (c .heads)
 lines {c} t = table-accepted c (t .usable .accepted) .own
 
+-- an own weight is in range
+pub own-most : {c : Columns} {a : Answers} → Turning c a → (e : ℕ) → e < length (c .heads) → ownAt c e ≤ greatest
+own-most {c} t e h = table-accepted c (t .usable .accepted) .each e h .1 .own
+
 -- what filling the columns asks
 pub valuable : {c : Columns} {a : Answers} {vs hs : List ℕ} → Weighable c a vs hs → Valuable (c .own) (c .strikes) (c .spans) (c .tails) (a .weights) (a .depths) vs hs
 valuable w =
-    let n = lines (w .turning) in
-    record { each = λ e h. edge-in (w .turning .usable) e (omega arith); values = omega (arith, w .values); heights = omega (arith, w .heights) }
+    let t = w .summable .turning in
+    let n = lines t in
+    record {
+      each = λ e h. edge-in (t .usable) e (omega arith);
+      figures = λ e h. omega (arith, own-most t e (omega arith));
+      light = w .summable .light;
+      values = omega (arith, w .values);
+      heights = omega (arith, w .heights);
+    }
 
 -- a column that is filled with something of every line has room for every line
 room : (f : ℕ → ℕ) (n : ℕ) (old : List ℕ) {new : List ℕ} → n ≤ length old → new ≡ filled (below f n) old → n ≤ length new
@@ -54,7 +66,7 @@ module _
     (f : (vs ≡ filled (valuesOf m (c .own) (c .strikes) (c .spans) (c .tails) (a .weights) (a .depths) (length (c .own))) vs₀)
     × (hs ≡ filled (heightsOf m (c .own) (c .strikes) (c .spans) (c .tails) (a .weights) (a .depths) (length (c .own))) hs₀)) where
   t : Turning c a
-  t = w .turning
+  t = w .summable .turning
 
   d : Valued m (c .own) (c .strikes) (c .spans) (c .tails) (a .weights) (a .depths) vs hs
   d = valued m (c .own) (c .strikes) (c .spans) (c .tails) (a .weights) (a .depths) vs₀ hs₀ (f .0) (f .1)

@@ -2,7 +2,7 @@
 use mathlib.Core.Path.{_≡_, sym, _∙_, ap}
 use mathlib.Core.Bool.{Bool, true, false}
 use mathlib.Core.List.{List}
-use Prim.Native.Nat.{ℕ, _+_, _*_, _≤_, _<_, max}
+use Prim.Native.Nat.{ℕ, _+_, _≤_, _<_, max}
 use native.Mathlib.Omega.{arith}
 use lib.ListN.{length}
 use Rattle.weights.specs.declared.Measure.{Measure}
@@ -14,22 +14,12 @@ use Rattle.weights.specs.Measures.{Algebra, algebra, fold, weigh}
 use Rattle.weights.proofs.Laws.{lawful, below-over}
 use Rattle.weights.proofs.Weighing.{weigh-within}
 use Rattle.columns.specs.Acceptance.{mostVertices, mostEdges}
-use Rattle.columns.specs.Columns.{part, tailOf, cell}
-use Rattle.columns.proofs.Accepted.{part-length}
+use Rattle.columns.specs.Columns.{part, cell}
 use Rattle.provenance.specs.Labelling.{each, greatestDepth, noneZero, yield, offerOf}
 use Rattle.provenance.proofs.Existence.{greatest-at-most}
-use Rattle.offers.proofs.Laws.{rest, rest-stop, rest-end}
+use Rattle.offers.specs.Passing.{rest, Carried}
+use Rattle.offers.proofs.Passing.{alone, carried-stop, carried-end}
 use Rattle.queue.specs.Keys.{heavy, Fits, Fitting, nothing, found}
-use Rattle.waiting.specs.Lines.{Passable, Carried}
-use Rattle.waiting.proofs.Keeping.{alone, extends-refl}
-use Rattle.topological.specs.Walking.{Weighable}
-
--- the tail of a line that can be weighed can be passed
-pub passable : {e : ℕ} {os ms ss ts ws ds : List ℕ} → Weighable e os ms ss ts ws ds → Passable (tailOf ss ts e) ws ds
-passable {e} {ss = ss} {ts = ts} w =
-    let p = w .edge .placed in
-    let l = part-length (cell ss (2 * e)) (cell ss (2 * e + 1)) ts (p .within) in
-    record { legible = w .edge .legible; light = w .light; short = omega (arith, l, p .short) }
 
 -- the weight of a line has room in a key
 pub weigh-below : (m : Measure) (own : ℕ) (ws : List ℕ) → weigh (algebra m) own ws < heavy
@@ -67,8 +57,8 @@ module _ (A : Algebra) (e own : ℕ) (w d : ℕ → ℕ) (tail : List ℕ) where
   module _ {i j g : ℕ} (p : Carried A w d tail i j g) where
     -- a vertex that is unmade is reached
     pub stops : i < length tail → d (cell tail i) ≡ 0 → Nothing ≡ offerOf A true own tail w d e
-    stops h z = rest-stop A e own w d j g tail i h z ∙ p .carried e own w d (extends-refl w d) ∙ whole
+    stops h z = carried-stop p e own h z ∙ whole
 
     -- the end is reached
     pub ends : length tail ≤ i → Found (label (A .finish own j) (g + 1) e) ≡ offerOf A true own tail w d e
-    ends h = rest-end A e own w d j g tail i h ∙ p .carried e own w d (extends-refl w d) ∙ whole
+    ends h = carried-end p e own h ∙ whole

@@ -2,6 +2,7 @@
 // their settling by one walk up the vertices, which needs no queue: when a vertex is visited, all that
 // its hyperedges list has its label.
 use offers::deeper;
+use offers::joining;
 use refusal::Acceptance;
 use refusal::Refusal;
 use weights::Hyperedge;
@@ -26,7 +27,7 @@ ghost use Rattle.columns.proofs.Accepted.{AcceptedLabels};
 ghost use Rattle.tables.specs.Table.{hypergraph};
 ghost use Rattle.pieces.specs.Counting.{counted, Countable};
 ghost use Rattle.queue.specs.Keys.{keyOf};
-ghost use Rattle.waiting.specs.Lines.{Passable};
+ghost use Rattle.offers.specs.Passing.{Passable};
 ghost use Rattle.topological.specs.Ordering.{orderedEdge, orderedEdgesAcceptance, orderedAcceptance, orderedLentAcceptance, settledInOrder};
 ghost use Rattle.topological.specs.Walking.{Linkable, Linked, Weighable, visited, Visitable, Walkable, putAt, Storable, Upward};
 
@@ -219,7 +220,7 @@ fn candidate(
             return minima::NONE;
         }
         let weight = weights[v];
-        joined = waiting::joining(measure, joined, weight);
+        joined = joining(measure, joined, weight);
         deepest = deeper(deepest, depth);
         i += 1;
     }

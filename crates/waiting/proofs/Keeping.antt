@@ -1,38 +1,32 @@
 -- The laws of hyperedges that wait: labels that extend others keep what was passed; a list keeps its hyperedges while others move; and one that moves keeps what holds
 -- of all. Assumes nothing.
-use Prim.Native.Nat.{ℕ, _+_, _*_, _≤_, _<_, min, max}
+use Prim.Native.Nat.{ℕ, _*_, _≤_, _<_, min}
 use mathlib.Core.Path.{_≡_, refl, sym, _∙_, ap, subst}
 use mathlib.Core.Logic.{_⊎_, inl, inr, _≢_}
 use mathlib.Core.Bool.{Bool, true, false}
-use mathlib.Core.List.{List, [], _∷_, Memᴰ·cast, List·Memᴰ, List·Memᴰ·head, List·Memᴰ·tail, List·Memᴰ·cases-cons, List·Memᴰ·not-nil}
+use mathlib.Core.List.{List, _∷_, Memᴰ·cast, List·Memᴰ, List·Memᴰ·head, List·Memᴰ·tail, List·Memᴰ·cases-cons, List·Memᴰ·not-nil}
 use native.Mathlib.Omega.{arith}
 use native.Mathlib.Decide.{decLe, ℕ-discrete}
-use lib.ListN.{length, drop, length-set}
+use lib.ListN.{length, length-set}
 use lib.Seq.{getD-set-same, getD-set-other}
 use lib.Dec.{eqb}
 use borrow.Author.Tests.{eq-eqb, eqb-true, eqb-false}
 use Rattle.weights.specs.Choice.{pick}
 use Rattle.weights.specs.declared.Measure.{Measure}
-use Rattle.weights.specs.declared.Measure.the-variants.{Cost, Days, Grade}
-use Rattle.weights.specs.Labels.{label}
-use Rattle.weights.specs.Measures.{Algebra, algebra, fold}
-use Rattle.weights.specs.Figures.{over, greatest, isStruckMark}
+use Rattle.weights.specs.Measures.{Algebra, algebra}
+use Rattle.weights.specs.Figures.{isStruckMark}
 use Rattle.weights.specs.declared.Offer.{Offer}
-use Rattle.weights.specs.declared.Offer.the-variants.{Nothing, Found}
-use Rattle.provenance.specs.Labelling.{each, greatestDepth, noneZero}
+use Rattle.provenance.specs.Labelling.{noneZero}
 use Rattle.provenance.specs.BestFirst.{opening}
 use Rattle.columns.specs.Columns.{Columns, headAt, strikeAt, tailAt, cell}
 use Rattle.tables.specs.Table.{hypergraph}
-use Rattle.offers.proofs.Laws.{rest, rest-more}
+use Rattle.offers.specs.Passing.{Extends, Carried}
 use Rattle.minima.specs.Minima.{none, leaves, keyIn, Grouped}
-use Rattle.queue.specs.Keys.{heavy, Fitting, nothing, found, keyOf}
+use Rattle.queue.specs.Keys.{Fitting, nothing, found, keyOf}
 use Rattle.queue.proofs.Packing.{below-none}
 use Rattle.queue.specs.Queue.{offered}
 use Rattle.queue.proofs.Laws.{offered-length, offered-grouped, offered-key}
-use Rattle.waiting.specs.Lines.{plain, Lines, roomOf, Sizes, pushed, Extends, Carried, Chain, ended, linked, Waiter, keyOn, Placed, kept, waits, heard, Waiting}
-
-pub extends-refl : (w d : ℕ → ℕ) → Extends w d w d
-extends-refl w d = record { weight = λ u n. refl; depth = λ u n. refl }
+use Rattle.waiting.specs.Lines.{Lines, roomOf, Sizes, pushed, Chain, ended, linked, Waiter, keyOn, Placed, kept, waits, heard, Waiting}
 
 module _ {w d w′ d′ : ℕ → ℕ} (x : Extends w d w′ d′) where
   pub made-still : (u : ℕ) → d u ≢ 0 → d′ u ≢ 0
@@ -54,57 +48,6 @@ module _ {w d w′ d′ : ℕ → ℕ} (x : Extends w d w′ d′) where
 
   pub waiter-on : {A : Algebra} {c : Columns} {s : Lines} {v e : ℕ} → Waiter A c w d s v e → Waiter A c w′ d′ s v e
   waiter-on k = record { numbered = k .numbered; unstruck = k .unstruck; before = k .before; here = k .here; passed = carried-on (k .passed) }
-
--- nothing is passed at first
-pub carried-none : (A : Algebra) (w d : ℕ → ℕ) (tail : List ℕ) → Carried A w d tail 0 (A .unit) 0
-carried-none A w d tail = record { inside = omega arith; shallow = omega arith; light = omega arith; carried = λ e own w′ d′ y. refl }
-
--- where a sum is capped does not matter, as the whole is
-plain-fold : (m : Measure) (own a x : ℕ) (ws : List ℕ) → algebra m .finish own (fold (algebra m .join) (plain m a x) ws) ≡ algebra m .finish own (fold (algebra m .join) (algebra m .join a x) ws)
-unfolding fold
-plain-fold Cost own a x [] = omega arith
-plain-fold Cost own a x (y ∷ ws) = let e : min (a + x + y) over ≡ min (min (a + x) over + y) over = omega arith in ap (λ (z : ℕ). min (own + fold (algebra Cost .join) z ws) over) e
-plain-fold Days own a x ws = refl
-plain-fold Grade own a x ws = refl
-
-plain-rest : (m : Measure) (e own : ℕ) (w d : ℕ → ℕ) (a x g : ℕ) (vs : List ℕ) → rest (algebra m) e own w d (plain m a x) g vs ≡ rest (algebra m) e own w d (algebra m .join a x) g vs
-unfolding rest
-plain-rest m e own w d a x g vs = ap (λ (z : ℕ). pick (noneZero d vs) (Found (label z (max g (greatestDepth d vs) + 1) e)) Nothing) (plain-fold m own a x (each w vs))
-
-plain-bound : (m : Measure) (a x b : ℕ) → a ≤ b → x < heavy → plain m a x ≤ b + heavy
-plain-bound Cost a x b h k = omega arith
-plain-bound Days a x b h k = omega arith
-plain-bound Grade a x b h k = omega arith
-
--- joining starts at a figure
--- in every measure a hyperedge with an empty tail gives its own weight
-pub alone : (m : Measure) (own : ℕ) → own ≤ greatest → algebra m .finish own (algebra m .unit) ≡ own
-alone Cost own h = omega arith
-alone Days own h = omega arith
-alone Grade own h = omega arith
-
-pub unit-light : (m : Measure) → algebra m .unit < heavy
-unit-light Cost = omega arith
-unit-light Days = omega arith
-unit-light Grade = omega arith
-
--- a vertex that is made is passed
-pub carried-more : (m : Measure) (w d : ℕ → ℕ) (tail : List ℕ) (i j g : ℕ) → Carried (algebra m) w d tail i j g → i < length tail
-    → d (cell tail i) ≢ 0 → d (cell tail i) ≤ 1024 → w (cell tail i) < heavy
-    → Carried (algebra m) w d tail (i + 1) (plain m j (w (cell tail i))) (max g (d (cell tail i)))
-carried-more m w d tail i j g k h n b l = record {
-  inside = omega arith;
-  shallow = omega (arith, k .shallow);
-  light = omega (arith, plain-bound m j (w (cell tail i)) (algebra m .unit + i * heavy) (k .light) l);
-  carried = λ e own w′ d′ y.
-      let A = algebra m in
-      let u = cell tail i in
-      plain-rest m e own w′ d′ j (w u) (max g (d u)) (drop (i + 1) tail)
-      ∙ ap (λ (z : ℕ). rest A e own w′ d′ (A .join j z) (max g (d u)) (drop (i + 1) tail)) (sym (y .weight u n))
-      ∙ ap (λ (z : ℕ). rest A e own w′ d′ (A .join j (w′ u)) (max g z) (drop (i + 1) tail)) (sym (y .depth u n))
-      ∙ rest-more A e own w′ d′ j g tail i h (λ z. n (sym (y .depth u n) ∙ z))
-      ∙ k .carried e own w′ d′ y;
-}
 
 -- Lists ------------------------------------------------------------------------------------------------------------------------------------------------
 

@@ -27,7 +27,8 @@ use Rattle.minima.proofs.Laws.{raised-length, raised-same, raised-other, raised
 use Rattle.queue.specs.Keys.{Fitting, keyOf}
 use Rattle.queue.specs.Queue.{leastWith, Queued}
 use Rattle.queue.proofs.Laws.{with-at-most, with-lower, with-greatest, zero-stops, open-same, open-unmade, open-made}
-use Rattle.waiting.specs.Lines.{Lines, roomOf, Extends, Chain, Waiter, keyOn, Placed, kept, waits, heard, Waiting}
+use Rattle.offers.specs.Passing.{Extends}
+use Rattle.waiting.specs.Lines.{Lines, roomOf, Chain, Waiter, keyOn, Placed, kept, waits, heard, Waiting}
 use Rattle.waiting.proofs.Keeping.{chain-on, chain-each, unmade-before, made-still, waiter-on, source-bound}
 
 -- a struck hyperedge offers nothing

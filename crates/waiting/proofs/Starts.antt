@@ -18,8 +18,10 @@ use Rattle.weights.specs.Measures.{Algebra, algebra}
 use Rattle.columns.specs.Columns.{Columns, headAt, ownAt, strikeAt, offsetAt, lengthAt, tailAt, cell}
 use Rattle.minima.specs.Minima.{none, keyIn, Grouped}
 use Rattle.minima.proofs.Laws.{no-keys, no-keys-grouped}
-use Rattle.waiting.specs.Lines.{Lines, lines, roomOf, pushed, Linkable, Linked, Queueable, Untouched, Carried, Gone, ended, kept, Moved, stays, waits, Went, Offerable, Going, Starting, Rested, Empty}
-use Rattle.waiting.proofs.Keeping.{alone, carried-none, pushed-sizes, went-stays, went-waits}
+use Rattle.offers.specs.Passing.{Carried}
+use Rattle.offers.proofs.Passing.{alone, carried-none}
+use Rattle.waiting.specs.Lines.{Lines, lines, roomOf, pushed, Linkable, Linked, Queueable, Untouched, Gone, ended, kept, Moved, stays, waits, Went, Offerable, Going, Starting, Rested, Empty}
+use Rattle.waiting.proofs.Keeping.{pushed-sizes, went-stays, went-waits}
 use Rattle.waiting.proofs.Steps.{room-power, enough, own-low, arriving, arrived, edge-room, head-key, tail-length, tail-at, tail-below, edge-fits, went-on, linkable, pushable}
 use Rattle.waiting.proofs.Walking.{waiting-on}
 

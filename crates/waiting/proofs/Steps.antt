@@ -8,7 +8,7 @@ use native.Mathlib.Omega.{arith}
 use lib.ListN.{length, drop, length-take, length-drop}
 use lib.Seq.{getD-take, getD-drop}
 use lib.Dec.{leb}
-use borrow.Author.Tests.{eq-eqb, le-leb, lt-leb, leb-true}
+use borrow.Author.Tests.{eq-eqb, leb-true}
 use Rattle.weights.proofs.Lists.{member-at}
 use Rattle.weights.specs.declared.Measure.{Measure}
 use Rattle.weights.specs.declared.Label.{Label}
@@ -25,13 +25,14 @@ use Rattle.columns.specs.Columns.{Columns, headAt, ownAt, strikeAt, offsetAt, l
 use Rattle.tables.specs.Table.{hypergraph}
 use Rattle.columns.proofs.Accepted.{table-accepted, below-at}
 use Rattle.columns.proofs.Usable.{edge-in}
-use Rattle.offers.proofs.Laws.{rest, rest-end, rest-whole}
+use Rattle.offers.specs.Passing.{rest, Passable, Carried}
+use Rattle.offers.proofs.Laws.{rest-whole}
+use Rattle.offers.proofs.Passing as offers
 use Rattle.minima.specs.Minima.{PowerOfFour, four, times}
 use Rattle.queue.specs.Keys.{Fits, Fitting, nothing, found}
 use Rattle.queue.specs.Queue.{offered}
 use Rattle.queue.proofs.Laws.{open-fits, open-unmade, open-made}
-use Rattle.waiting.specs.Lines.{Passable, Lines, Room, small, middle, large, holds, roomFor, roomOf, pushed, Carried, Gone, stays, waits, Went, Arriving, Offerable, Going, Linkable, Pushable}
-use Rattle.waiting.proofs.Keeping.{unit-light, extends-refl}
+use Rattle.waiting.specs.Lines.{Lines, Room, small, middle, large, holds, roomFor, roomOf, pushed, Gone, stays, waits, Went, Arriving, Offerable, Going, Linkable, Pushable}
 
 -- which room a table is given
 pub room-small : (n k : ℕ) → holds small n k ≡ true → roomFor n k ≡ small
@@ -121,7 +122,7 @@ module _ {c : Columns} {ws ds q : List ℕ} (r : Offerable c ws ds q) (e : ℕ) 
   tail-below k l = below-at _ _ (table-accepted c (r .usable .accepted) .each e h .1 .listed) k l
 
   pub passable : Passable (tailAt c e) ws ds
-  passable = record { legible = edge-in (r .usable) e h .legible; light = r .fitted .weight; short = omega (arith, tail-length, short) }
+  passable = offers.passable (edge-in (r .usable) e h) (r .fitted .weight)
 
   pub edge-fits : (m : Measure) → Fitting (opening (algebra m) (hypergraph c) (cell (c .own)) (cell ws) (cell ds) e)
   edge-fits m = open-fits m (hypergraph c) (cell (c .own)) (cell ws) (cell ds) e (r .fitted) edge-few
@@ -143,7 +144,7 @@ module _ (A : Algebra) (c : Columns) (w d : ℕ → ℕ) (e : ℕ) where
 
   module _ {i j g : ℕ} (p : Carried A w d (tailAt c e) i j g) (l : length (tailAt c e) ≤ i) where
     at-end : Found (label (A .finish (ownAt c e) j) (g + 1) e) ≡ rest A e (ownAt c e) w d (A .unit) 0 (tailAt c e)
-    at-end = rest-end A e (ownAt c e) w d j g (tailAt c e) i l ∙ p .carried e (ownAt c e) w d (extends-refl w d)
+    at-end = offers.carried-end p e (ownAt c e) l
 
     -- past the end of the tail every vertex of it is made
     pub all-made : noneZero d (tailAt c e) ≡ true
@@ -204,7 +205,7 @@ module _ {m : Measure} {c : Columns} {ws ds q : List ℕ} {s : Lines} {e a b k :
   pub arriving : Arriving m (c .heads) (c .own) q e j g
   arriving = record {
     figure = edge-in (r .usable) e (y .numbered) .own;
-    sum = omega (arith, own-low r e (y .numbered), p .passed .light, p .passed .inside, unit-light m, tail-length r e (y .numbered), short r e (y .numbered));
+    sum = omega (arith, own-low r e (y .numbered), p .passed .light, p .passed .inside, offers.unit-light m, tail-length r e (y .numbered), short r e (y .numbered));
     queueable = record {
       head = y .numbered;
       fits = found-fits (edge-fits r e (y .numbered) m) is-open;

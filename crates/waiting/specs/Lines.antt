@@ -1,15 +1,14 @@
 -- Hyperedges that wait, each for one vertex of its tail: the first that is not made. In columns: `first` has for each vertex the first hyperedge that waits for it, `next`
 -- for each hyperedge the next in the same list; `at`, `joined` and `deepest` how far a hyperedge has come in its tail, and what the places before join to.
 -- What holds of them between two steps is said by `Waiting`. Assumes nothing: these are definitions.
-use Prim.Native.Nat.{ℕ, _+_, _*_, _≤_, _<_, min, max}
+use Prim.Native.Nat.{ℕ, _+_, _*_, _≤_, _<_}
 use mathlib.Core.Path.{_≡_}
 use mathlib.Core.Logic.{_⊎_, _≢_}
 use mathlib.Core.Bool.{Bool, true, false}
 use mathlib.Core.List.{List, [], _∷_, List·Memᴰ}
-use lib.ListN.{length, drop, set, replicate}
+use lib.ListN.{length, set, replicate}
 use lib.Dec.{leb}
 use Rattle.weights.specs.declared.Measure.{Measure}
-use Rattle.weights.specs.declared.Measure.the-variants.{Cost, Days, Grade}
 use Rattle.weights.specs.Figures.{isStruckMark}
 use Rattle.weights.specs.declared.Label.{Label}
 use Rattle.weights.specs.Labels.{label}
@@ -18,12 +17,12 @@ use Rattle.provenance.specs.Labelling.{noneZero}
 use Rattle.provenance.specs.BestFirst.{opening}
 use Rattle.columns.specs.Columns.{Columns, headAt, strikeAt, tailAt, cell}
 use Rattle.tables.specs.Table.{hypergraph}
-use Rattle.columns.specs.Acceptance.{mostVertices, mostEdges, longestTail}
+use Rattle.columns.specs.Acceptance.{mostVertices, mostEdges}
 use Rattle.weights.specs.Choice.{pick}
-use Rattle.columns.specs.Lent.{Legible, Usable}
-use Rattle.offers.proofs.Laws.{rest}
+use Rattle.columns.specs.Lent.{Usable}
+use Rattle.offers.specs.Passing.{Carried}
 use Rattle.minima.specs.Minima.{none, leaves, keyIn, Grouped}
-use Rattle.queue.specs.Keys.{heavy, Fits}
+use Rattle.queue.specs.Keys.{Fits}
 use Rattle.queue.specs.Queue.{keyAt, offered, Fitted}
 
 -- in place of a hyperedge, at the end of a list
@@ -88,33 +87,9 @@ pub record Untouched (A : Algebra) (s : Lines) (e : ℕ) : Type 0 where
   pub joined : cell (s .joined) e ≡ A .unit
   pub deepest : cell (s .deepest) e ≡ 0
 
--- Labels -----------------------------------------------------------------------------------------------------------------------------------------------
+-- Tails ------------------------------------------------------------------------------------------------------------------------------------------------
 
--- later labels: what is made stays as it is
-pub record Extends (w d w′ d′ : ℕ → ℕ) : Type 0 where
-  pub weight : (u : ℕ) → d u ≢ 0 → w′ u ≡ w u
-  pub depth : (u : ℕ) → d u ≢ 0 → d′ u ≡ d u
-
--- two weights of a tail joined, and not capped
-abbrev pub plain : Measure → ℕ → ℕ → ℕ
-plain Cost a b = a + b
-plain Days a b = max a b
-plain Grade a b = min a b
-
--- a tail can be passed: it can be read, and its weights can be summed
-pub record Passable (tail ws ds : List ℕ) : Type 0 where
-  pub legible : Legible tail ws ds
-  pub light : (v : ℕ) → cell ws v < heavy
-  pub short : length tail ≤ longestTail
-
--- i places of a tail are passed: they join to j and are g deep, whatever is made besides, so what is left has the answer of the whole
-pub record Carried (A : Algebra) (w d : ℕ → ℕ) (tail : List ℕ) (i j g : ℕ) : Type 0 where
-  pub inside : i ≤ length tail
-  pub shallow : g ≤ mostVertices
-  pub light : j ≤ A .unit + i * heavy
-  pub carried : (e own : ℕ) (w′ d′ : ℕ → ℕ) → Extends w d w′ d′ → rest A e own w′ d′ j g (drop i tail) ≡ rest A e own w′ d′ (A .unit) 0 tail
-
--- the same as far as possible: to the end, or to a vertex that is unmade
+-- a tail is passed as far as possible: to the end, or to a vertex that is unmade
 pub record Gone (A : Algebra) (w d : ℕ → ℕ) (tail : List ℕ) (i j g : ℕ) : Type 0 where
   pub passed : Carried A w d tail i j g
   pub stopped : i < length tail → d (cell tail i) ≡ 0

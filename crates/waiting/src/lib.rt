@@ -3,6 +3,8 @@
 // the vertex is made, what waited for it goes on: it reaches its end and is offered to its head, or
 // waits again. So each place of a tail is read once.
 use offers::deeper;
+use offers::finishing;
+use offers::joining;
 use weights::Hyperedge;
 use weights::Label;
 use weights::Mark;
@@ -10,16 +12,16 @@ use weights::Measure;
 use weights::Vertex;
 use weights::Weight;
 ghost use mathlib.Core.Path.{_≡_};
-ghost use Prim.Native.Nat.{_+_, _<_, min};
+ghost use Prim.Native.Nat.{_+_, _<_};
 ghost use lib.ListN.{length};
 ghost use Rattle.weights.specs.declared.Offer.the-variants.{Found};
-ghost use Rattle.weights.specs.Figures.{capped};
 ghost use Rattle.weights.specs.Labels.{label};
 ghost use Rattle.weights.specs.Measures.{algebra};
 ghost use Rattle.columns.specs.Lent.{lent};
 ghost use Rattle.columns.specs.Columns.{cell};
 ghost use Rattle.queue.specs.Queue.{offered};
-ghost use Rattle.waiting.specs.Lines.{plain, Passable, lines, pushed, Carried, Gone, Linkable, Linked, Pushable, Queueable, Arriving, Offerable, Going, Went, Wakeful, Starting, Waking, Rested, Empty};
+ghost use Rattle.offers.specs.Passing.{Passable, Carried};
+ghost use Rattle.waiting.specs.Lines.{lines, pushed, Gone, Linkable, Linked, Pushable, Queueable, Arriving, Offerable, Going, Went, Wakeful, Starting, Waking, Rested, Empty};
 
 // In place of a hyperedge, at the end of a list.
 const END: u16 = 65535;
@@ -29,51 +31,6 @@ struct Reached {
     at: usize,
     joined: Weight,
     deepest: u64,
-}
-
-// The lesser of two grades.
-fn lesser(a: u64, b: u64) -> u64
-    ensures { λ r. ⌜ r ≡ min a b ⌝ }
-{
-    if a > b {
-        return b;
-    }
-    a
-}
-
-// Two weights of a tail, joined. A sum is capped only at the end of the tail, where it has no more
-// than 16 weights.
-pub fn joining(measure: Measure, a: u64, b: u64) -> u64
-    requires { ⌜ a + b < 18446744073709551616 ⌝ }
-    ensures { λ r. ⌜ r ≡ plain measure a b ⌝ }
-{
-    match measure {
-        Measure::Cost => a + b,
-        Measure::Days => deeper(a, b),
-        Measure::Grade => lesser(a, b),
-    }
-}
-
-// A sum, above the ceiling or not, as a weight.
-fn capped(sum: u64) -> u64
-    ensures { λ r. ⌜ r ≡ capped sum ⌝ }
-{
-    if sum > Weight::CEILING.0 {
-        return Weight::OVER.0;
-    }
-    sum
-}
-
-// What an own weight and a tail's joined weights come to. Their sum does not wrap, so it is compared once.
-fn finishing(measure: Measure, own: u64, joined: u64) -> u64
-    requires { ⌜ own + joined < 18446744073709551616 ⌝ }
-    ensures { λ r. ⌜ r ≡ algebra measure .finish own joined ⌝ }
-{
-    match measure {
-        Measure::Cost => capped(own + joined),
-        Measure::Days => capped(own + joined),
-        Measure::Grade => lesser(own, joined),
-    }
 }
 
 // From a place of a tail on to the first vertex that is not made, or to the end.

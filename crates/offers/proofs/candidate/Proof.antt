@@ -1,43 +1,54 @@
--- `offers::candidate` meets its contract. The invariant: what is left of the tail gives, from what was joined so far, what the whole tail does. Assumes nothing.
-use mathlib.Core.Path.{_≡_, sym, _∙_}
-use Prim.Native.Nat.{ℕ, _≤_, _<_, _-_}
+-- `offers::candidate` meets its contract. The invariant: what was passed is carried. Assumes nothing.
+use mathlib.Core.Path.{_≡_, sym, _∙_, subst}
+use mathlib.Core.Bool.{false}
+use Prim.Native.Nat.{ℕ, _+_, _-_, _<_, max}
 use native.Mathlib.Omega.{arith}
 use borrow.Author.Needs.{needs}
-use lib.ListN.{length, drop}
-use mathlib.Core.Bool.{false}
+use lib.ListN.{length}
 use Rattle.weights.specs.Figures.{isStruckMark}
 use Rattle.weights.specs.Measures.{algebra}
-use Rattle.columns.specs.Acceptance.{mostVertices}
 use Rattle.columns.specs.Columns.{cell}
-use Rattle.offers.proofs.Laws.{rest, rest-more, rest-stop, rest-end, rest-whole, struck-nothing}
+use Rattle.offers.specs.Passing.{Carried}
+use Rattle.offers.proofs.Laws.{rest-whole, struck-nothing}
+use Rattle.offers.proofs.Passing.{unit-light, carried-none, carried-more, carried-stop, carried-end}
 use Rattle.offers.proofs.candidate.Statement.{statement}
 use Rattle.offers.proofs.candidate.Tie as tie
 
 abbrev Inv-loop : tie.InvT-loop
-Inv-loop measure e own tail weights depths joined₀ deepest₀ i₀ joined deepest i =
-    (i ≤ length tail) × (deepest ≤ mostVertices)
-    × (rest (algebra measure) (e .0) (own .0) (cell weights) (cell depths) (joined .0) deepest (drop i tail) ≡ rest (algebra measure) (e .0)
-    (own .0) (cell weights) (cell depths) (algebra measure .unit) 0 tail)
+Inv-loop measure e own tail weights depths joined₀ deepest₀ i₀ joined deepest i = Carried (algebra measure) (cell weights) (cell depths) tail i joined deepest
 
 abbrev μ-loop : tie.MeasureT-loop
 μ-loop measure e own tail weights depths joined₀ deepest₀ i₀ joined deepest i = length tail - i
 
+-- what the call was given, as the mark is asked, and in the loop
+abbrev begin : tie.After-is-struck Inv-loop μ-loop → tie.Start Inv-loop μ-loop
+begin c = c .before .before .before .before
+
+abbrev entry : tie.At-loop Inv-loop μ-loop → tie.Start Inv-loop μ-loop
+entry c = begin (c .before .before .before)
+
+-- its mark
+abbrev mark : tie.After-is-struck Inv-loop μ-loop → ℕ
+mark c = begin c .args .mark .0
+
 returns : tie.Need-returns Inv-loop μ-loop
-returns c = struck-nothing _ _ _ (c .before .before .before .before .before .args .mark .0) _ _ _ (sym (c .before .is-struck .ensures) ∙ c .if1 .taken)
-
-loop-holds : tie.Need-loop-holds Inv-loop μ-loop
-loop-holds c = (omega arith, omega arith, rw (c .unit .ensures))
-
--- a vertex of the tail has its place in the columns
-inside : (c : tie.In-loop Inv-loop μ-loop) → let a = c .before .before .before .before .before .before .before .before .args in cell (a .tail .now) (c .before .loop .i) < length (a .depths .now)
-inside c = c .before .before .before .before .before .before .before .before .pre .inside (c .before .loop .i) (c .loop-test .taken)
+returns c = struck-nothing _ _ _ (mark (c .before)) _ _ _ (sym (c .before .is-struck .ensures) ∙ c .if1 .taken)
 
 -- past the first test the hyperedge is not struck
-abbrev mark : tie.Else1 Inv-loop μ-loop → ℕ
-mark c = c .before .before .before .before .before .args .mark .0
-
-standing : (c : tie.Else1 Inv-loop μ-loop) → isStruckMark (mark c) ≡ false
+standing : (c : tie.Else1 Inv-loop μ-loop) → isStruckMark (mark (c .before)) ≡ false
 standing c = sym (c .before .is-struck .ensures) ∙ c .if1 .left
+
+loop-holds : tie.Need-loop-holds Inv-loop μ-loop
+loop-holds c =
+    let a = begin (c .before .before) .args in
+    let A = algebra (a .measure) in
+    let w = cell (a .weights .now) in
+    let d = cell (a .depths .now) in
+    subst (λ (j : ℕ). Carried A w d (a .tail .now) 0 j 0) (sym (c .unit .ensures)) (carried-none A w d (a .tail .now))
+
+-- a vertex of the tail has its place in the columns
+inside : (c : tie.In-loop Inv-loop μ-loop) → let a = entry (c .before) .args in cell (a .tail .now) (c .before .loop .i) < length (a .depths .now)
+inside c = entry (c .before) .pre .0 .legible .inside (c .before .loop .i) (c .loop-test .taken)
 
 mul-depth : tie.Need-mul-depth Inv-loop μ-loop
 mul-depth c = omega (arith, inside (c .before))
@@ -47,37 +58,53 @@ shared-slice-read-depth c = inside (c .before .before)
 
 returns-2 : tie.Need-returns-2 Inv-loop μ-loop
 returns-2 c =
-    let p = c .before .before .before .before in
-    let q = p .before .before in
-    rest-stop _ _ _ _ _ _ _ _ _ (c .before .before .before .loop-test .taken) (c .if2 .taken)
-    ∙ p .loop .inv .2
-    ∙ rest-whole _ _ _ (mark q) _ _ _ (standing q)
+    let t = c .before .before .before in
+    let q = t .before .before .before in
+    carried-stop (t .before .loop .inv) _ _ (t .loop-test .taken) (c .if2 .taken) ∙ rest-whole _ _ _ (mark (q .before)) _ _ _ (standing q)
 
 mul-weight : tie.Need-mul-weight Inv-loop μ-loop
-mul-weight c = omega (arith, inside (c .before .before .before))
+mul-weight c = let t = c .before .before .before in omega (arith, inside t, entry (t .before) .pre .0 .legible .level)
 
 shared-slice-read-weight : tie.Need-shared-slice-read-weight Inv-loop μ-loop
-shared-slice-read-weight c = omega (arith, inside (c .before .before .before .before))
+shared-slice-read-weight c = let t = c .before .before .before .before in omega (arith, inside t, entry (t .before) .pre .0 .legible .level)
+
+joining-requires : tie.Need-joining-requires Inv-loop μ-loop
+joining-requires c κs =
+    let t = c .before .before .before .before in
+    let l = t .before .loop in
+    let s = entry (t .before) in
+    omega (arith, l .inv .light, unit-light (s .args .measure), s .pre .0 .light (cell (s .args .tail .now) (l .i)), s .pre .0 .short, t .loop-test .taken)
 
 loop-again : tie.Need-loop-again Inv-loop μ-loop
 loop-again c =
-    let p = c .before .before .before .before .before .before in
-    let q = p .before in
-    let r = q .before .before .before .before .before .before .before in
-    let s = r in
-    let l = q in (
-      omega arith,
-      omega (arith, s .pre .shallow (cell (s .args .tail .now) (l .loop .i)), c .deeper .ensures),
-      rw (c .before .join .ensures, c .deeper .ensures) (rest-more _ _ _ _ _ _ _ _ _ (p .loop-test .taken) (c .before .before .before .if2 .left) ∙ l .loop .inv .2),
-    )
+    let j = c .before in
+    let t = j .before .before .before .before .before in
+    let l = t .before .loop in
+    let s = entry (t .before) in
+    let A = algebra (s .args .measure) in
+    let w = cell (s .args .weights .now) in
+    let d = cell (s .args .depths .now) in
+    let tail = s .args .tail .now in
+    let v = cell tail (l .i) in
+    subst (λ (g : ℕ). Carried A w d tail (l .i + 1) (j .joining .result) g) (sym (c .deeper .ensures))
+    (subst (λ (x : ℕ). Carried A w d tail (l .i + 1) x (max (l .deepest) (d v))) (sym (j .joining .ensures))
+    (carried-more (s .args .measure) w d tail (l .i) (l .joined) (l .deepest) (l .inv) (t .loop-test .taken)
+    (j .before .before .if2 .left) (s .pre .0 .legible .shallow v) (s .pre .0 .light v)))
+
+finishing-requires : tie.Need-finishing-requires Inv-loop μ-loop
+finishing-requires c κs =
+    let l = c .before .loop in
+    let s = entry (c .before) in
+    omega (arith, l .inv .light, l .inv .inside, unit-light (s .args .measure), s .pre .0 .short, s .pre .1)
+
+add-depth : tie.Need-add-depth Inv-loop μ-loop
+add-depth c = omega (arith, c .before .before .loop .inv .shallow)
 
 returns-3 : tie.Need-returns-3 Inv-loop μ-loop
 returns-3 c =
-    let q = c .before .before .before .before in
-    rw (c .finish .ensures)
-    (rest-end _ _ _ _ _ _ _ _ _ (c .before .loop-test .left)
-    ∙ c .before .before .loop .inv .2
-    ∙ rest-whole _ _ _ (mark q) _ _ _ (standing q))
+    let l = c .before .before in
+    let q = l .before .before in
+    rw (c .finishing .ensures) (carried-end (l .loop .inv) _ _ (c .before .loop-test .left) ∙ rest-whole _ _ _ (mark (q .before)) _ _ _ (standing q))
 
 pub candidate-spec : {M : Type 1} → statement M
 candidate-spec =
@@ -96,11 +123,11 @@ candidate-spec =
     returns-2
     mul-weight
     shared-slice-read-weight
-    (λ c κs. search needs)
+    joining-requires
     (λ c κs. search needs)
     (λ c. search needs)
     (λ c. search needs)
     loop-again
-    (λ c κs. search needs)
-    (λ c. search needs)
+    finishing-requires
+    add-depth
     returns-3)

@@ -41,7 +41,11 @@ abbrev heightFor : tie.Start Inv-loop μ-loop → ℕ → ℕ
 heightFor c = let a = c .args in heightAt (a .measure) (a .own .now) (a .strikes .now) (a .spans .now) (a .tails .now) (a .weights .now) (a .depths .now)
 
 offer-requires : tie.Need-offer-requires Inv-loop μ-loop
-offer-requires c κs = entry (c .before) .pre .each (c .before .loop .i) (c .loop-test .taken)
+offer-requires c κs =
+    let p = entry (c .before) .pre in
+    let i = c .before .loop .i in
+    let h = c .loop-test .taken in
+    (p .each i h, p .figures i h, p .light)
 
 -- what the line offers comes to its value and its height
 value : (c : tie.After-offer Inv-loop μ-loop) → valueIn (c .offer .result) ≡ valueFor (entry (c .before .before)) (c .before .before .loop .i)

@@ -8,14 +8,16 @@ use Rattle.weights.specs.Figures.{isStruckMark}
 use Rattle.weights.specs.Measures.{algebra}
 use Rattle.provenance.specs.Labelling.{offerOf}
 use Rattle.columns.specs.Columns.{cell}
-use Rattle.columns.specs.Lent.{Legible}
+use Rattle.offers.specs.Passing.{Passable}
+use Rattle.offers.proofs.Passing.{passable}
 use Rattle.offers.proofs.offer.Statement.{statement}
 use Rattle.offers.proofs.offer.Tie as tie
 
 candidate-requires : tie.Need-candidate-requires
 candidate-requires c κs =
     let entry = c .before .before .before .before .before .before .before .before .before in
-    subst (λ (t : List ℕ). Legible t (entry .args .weights .now) (entry .args .depths .now)) (sym (c .tail-of .ensures)) (entry .pre .legible)
+    let p = passable (entry .pre .0) (entry .pre .2) in
+    (subst (λ (t : List ℕ). Passable t (entry .args .weights .now) (entry .args .depths .now)) (sym (c .tail-of .ensures)) p, entry .pre .1)
 
 returns : tie.Need-returns
 returns c =

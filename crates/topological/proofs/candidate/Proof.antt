@@ -11,8 +11,8 @@ use Rattle.weights.specs.Measures.{algebra}
 use Rattle.columns.specs.Columns.{cell}
 use Rattle.provenance.specs.Labelling.{offerOf}
 use Rattle.queue.specs.Keys.{keyOf}
-use Rattle.waiting.specs.Lines.{Carried}
-use Rattle.waiting.proofs.Keeping.{unit-light, carried-none, carried-more}
+use Rattle.offers.specs.Passing.{Carried}
+use Rattle.offers.proofs.Passing.{unit-light, carried-none, carried-more}
 use Rattle.waiting.proofs.Steps.{found-fits}
 use Rattle.topological.proofs.Passing.{offer-fits, stops, ends}
 use Rattle.topological.proofs.candidate.Statement.{statement}

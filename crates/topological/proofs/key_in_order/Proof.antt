@@ -10,9 +10,10 @@ use Rattle.weights.specs.Measures.{algebra}
 use Rattle.provenance.specs.Labelling.{offerOf}
 use Rattle.columns.specs.Columns.{tailOf, cell}
 use Rattle.queue.specs.Keys.{keyOf}
-use Rattle.waiting.specs.Lines.{Passable}
+use Rattle.offers.specs.Passing.{Passable}
 use Rattle.offers.proofs.Laws.{struck-nothing}
-use Rattle.topological.proofs.Passing.{passable, bought-fits, bought}
+use Rattle.offers.proofs.Passing.{passable}
+use Rattle.topological.proofs.Passing.{bought-fits, bought}
 use Rattle.topological.proofs.key_in_order.Statement.{statement}
 use Rattle.topological.proofs.key_in_order.Tie as tie
 
@@ -87,7 +88,8 @@ tail-of-requires c κs = entry (c .before .before) .pre .edge .placed
 candidate-requires : tie.Need-candidate-requires
 candidate-requires c κs =
     let s = entry (c .before .before .before) in
-    (subst (λ (t : List ℕ). Passable t (s .args .weights .now) (s .args .depths .now)) (sym (c .tail-of .ensures)) (passable (s .pre)), s .pre .numbered)
+    let p = passable (s .pre .edge) (s .pre .light) in
+    (subst (λ (t : List ℕ). Passable t (s .args .weights .now) (s .args .depths .now)) (sym (c .tail-of .ensures)) p, s .pre .numbered)
 
 returns-3 : tie.Need-returns-3
 returns-3 c =

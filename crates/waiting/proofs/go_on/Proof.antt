@@ -8,8 +8,8 @@ use borrow.Author.Needs.{needs}
 use lib.ListN.{length}
 use Rattle.weights.specs.Measures.{algebra}
 use Rattle.columns.specs.Columns.{cell}
-use Rattle.waiting.specs.Lines.{Carried}
-use Rattle.waiting.proofs.Keeping.{unit-light, carried-more}
+use Rattle.offers.specs.Passing.{Carried}
+use Rattle.offers.proofs.Passing.{unit-light, carried-more}
 
 abbrev Inv-loop : tie.InvT-loop
 Inv-loop measure tail weights depths at₀ joined₀ deepest₀ at joined deepest = Carried (algebra measure) (cell weights) (cell depths) tail at (joined .0) deepest

@@ -1,8 +1,8 @@
--- `waiting::joining` meets its contract, measure by measure. Assumes nothing.
+-- `offers::joining` meets its contract, measure by measure. Assumes nothing.
 use native.Mathlib.Omega.{arith}
 use borrow.Author.Needs.{needs}
-use Rattle.waiting.proofs.joining.Statement.{statement}
-use Rattle.waiting.proofs.joining.Tie as tie
+use Rattle.offers.proofs.joining.Statement.{statement}
+use Rattle.offers.proofs.joining.Tie as tie
 
 enum-told : tie.Need-enum-told
 enum-told c = search needs
