@@ -1,15 +1,17 @@
--- The laws by which a room is filled: nothing is written yet, the root is, or the part behind what is written is lent for the next bill of a tail. Assumes nothing.
+-- The laws by which a room is filled: nothing is written yet, the root is, or the next bill of a tail follows: one line, or the part behind what is written is lent for
+-- it. Assumes nothing.
 use mathlib.Core.Path.{_≡_, sym, _∙_, ap, ap₂, subst}
 use mathlib.Core.List.{List, [], _∷_, _++_, append-assoc, append-nil}
-use Prim.Native.Nat.{ℕ, _+_, _-_, _≤_, _<_}
+use Prim.Native.Nat.{ℕ, _+_, _-_, _*_, _≤_, _<_}
+use native.Mathlib.Numerals.{add-one}
 use native.Mathlib.Omega.{arith}
 use lib.ListN.{length, getD, take, drop, set, length-set, length-append, length-take, length-drop, take-append-drop, drop-of-length-le}
-use lib.Seq.{take-all, take-at, drop-at, drop-drop}
+use lib.Seq.{take-all, take-at, drop-at, drop-drop, set-split}
 use borrow.Rule.Slice.PartMut.{putMid}
-use Rattle.columns.specs.Columns.{tailOf}
+use Rattle.columns.specs.Columns.{cell, tailOf}
 use Rattle.columns.specs.Filled.{filled}
 use Rattle.bill.specs.Walk.{vertexBill, tailBill, Grounded, VertexFits, TailFits, WrittenFrom}
-use Rattle.bill.proofs.Walks.{Below, grounded, each-at, bills-none, bills-next, bills-all, bills-within}
+use Rattle.bill.proofs.Walks.{Below, grounded, bought, each-at, bills-none, bills-next, bills-all, bills-within}
 
 -- a room from a place on, as it is lent; and the room once that part has come back as ys
 abbrev pub lent : List ℕ → ℕ → List ℕ
@@ -46,6 +48,16 @@ write-root {e} {es} {new} {room} {to} {left} q h w = go room h w
     go : (r : List ℕ) → 0 < length r → WrittenFrom 1 es (set r 0 e) to left → WrittenFrom 0 new r to left
     go [] k w = absurd (omega arith)
     go (x ∷ xs) k w = record { reaches = rw q (omega (arith, w .reaches)); content = rw q (w .content) }
+
+-- one line
+write-line : (room : List ℕ) (at e : ℕ) → at < length room → WrittenFrom at (e ∷ []) room (at + 1) (set room at e)
+unfolding filled
+write-line room at e h = record {
+  reaches = omega arith;
+  content =
+      let behind = ap (λ (n : ℕ). drop n room) (sym (add-one at)) ∙ sym (drop-drop 1 at room) in
+      set-split room at e h ∙ ap (λ (zs : List ℕ). take at room ++ e ∷ zs) behind;
+}
 
 -- one writing after another
 write-on : {from to end : ℕ} {new next room now left : List ℕ} → from + length new ≤ length room → WrittenFrom from new room to now → WrittenFrom to next now end left
@@ -104,6 +116,10 @@ module _ {spans tails edges : List ℕ} {depth : ℕ} {tail : List ℕ} {from : 
   pub none-written : WrittenFrom from (tailBill spans tails edges depth (take 0 tail)) room from room
   none-written = write-none from _ room (bills-none (vertexBill spans tails edges depth) tail)
 
+  -- the next part is grounded
+  pub next-below : (i : ℕ) → i < length tail → Below spans tails edges depth (getD tail i 0)
+  next-below i h = grounded spans tails edges depth (getD tail i 0) (each-at (Grounded spans tails edges depth) tail i h (f .grounded))
+
   module _ (i : ℕ) {at : ℕ} {now : List ℕ} (w : WrittenFrom from (tailBill spans tails edges depth (take i tail)) room at now) where
     so-far-within : from + length (tailBill spans tails edges depth (take i tail)) ≤ length room
     so-far-within = omega (arith, f .fits, bills-within (vertexBill spans tails edges depth) tail i)
@@ -130,6 +146,21 @@ module _ {spans tails edges : List ℕ} {depth : ℕ} {tail : List ℕ} {from : 
         grounded = each-at (Grounded spans tails edges depth) tail i h (f .grounded);
         fits = omega (arith, next-within, lent-length now at reached-within);
       }
+
+      -- its line has a place
+      pub line-within : at < length now
+      line-within = omega (arith, next-within, ap length (next-below i h .lines))
+
+      -- and is all of its bill if it lists nothing
+      pub line-written : let root = getD edges (getD tail i 0) 0 in
+          cell spans (2 * root + 1) ≡ 0 → WrittenFrom from (tailBill spans tails edges depth (take (i + 1) tail)) room (at + 1) (set now at root)
+      line-written z =
+          let root = getD edges (getD tail i 0) 0 in
+          let before = tailBill spans tails edges depth (take i tail) in
+          let one = ap (λ (es : List ℕ). before ++ es) (bought spans tails edges (next-below i h) z) in
+          let more = write-on so-far-within w (write-line now at root line-within) in
+          let bills = bills-next (vertexBill spans tails edges depth) tail h ∙ one in
+          subst (λ (es : List ℕ). WrittenFrom from es room (at + 1) (set now at root)) (sym bills) more
 
       module _ {count : ℕ} {ys : List ℕ} (v : WrittenFrom 0 (vertexBill spans tails edges depth (getD tail i 0)) (lent now at) count ys) where
         pub next-reached : at + count ≤ length now

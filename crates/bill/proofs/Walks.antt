@@ -1,7 +1,7 @@
 -- The laws by which the walks of a bill go. Assumes nothing.
 use mathlib.Core.Path.{_≡_, refl, sym, _∙_, ap, subst}
 use mathlib.Core.List.{List, [], _∷_, _++_, append-assoc, append-nil}
-use Prim.Native.Nat.{ℕ, zero, suc, _+_, _-_, _≤_, _<_}
+use Prim.Native.Nat.{ℕ, zero, suc, _+_, _-_, _*_, _≤_, _<_}
 use native.Mathlib.Nat.{sub-zero}
 use native.Mathlib.Numerals.{add-one}
 use native.Mathlib.Omega.{arith}
@@ -10,7 +10,7 @@ use lib.ListN.{length, getD, take, drop, length-append, take-append-drop}
 use lib.Seq.{take-all, take-suc}
 use borrow.Author.Tests.{le-leb, lt-leb}
 use Rattle.provenance.specs.Support.{bills, bill}
-use Rattle.columns.specs.Columns.{tailOf}
+use Rattle.columns.specs.Columns.{cell, tailOf}
 use Rattle.bill.specs.declared.Budget.{Budget}
 use Rattle.bill.specs.declared.Budget.the-variants.{Left, Spent}
 use Rattle.columns.specs.Lent.{Placed}
@@ -71,6 +71,13 @@ module _ (spans tails edges : List ℕ) where
         below = subst (λ (k : ℕ). AllGrounded spans tails edges k tail) (sym e) (g .2);
         lines = ap (λ (k : ℕ). getD edges v 0 ∷ tailBill spans tails edges k tail) (sym e);
       }
+
+  -- a bought part, whose line lists nothing: its bill is the line
+  pub bought : {depth v : ℕ} → Below depth v → cell spans (2 * getD edges v 0 + 1) ≡ 0 → vertexBill spans tails edges depth v ≡ getD edges v 0 ∷ []
+  bought {depth} {v} b z =
+      let f = vertexBill spans tails edges (depth - 1) in
+      let behind = drop (cell spans (2 * getD edges v 0)) tails in
+      b .lines ∙ ap (λ (n : ℕ). getD edges v 0 ∷ bills f (take n behind)) z ∙ ap (λ (es : List ℕ). getD edges v 0 ∷ es) (bills-none f behind)
 
 -- a budget pays for n lines, or for fewer
 module _ (b n : ℕ) where

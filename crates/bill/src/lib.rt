@@ -116,7 +116,8 @@ fn vertex_bill(
 }
 
 // The same for the bills of the vertices of a tail, one behind the other, in a room that is filled
-// so far; gives how far it is filled then.
+// so far; gives how far it is filled then. A hyperedge that lists nothing is written with no call:
+// most lines of a bill are such.
 fn tail_bill(
     depth: u64,
     tail: &[u64],
@@ -133,6 +134,16 @@ fn tail_bill(
     let mut i = 0;
     while i < tail.len() {
         let v = tail[i];
+        let part = v as usize;
+        let root = edges[part];
+        let e = root as usize;
+        let listed = spans[2 * e + 1];
+        if listed == 0 {
+            room[at] = root;
+            at += 1;
+            i += 1;
+            continue;
+        }
         let length = vertex_bill(depth, Vertex(v), spans, tails, edges, &mut room[at..]);
         at += length;
         i += 1;

@@ -1,15 +1,16 @@
--- `bill::vertex_bill` and `bill::tail_bill` meet their contracts: the root is written, and behind it the bills of the tail, each into what remains of the room. Depth
--- falls from a part to its tail. Assumes nothing.
+-- `bill::vertex_bill` and `bill::tail_bill` meet their contracts: the root is written, and behind it the bills of the tail: a bought part's line at once, each other bill
+-- into what remains of the room. Depth falls from a part to its tail. Assumes nothing.
 use mathlib.Core.Path.{refl}
 use Prim.Native.Nat.{ℕ, _+_, _-_, _*_, _<_}
 use native.Mathlib.Omega.{arith}
 use borrow.Author.Needs.{needs}
 use borrow.Fn.Kinds.{In}
 use borrow.Fn.PlainCycle.{Measures, is, falls, and}
-use lib.ListN.{length, take}
+use lib.ListN.{length, getD, take}
 use Rattle.bill.specs.Walk.{tailBill, WrittenFrom}
-use Rattle.bill.proofs.Walks.{grounded}
-use Rattle.bill.proofs.Rooms.{root-fits, below-fits, vertex-written, vertex-kept, none-written, room-kept, reached-within, all-written, next-fits, next-reached, next-written}
+use Rattle.bill.proofs.Walks.{Below, grounded}
+use Rattle.bill.proofs.Rooms.{root-fits, below-fits, vertex-written, vertex-kept, none-written, room-kept, reached-within, all-written}
+use Rattle.bill.proofs.Rooms.{next-below, line-within, line-written, next-fits, next-reached, next-written}
 use Rattle.bill.proofs.tail_bill.Reads as tail
 use Rattle.bill.proofs.tail_bill.Kinds as tail-kinds
 use Rattle.bill.proofs.+tail_bill+vertex_bill.Lts-tail_bill as tail-lts
@@ -52,6 +53,17 @@ abbrev entry : {t : ℕ} → tail-lts.At-loop (vertex-below t, vertex.Post) (tai
     tail-lts.Start (vertex-below t, vertex.Post) (tail-at t) tail.Post Inv-loop μ-loop
 entry l = l .before .before .before .before .before .before
 
+-- the head of a turn, from where the chosen line of its part is read
+abbrev turn : {t : ℕ} → tail-lts.After-shared-slice-known7 (vertex-below t, vertex.Post) (tail-at t) tail.Post Inv-loop μ-loop →
+    tail-lts.In-loop (vertex-below t, vertex.Post) (tail-at t) tail.Post Inv-loop μ-loop
+turn k = k .before .before .before
+
+-- the part of a turn is grounded
+part-below : (t : ℕ) (k : tail-lts.In-loop (vertex-below t, vertex.Post) (tail-at t) tail.Post Inv-loop μ-loop) →
+    let a = entry (k .before) .args in
+    Below (a .spans .now) (a .tails .now) (a .edges .now) (a .depth) (getD (a .tail .now) (k .before .loop .i) 0)
+part-below t k = next-below (entry (k .before) .pre .1) (k .before .loop .i) (k .loop-test .taken)
+
 tail-loop-holds : (t : ℕ) → tail-lts.Need-loop-holds (vertex-below t, vertex.Post) (tail-at t) tail.Post Inv-loop μ-loop
 tail-loop-holds t c = none-written (c .before .before .before .before .before .pre .1)
 
@@ -61,35 +73,44 @@ tail-mul-v t c = search needs
 tail-shared-slice-read-v : (t : ℕ) → tail-lts.Need-shared-slice-read-v (vertex-below t, vertex.Post) (tail-at t) tail.Post Inv-loop μ-loop
 tail-shared-slice-read-v t c = search needs
 
-tail-mul-vertex-bill : (t : ℕ) → tail-lts.Need-mul-vertex-bill (vertex-below t, vertex.Post) (tail-at t) tail.Post Inv-loop μ-loop
-tail-mul-vertex-bill t c =
-    let l = c .before .before in
+tail-mul-root : (t : ℕ) → tail-lts.Need-mul-root (vertex-below t, vertex.Post) (tail-at t) tail.Post Inv-loop μ-loop
+tail-mul-root t c = omega (arith, part-below t (c .before) .vertex)
+
+tail-shared-slice-read-root : (t : ℕ) → tail-lts.Need-shared-slice-read-root (vertex-below t, vertex.Post) (tail-at t) tail.Post Inv-loop μ-loop
+tail-shared-slice-read-root t c = part-below t (c .before .before) .vertex
+
+tail-mul-listed : (t : ℕ) → tail-lts.Need-mul-listed (vertex-below t, vertex.Post) (tail-at t) tail.Post Inv-loop μ-loop
+tail-mul-listed t c = omega (arith, part-below t (c .before .before) .placed .span)
+
+tail-add-listed : (t : ℕ) → tail-lts.Need-add-listed (vertex-below t, vertex.Post) (tail-at t) tail.Post Inv-loop μ-loop
+tail-add-listed t c = omega (arith, part-below t (c .before .before) .placed .span)
+
+tail-mul-listed-2 : (t : ℕ) → tail-lts.Need-mul-listed-2 (vertex-below t, vertex.Post) (tail-at t) tail.Post Inv-loop μ-loop
+tail-mul-listed-2 t c = omega (arith, part-below t (c .before .before) .placed .span)
+
+tail-shared-slice-read-listed : (t : ℕ) → tail-lts.Need-shared-slice-read-listed (vertex-below t, vertex.Post) (tail-at t) tail.Post Inv-loop μ-loop
+tail-shared-slice-read-listed t c = part-below t (turn c) .placed .span
+
+tail-mul-room : (t : ℕ) → tail-lts.Need-mul-room (vertex-below t, vertex.Post) (tail-at t) tail.Post Inv-loop μ-loop
+tail-mul-room t c =
+    let k = turn (c .before) in
+    let l = k .before in
     let f = entry l .pre .1 in
-    omega (arith, reached-within f (l .loop .i) (l .loop .inv), room-kept f (l .loop .i) (l .loop .inv))
+    omega (arith, line-within f (l .loop .i) (l .loop .inv) (k .loop-test .taken), room-kept f (l .loop .i) (l .loop .inv))
 
-tail-sub-vertex-bill : (t : ℕ) → tail-lts.Need-sub-vertex-bill (vertex-below t, vertex.Post) (tail-at t) tail.Post Inv-loop μ-loop
-tail-sub-vertex-bill t c = let l = c .before .before in reached-within (entry l .pre .1) (l .loop .i) (l .loop .inv)
-
-tail-part-vertex-bill-start : (t : ℕ) → tail-lts.Need-part-vertex-bill-start (vertex-below t, vertex.Post) (tail-at t) tail.Post Inv-loop μ-loop
-tail-part-vertex-bill-start t c = let l = c .before .before in reached-within (entry l .pre .1) (l .loop .i) (l .loop .inv)
-
-tail-part-vertex-bill-end : (t : ℕ) → tail-lts.Need-part-vertex-bill-end (vertex-below t, vertex.Post) (tail-at t) tail.Post Inv-loop μ-loop
-tail-part-vertex-bill-end t c = search needs
-
-tail-vertex-bill-requires : (t : ℕ) → tail-lts.Need-vertex-bill-requires (vertex-below t, vertex.Post) (tail-at t) tail.Post Inv-loop μ-loop
-tail-vertex-bill-requires t c κs =
-    let k = c .before .before in
-    let s = entry (k .before) in
-    (omega (arith, s .pre .0), next-fits (s .pre .1) (k .before .loop .i) (k .before .loop .inv) (k .loop-test .taken))
+tail-slice-write-room : (t : ℕ) → tail-lts.Need-slice-write-room (vertex-below t, vertex.Post) (tail-at t) tail.Post Inv-loop μ-loop
+tail-slice-write-room t c =
+    let k = turn (c .before) in
+    let l = k .before in
+    let f = entry l .pre .1 in
+    line-within f (l .loop .i) (l .loop .inv) (k .loop-test .taken)
 
 tail-add-at : (t : ℕ) → tail-lts.Need-add-at (vertex-below t, vertex.Post) (tail-at t) tail.Post Inv-loop μ-loop
 tail-add-at t c =
-    let p = c .before .before in
-    let k = p .before .before .before in
+    let k = turn (c .before) in
     let l = k .before in
     let f = entry l .pre .1 in
-    let reached = next-reached f (l .loop .i) (l .loop .inv) (k .loop-test .taken) (p .vertex-bill .ensures) in
-    omega (arith, reached, room-kept f (l .loop .i) (l .loop .inv), entry l .good)
+    omega (arith, line-within f (l .loop .i) (l .loop .inv) (k .loop-test .taken), room-kept f (l .loop .i) (l .loop .inv), entry l .good)
 
 tail-add-i : (t : ℕ) → tail-lts.Need-add-i (vertex-below t, vertex.Post) (tail-at t) tail.Post Inv-loop μ-loop
 tail-add-i t c = search needs
@@ -99,8 +120,51 @@ tail-loop-less t c = search needs
 
 tail-loop-again : (t : ℕ) → tail-lts.Need-loop-again (vertex-below t, vertex.Post) (tail-at t) tail.Post Inv-loop μ-loop
 tail-loop-again t c =
+    let k = turn (c .before) in
+    let l = k .before in
+    let f = entry l .pre .1 in
+    line-written f (l .loop .i) (l .loop .inv) (k .loop-test .taken) (c .if1 .taken)
+
+tail-mul-vertex-bill : (t : ℕ) → tail-lts.Need-mul-vertex-bill (vertex-below t, vertex.Post) (tail-at t) tail.Post Inv-loop μ-loop
+tail-mul-vertex-bill t c =
+    let l = turn (c .before) .before in
+    let f = entry l .pre .1 in
+    omega (arith, reached-within f (l .loop .i) (l .loop .inv), room-kept f (l .loop .i) (l .loop .inv))
+
+tail-sub-vertex-bill : (t : ℕ) → tail-lts.Need-sub-vertex-bill (vertex-below t, vertex.Post) (tail-at t) tail.Post Inv-loop μ-loop
+tail-sub-vertex-bill t c = let l = turn (c .before) .before in reached-within (entry l .pre .1) (l .loop .i) (l .loop .inv)
+
+tail-part-vertex-bill-start : (t : ℕ) → tail-lts.Need-part-vertex-bill-start (vertex-below t, vertex.Post) (tail-at t) tail.Post Inv-loop μ-loop
+tail-part-vertex-bill-start t c = let l = turn (c .before) .before in reached-within (entry l .pre .1) (l .loop .i) (l .loop .inv)
+
+tail-part-vertex-bill-end : (t : ℕ) → tail-lts.Need-part-vertex-bill-end (vertex-below t, vertex.Post) (tail-at t) tail.Post Inv-loop μ-loop
+tail-part-vertex-bill-end t c = search needs
+
+tail-vertex-bill-requires : (t : ℕ) → tail-lts.Need-vertex-bill-requires (vertex-below t, vertex.Post) (tail-at t) tail.Post Inv-loop μ-loop
+tail-vertex-bill-requires t c κs =
+    let k = turn (c .before .before) in
+    let s = entry (k .before) in
+    (omega (arith, s .pre .0), next-fits (s .pre .1) (k .before .loop .i) (k .before .loop .inv) (k .loop-test .taken))
+
+tail-add-at-2 : (t : ℕ) → tail-lts.Need-add-at-2 (vertex-below t, vertex.Post) (tail-at t) tail.Post Inv-loop μ-loop
+tail-add-at-2 t c =
     let p = c .before .before in
-    let k = p .before .before .before in
+    let k = turn (p .before .before .before) in
+    let l = k .before in
+    let f = entry l .pre .1 in
+    let reached = next-reached f (l .loop .i) (l .loop .inv) (k .loop-test .taken) (p .vertex-bill .ensures) in
+    omega (arith, reached, room-kept f (l .loop .i) (l .loop .inv), entry l .good)
+
+tail-add-i-2 : (t : ℕ) → tail-lts.Need-add-i-2 (vertex-below t, vertex.Post) (tail-at t) tail.Post Inv-loop μ-loop
+tail-add-i-2 t c = search needs
+
+tail-loop-less-2 : (t : ℕ) → tail-lts.Need-loop-less-2 (vertex-below t, vertex.Post) (tail-at t) tail.Post Inv-loop μ-loop
+tail-loop-less-2 t c = search needs
+
+tail-loop-again-2 : (t : ℕ) → tail-lts.Need-loop-again-2 (vertex-below t, vertex.Post) (tail-at t) tail.Post Inv-loop μ-loop
+tail-loop-again-2 t c =
+    let p = c .before .before in
+    let k = turn (p .before .before .before) in
     next-written (entry (k .before) .pre .1) (k .before .loop .i) (k .before .loop .inv) (k .loop-test .taken) (p .vertex-bill .ensures)
 
 tail-same-length : (t : ℕ) → tail-lts.Need-same-length (vertex-below t, vertex.Post) (tail-at t) tail.Post Inv-loop μ-loop
@@ -151,15 +215,27 @@ pub +tail-bill+vertex-bill-spec : {M : Type 1} → statement M
     (tail-loop-holds t)
     (tail-mul-v t)
     (tail-shared-slice-read-v t)
+    (tail-mul-root t)
+    (tail-shared-slice-read-root t)
+    (tail-mul-listed t)
+    (tail-add-listed t)
+    (tail-mul-listed-2 t)
+    (tail-shared-slice-read-listed t)
+    (tail-mul-room t)
+    (tail-slice-write-room t)
+    (tail-add-at t)
+    (tail-add-i t)
+    (tail-loop-less t)
+    (tail-loop-again t)
     (tail-mul-vertex-bill t)
     (tail-sub-vertex-bill t)
     (tail-part-vertex-bill-start t)
     (tail-part-vertex-bill-end t)
     (tail-vertex-bill-requires t)
-    (tail-add-at t)
-    (tail-add-i t)
-    (tail-loop-less t)
-    (tail-loop-again t)
+    (tail-add-at-2 t)
+    (tail-add-i-2 t)
+    (tail-loop-less-2 t)
+    (tail-loop-again-2 t)
     (tail-same-length t)
     (tail-returns t))
     (λ t. vertex-lts.spec (tail-of.Asked, tail-of.Learnt, tail-below t, tail.Post) (vertex-at t) vertex.Post
