@@ -122,6 +122,10 @@ module _ (b : ℕ) {e : ℕ} {es xs : List ℕ} (q : xs ≡ e ∷ es) where
       let k : 1 + length es ≡ length (e ∷ es) = omega arith in
       rw q (p ∙ spend-more b 1 (length es) (omega arith) ∙ ap (spend b) k)
 
+-- a line alone
+pub line-paid : (b : ℕ) {e : ℕ} {xs : List ℕ} → xs ≡ e ∷ [] → ¬ (b ≡ 0) → Left (b - 1) ≡ spend b (length xs)
+line-paid b q h = rw q (sym (spend-paid b 1 (omega arith)))
+
 -- a budget pays for the parts of a list up to a place: for none, for one more, for all
 module _ (b : ℕ) (f : ℕ → List ℕ) (xs : List ℕ) where
   pub none-paid : Left b ≡ spend b (length (bills f (take 0 xs)))

@@ -67,7 +67,8 @@ fn vertex_spend(
 }
 
 // The same for the bills of the vertices of a tail. A loop, so that the stack grows with the depth of
-// a bill and not with the lengths of its tails.
+// a bill and not with the lengths of its tails. A vertex whose hyperedge lists nothing costs one line,
+// with no call.
 fn tail_spend(
     depth: u64,
     tail: &[u64],
@@ -85,6 +86,17 @@ fn tail_spend(
     let mut i = 0;
     while i < tail.len() {
         let v = tail[i];
+        let part = v as usize;
+        let root = edges[part] as usize;
+        let size = spans[2 * root + 1];
+        if size == 0 {
+            if left == 0 {
+                return Budget::Spent;
+            }
+            left -= 1;
+            i += 1;
+            continue;
+        }
         let b = vertex_spend(depth, Vertex(v), spans, tails, edges, lengths, left);
         let Budget::Left(rest) = b else {
             return Budget::Spent;

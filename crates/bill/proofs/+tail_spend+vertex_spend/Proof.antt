@@ -1,5 +1,5 @@
 -- `bill::vertex_spend` and `bill::tail_spend` meet their contracts: a budget pays for a bill whose length is known at once, and else for the root, then for the bills of
--- the tail one after the other. Depth falls from a part to its tail. Assumes nothing.
+-- the tail one after the other: of a bought part for its line. Depth falls from a part to its tail. Assumes nothing.
 use mathlib.Core.Path.{_≡_, sym, _∙_, ap, subst}
 use mathlib.Core.List.{List}
 use Prim.Native.Nat.{ℕ, _+_, _-_, _*_, _≤_, _<_}
@@ -7,11 +7,11 @@ use native.Mathlib.Omega.{arith}
 use borrow.Author.Needs.{needs}
 use borrow.Fn.Kinds.{In}
 use borrow.Fn.PlainCycle.{Measures, is, falls, and}
-use lib.ListN.{length, take, set, length-set}
+use lib.ListN.{length, getD, take, set, length-set}
 use Rattle.bill.specs.declared.Budget.{Budget}
 use Rattle.bill.specs.declared.Budget.the-variants.{Left}
 use Rattle.bill.specs.Walk.{vertexBill, tailBill, AllGrounded, KnownStill, spend}
-use Rattle.bill.proofs.Walks.{each-at, grounded, is-left, root-unpaid, root-paid, none-paid, all-paid, next-paid, next-unpaid}
+use Rattle.bill.proofs.Walks.{Below, each-at, grounded, bought, is-left, root-unpaid, root-paid, line-paid, none-paid, all-paid, next-paid, next-unpaid}
 use Rattle.bill.proofs.Lengths.{still-known, known-on, vertex-known, known-paid, known-more}
 use Rattle.bill.proofs.tail_spend.Reads as tail
 use Rattle.bill.proofs.tail_spend.Kinds as tail-kinds
@@ -57,6 +57,17 @@ abbrev entry : {t : ℕ} → tail-lts.At-loop (vertex-below t, vertex.Post) (tai
     tail-lts.Start (vertex-below t, vertex.Post) (tail-at t) tail.Post Inv-loop μ-loop
 entry l = l .before .before .before .before .before .before
 
+-- the head of a turn, from where the chosen line of its part is read
+abbrev turn : {t : ℕ} → tail-lts.After-shared-slice-known7 (vertex-below t, vertex.Post) (tail-at t) tail.Post Inv-loop μ-loop →
+    tail-lts.In-loop (vertex-below t, vertex.Post) (tail-at t) tail.Post Inv-loop μ-loop
+turn k = k .before .before .before
+
+-- the part of a turn is grounded
+part-below : (t : ℕ) (k : tail-lts.In-loop (vertex-below t, vertex.Post) (tail-at t) tail.Post Inv-loop μ-loop) →
+    let a = entry (k .before) .args in
+    Below (a .spans .now) (a .tails .now) (a .edges .now) (a .depth) (getD (a .tail .now) (k .before .loop .i) 0)
+part-below t k = grounded _ _ _ _ _ (each-at _ _ _ (k .loop-test .taken) (entry (k .before) .pre .1 .0))
+
 tail-loop-holds : (t : ℕ) → tail-lts.Need-loop-holds (vertex-below t, vertex.Post) (tail-at t) tail.Post Inv-loop μ-loop
 tail-loop-holds t c = let s = c .before .before .before .before .before in (none-paid _ _ (s .args .tail .now), still-known (s .pre .1 .1))
 
@@ -66,30 +77,35 @@ tail-mul-v t c = search needs
 tail-shared-slice-read-v : (t : ℕ) → tail-lts.Need-shared-slice-read-v (vertex-below t, vertex.Post) (tail-at t) tail.Post Inv-loop μ-loop
 tail-shared-slice-read-v t c = search needs
 
-tail-vertex-spend-requires : (t : ℕ) → tail-lts.Need-vertex-spend-requires (vertex-below t, vertex.Post) (tail-at t) tail.Post Inv-loop μ-loop
-tail-vertex-spend-requires t c κs =
-    let k = c .before .before in
-    let s = entry (k .before) in
-    (omega (arith, s .pre .0), (each-at _ _ _ (k .loop-test .taken) (s .pre .1 .0), k .before .loop .inv .1 .known))
+tail-mul-root : (t : ℕ) → tail-lts.Need-mul-root (vertex-below t, vertex.Post) (tail-at t) tail.Post Inv-loop μ-loop
+tail-mul-root t c = omega (arith, part-below t (c .before) .vertex)
 
-tail-enum-known-b : (t : ℕ) → tail-lts.Need-enum-known-b (vertex-below t, vertex.Post) (tail-at t) tail.Post Inv-loop μ-loop
-tail-enum-known-b t c = search needs
+tail-shared-slice-read-root : (t : ℕ) → tail-lts.Need-shared-slice-read-root (vertex-below t, vertex.Post) (tail-at t) tail.Post Inv-loop μ-loop
+tail-shared-slice-read-root t c = part-below t (c .before .before) .vertex
 
-tail-enum-told : (t : ℕ) → tail-lts.Need-enum-told (vertex-below t, vertex.Post) (tail-at t) tail.Post Inv-loop μ-loop
-tail-enum-told t c = search needs
+tail-mul-size : (t : ℕ) → tail-lts.Need-mul-size (vertex-below t, vertex.Post) (tail-at t) tail.Post Inv-loop μ-loop
+tail-mul-size t c = omega (arith, part-below t (c .before .before) .placed .span)
+
+tail-add-size : (t : ℕ) → tail-lts.Need-add-size (vertex-below t, vertex.Post) (tail-at t) tail.Post Inv-loop μ-loop
+tail-add-size t c = omega (arith, part-below t (c .before .before) .placed .span)
+
+tail-mul-size-2 : (t : ℕ) → tail-lts.Need-mul-size-2 (vertex-below t, vertex.Post) (tail-at t) tail.Post Inv-loop μ-loop
+tail-mul-size-2 t c = omega (arith, part-below t (c .before .before) .placed .span)
+
+tail-shared-slice-read-size : (t : ℕ) → tail-lts.Need-shared-slice-read-size (vertex-below t, vertex.Post) (tail-at t) tail.Post Inv-loop μ-loop
+tail-shared-slice-read-size t c = part-below t (turn c) .placed .span
 
 tail-same-length : (t : ℕ) → tail-lts.Need-same-length (vertex-below t, vertex.Post) (tail-at t) tail.Post Inv-loop μ-loop
-tail-same-length t c =
-    let p = c .before .before .before .before in
-    known-on (p .before .before .before .before .loop .inv .1) (p .vertex-spend .ensures .1) .long
+tail-same-length t c = turn (c .before .before) .before .loop .inv .1 .long
 
 tail-returns : (t : ℕ) → tail-lts.Need-returns (vertex-below t, vertex.Post) (tail-at t) tail.Post Inv-loop μ-loop
 tail-returns t c =
-    let p = c .before .before .before .before in
-    let k = p .before .before .before in
-    let next = p .vertex-spend .ensures in
+    let k = turn (c .before .before) in
     let so-far = k .before .loop .inv in
-    (next-unpaid _ _ _ (so-far .0) (k .loop-test .taken) (sym (c .enum-told .given .1) ∙ next .0), known-on (so-far .1) (next .1))
+    (next-unpaid _ _ _ (so-far .0) (k .loop-test .taken) (root-unpaid _ (part-below t k .lines) (c .if2 .taken)), so-far .1)
+
+tail-sub-left : (t : ℕ) → tail-lts.Need-sub-left (vertex-below t, vertex.Post) (tail-at t) tail.Post Inv-loop μ-loop
+tail-sub-left t c = search needs
 
 tail-add-i : (t : ℕ) → tail-lts.Need-add-i (vertex-below t, vertex.Post) (tail-at t) tail.Post Inv-loop μ-loop
 tail-add-i t c = search needs
@@ -99,17 +115,55 @@ tail-loop-less t c = search needs
 
 tail-loop-again : (t : ℕ) → tail-lts.Need-loop-again (vertex-below t, vertex.Post) (tail-at t) tail.Post Inv-loop μ-loop
 tail-loop-again t c =
+    let k = turn (c .before .before) in
+    let so-far = k .before .loop .inv in
+    let one = bought _ _ _ (part-below t k) (c .before .if1 .taken) in
+    (next-paid _ _ _ (so-far .0) (k .loop-test .taken) (line-paid _ one (c .if2 .left)), so-far .1)
+
+tail-vertex-spend-requires : (t : ℕ) → tail-lts.Need-vertex-spend-requires (vertex-below t, vertex.Post) (tail-at t) tail.Post Inv-loop μ-loop
+tail-vertex-spend-requires t c κs =
+    let k = turn (c .before .before) in
+    let s = entry (k .before) in
+    (omega (arith, s .pre .0), (each-at _ _ _ (k .loop-test .taken) (s .pre .1 .0), k .before .loop .inv .1 .known))
+
+tail-enum-known-b : (t : ℕ) → tail-lts.Need-enum-known-b (vertex-below t, vertex.Post) (tail-at t) tail.Post Inv-loop μ-loop
+tail-enum-known-b t c = search needs
+
+tail-enum-told : (t : ℕ) → tail-lts.Need-enum-told (vertex-below t, vertex.Post) (tail-at t) tail.Post Inv-loop μ-loop
+tail-enum-told t c = search needs
+
+tail-same-length-2 : (t : ℕ) → tail-lts.Need-same-length-2 (vertex-below t, vertex.Post) (tail-at t) tail.Post Inv-loop μ-loop
+tail-same-length-2 t c =
+    let p = c .before .before .before .before in
+    known-on (turn (p .before .before .before) .before .loop .inv .1) (p .vertex-spend .ensures .1) .long
+
+tail-returns-2 : (t : ℕ) → tail-lts.Need-returns-2 (vertex-below t, vertex.Post) (tail-at t) tail.Post Inv-loop μ-loop
+tail-returns-2 t c =
+    let p = c .before .before .before .before in
+    let k = turn (p .before .before .before) in
+    let next = p .vertex-spend .ensures in
+    let so-far = k .before .loop .inv in
+    (next-unpaid _ _ _ (so-far .0) (k .loop-test .taken) (sym (c .enum-told .given .1) ∙ next .0), known-on (so-far .1) (next .1))
+
+tail-add-i-2 : (t : ℕ) → tail-lts.Need-add-i-2 (vertex-below t, vertex.Post) (tail-at t) tail.Post Inv-loop μ-loop
+tail-add-i-2 t c = search needs
+
+tail-loop-less-2 : (t : ℕ) → tail-lts.Need-loop-less-2 (vertex-below t, vertex.Post) (tail-at t) tail.Post Inv-loop μ-loop
+tail-loop-less-2 t c = search needs
+
+tail-loop-again-2 : (t : ℕ) → tail-lts.Need-loop-again-2 (vertex-below t, vertex.Post) (tail-at t) tail.Post Inv-loop μ-loop
+tail-loop-again-2 t c =
     let p = c .before .before .before .before .before in
-    let k = p .before .before .before in
+    let k = turn (p .before .before .before) in
     let next = p .vertex-spend .ensures in
     let so-far = k .before .loop .inv in
     (next-paid _ _ _ (so-far .0) (k .loop-test .taken) (sym (c .before .b .given .1) ∙ next .0), known-on (so-far .1) (next .1))
 
-tail-same-length-2 : (t : ℕ) → tail-lts.Need-same-length-2 (vertex-below t, vertex.Post) (tail-at t) tail.Post Inv-loop μ-loop
-tail-same-length-2 t c = c .before .loop .inv .1 .long
+tail-same-length-3 : (t : ℕ) → tail-lts.Need-same-length-3 (vertex-below t, vertex.Post) (tail-at t) tail.Post Inv-loop μ-loop
+tail-same-length-3 t c = c .before .loop .inv .1 .long
 
-tail-returns-2 : (t : ℕ) → tail-lts.Need-returns-2 (vertex-below t, vertex.Post) (tail-at t) tail.Post Inv-loop μ-loop
-tail-returns-2 t c = let all = c .before .loop .inv in (all-paid _ _ _ (all .0) (c .loop-test .left), all .1)
+tail-returns-3 : (t : ℕ) → tail-lts.Need-returns-3 (vertex-below t, vertex.Post) (tail-at t) tail.Post Inv-loop μ-loop
+tail-returns-3 t c = let all = c .before .loop .inv in (all-paid _ _ _ (all .0) (c .loop-test .left), all .1)
 
 vertex-returns : (t : ℕ) → vertex-lts.Need-returns (pay.Asked, pay.Learnt, tail-of.Asked, tail-of.Learnt, tail-below t, tail.Post) (vertex-at t) vertex.Post
 vertex-returns t c =
@@ -233,16 +287,28 @@ pub +tail-spend+vertex-spend-spec : {M : Type 1} → statement M
     (tail-loop-holds t)
     (tail-mul-v t)
     (tail-shared-slice-read-v t)
-    (tail-vertex-spend-requires t)
-    (tail-enum-known-b t)
-    (tail-enum-told t)
+    (tail-mul-root t)
+    (tail-shared-slice-read-root t)
+    (tail-mul-size t)
+    (tail-add-size t)
+    (tail-mul-size-2 t)
+    (tail-shared-slice-read-size t)
     (tail-same-length t)
     (tail-returns t)
+    (tail-sub-left t)
     (tail-add-i t)
     (tail-loop-less t)
     (tail-loop-again t)
+    (tail-vertex-spend-requires t)
+    (tail-enum-known-b t)
+    (tail-enum-told t)
     (tail-same-length-2 t)
-    (tail-returns-2 t))
+    (tail-returns-2 t)
+    (tail-add-i-2 t)
+    (tail-loop-less-2 t)
+    (tail-loop-again-2 t)
+    (tail-same-length-3 t)
+    (tail-returns-3 t))
     (λ t. vertex-lts.spec (pay.Asked, pay.Learnt, tail-of.Asked, tail-of.Learnt, tail-below t, tail.Post) (vertex-at t) vertex.Post
     (vertex-returns t)
     (vertex-mul-known t)
