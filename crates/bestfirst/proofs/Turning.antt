@@ -25,13 +25,12 @@ use Rattle.columns.specs.Acceptance.{acceptance}
 use Rattle.columns.proofs.Accepted.{table-accepted}
 use Rattle.columns.proofs.Usable.{same-table}
 use Rattle.minima.specs.Minima.{none, leaves, leastKey, Grouped, raised}
-use Rattle.minima.proofs.Laws.{raised-length, raised-grouped}
 use Rattle.queue.specs.Keys.{heavy, unpacked, Fitting, keyOf}
 use Rattle.queue.proofs.Laws.{least-next, fitting-next, told-nothing, told-found}
-use Rattle.waiting.specs.Lines.{Lines, roomOf, Offerable, Waking, Rested}
+use Rattle.waiting.specs.Lines.{Lines, roomOf, Offerable, Waking, Woken, Rested}
 use Rattle.bestfirst.specs.Turns.{Placeable, Waits, Underway}
 use Rattle.waiting.proofs.Steps.{head-key, edge-fits, found-fits}
-use Rattle.waiting.proofs.Queueing.{queued, woken, woken-chain, relabelled}
+use Rattle.waiting.proofs.Queueing.{queued, woken, woken-chain, relabelled, woken-raisable, key-out}
 
 -- what is found is the candidate of a hyperedge of the table, whose head is unmade
 pub record Told (H : Hypergraph) (d : ℕ → ℕ) (k : ℕ) (l : Label) : Type 0 where
@@ -84,7 +83,7 @@ module _ {m : Measure} {c : Columns} {a : Answers} {s : Lines} {q : List ℕ} (u
   key-is : leastKey q ≡ keyOf m here
   key-is =
       least-next m H own w d (λ e h. edge-fits offerable e h m) q (λ e h. omega (arith, head-key offerable e h, offerable .sized))
-      (queued m c w d (head-key offerable) (λ e h. edge-fits offerable e h m) (u .waits .rested .waiting))
+      (queued m c w d (u .waits .rested .waiting) (u .waits .rested .taken))
 
   pub stuck : (k : ℕ) → k ≡ leastKey q → k ≡ none → a ≡ turn (algebra m) H own a
   unfolding turn
@@ -158,12 +157,6 @@ module _ {m : Measure} {c : Columns} {a : Answers} {s : Lines} {q : List ℕ} (u
       sized = subst (λ (n : ℕ). length q′ ≡ 2 * roomOf (same-table c n) .vertices) same-vertices z;
     }
 
-    wide : v < leaves q
-    wide = omega (arith, few, offerable .sized)
-
-    raised-sized : length (raised q v) ≡ 2 * roomOf c .vertices
-    raised-sized = raised-length q v (offerable .grouped) wide ∙ offerable .sized
-
     weights-same : (x : ℕ) → x ≢ v → cell ws x ≡ w x
     weights-same x n = getD-set-other (a .weights) v x (l .weight .0) 0 n
 
@@ -174,41 +167,51 @@ module _ {m : Measure} {c : Columns} {a : Answers} {s : Lines} {q : List ℕ} (u
     made z = omega (arith, getD-set-same (a .depths) v (l .depth) 0 (placeable .depths), told .deep)
 
     -- what waited for the new vertex is still to be looked at
-    waking : Waking m c ws ds s (raised q v) v (cell (s .first) v)
+    waking : Waking m c ws ds s q v (cell (s .first) v)
     waking = record {
       sizes = u .waits .rested .sizes;
       made = made;
-      left = woken m c w d (cell ws) (cell ds) v weights-same depths-same (told .fresh) made (head-key offerable) few head-below (u .waits .rested .waiting);
-      chain = woken-chain m c w d (cell ws) (cell ds) v weights-same depths-same (told .fresh) made (head-key offerable) few head-below (u .waits .rested .waiting);
-      waiting = relabelled m c w d (cell ws) (cell ds) v weights-same depths-same (told .fresh) made (head-key offerable) few head-below (u .waits .rested .waiting);
+      left = woken m c w d (cell ws) (cell ds) v weights-same depths-same (told .fresh) made head-below (u .waits .rested .waiting);
+      chain = woken-chain m c w d (cell ws) (cell ds) v weights-same depths-same (told .fresh) made head-below (u .waits .rested .waiting);
+      waiting = relabelled m c w d (cell ws) (cell ds) v weights-same depths-same (told .fresh) made head-below (u .waits .rested .waiting);
+      taken = λ x l n k. u .waits .rested .taken x l (λ z. n (depths-same x k ∙ z));
     }
 
-    -- the same from the columns in which the label was stored, the vertex that got it, and the queue without its key
+    -- the same from the columns in which the label was stored, and the vertex that got it
     module _ {b : Answers} {x : ℕ} (p : b ≡ put a v l) (h : x ≡ v) where
       pub stored-turn : b ≡ turn (algebra m) H own a
       stored-turn = p ∙ turned
 
-      pub raisable : (Grouped q) × (x < leaves q)
-      raisable = (offerable .grouped, omega (arith, wide))
+      abbrev table : Columns
+      table = same-table c (length (b .depths))
 
-      pub waking-after : {q′ : List ℕ} → q′ ≡ raised q x
-          → Offerable (same-table c (length (b .depths))) (b .weights) (b .depths) q′
-          × ((x < length (b .depths)) × Waking m (same-table c (length (b .depths))) (b .weights) (b .depths) s q′ x (cell (s .first) x))
-      waking-after {q′} r =
-          let e : q′ ≡ raised q v = r ∙ ap (raised q) h in
-          let g = subst Grouped (sym e) (raised-grouped q v (offerable .grouped) wide) in (
-            subst (λ (z : Answers). Offerable (same-table c (length (z .depths))) (z .weights) (z .depths) q′) (sym p) (offerable-after q′ g (ap length e ∙ raised-sized)),
-            (
-              omega (arith, ap (λ (z : Answers). length (z .depths)) p, same-vertices, head-below),
-              subst (λ (z : Answers). Waking m (same-table c (length (z .depths))) (z .weights) (z .depths) s q′ x (cell (s .first) x)) (sym p)
-                  (subst (λ (z : List ℕ). Waking m (same-table c (length ds)) ws ds s z x (cell (s .first) x)) (sym e)
-                  (subst (λ (z : ℕ). Waking m (same-table c (length ds)) ws ds s (raised q v) z (cell (s .first) z)) (sym h)
-                  (subst (λ (n : ℕ). Waking m (same-table c n) ws ds s (raised q v) v (cell (s .first) v)) same-vertices waking))),
-            ),
-          )
+      same-table-again : length (b .depths) ≡ c .vertices
+      same-table-again = ap (λ (z : Answers). length (z .depths)) p ∙ sym same-vertices
 
-      pub waits-after : {s′ : Lines} {q′ : List ℕ} → Rested m (same-table c (length (b .depths))) (b .weights) (b .depths) s′ q′ → Waits m c (b .weights) (b .depths) s′ q′
-      waits-after {s′} {q′} r = record {
-        light = λ y. omega (arith, ap (λ (z : Answers). cell (z .weights) y) p, light y);
-        rested = subst (λ (n : ℕ). Rested m (same-table c n) (b .weights) (b .depths) s′ q′) (ap (λ (z : Answers). length (z .depths)) p ∙ sym same-vertices) r;
-      }
+      pub waking-after : Offerable table (b .weights) (b .depths) q × ((x < length (b .depths)) × Waking m table (b .weights) (b .depths) s q x (cell (s .first) x))
+      waking-after = (
+        subst (λ (z : Answers). Offerable (same-table c (length (z .depths))) (z .weights) (z .depths) q) (sym p) (offerable-after q (offerable .grouped) (offerable .sized)),
+        (
+          omega (arith, same-table-again, head-below),
+          subst (λ (z : Answers). Waking m (same-table c (length (z .depths))) (z .weights) (z .depths) s q x (cell (s .first) x)) (sym p)
+              (subst (λ (z : ℕ). Waking m (same-table c (length ds)) ws ds s q z (cell (s .first) z)) (sym h)
+              (subst (λ (n : ℕ). Waking m (same-table c n) ws ds s q v (cell (s .first) v)) same-vertices waking)),
+        ),
+      )
+
+      -- what is left, when what waited has gone on
+      module _ {s′ : Lines} {q′ : List ℕ} (r : Woken m table (b .weights) (b .depths) s′ q′ x) where
+        woken-here : Woken m c (b .weights) (b .depths) s′ q′ x
+        woken-here = subst (λ (n : ℕ). Woken m (same-table c n) (b .weights) (b .depths) s′ q′ x) same-table-again r
+
+        few-here : x < roomOf c .vertices
+        few-here = omega (arith, few)
+
+        pub raisable : (Grouped q′) × (x < leaves q′)
+        raisable = woken-raisable (head-key offerable) few-here woken-here
+
+        pub waits-after : {q″ : List ℕ} → q″ ≡ raised q′ x → Waits m c (b .weights) (b .depths) s′ q″
+        waits-after e = record {
+          light = λ y. omega (arith, ap (λ (z : Answers). cell (z .weights) y) p, light y);
+          rested = subst (λ (z : List ℕ). Rested m c (b .weights) (b .depths) s′ z) (sym e) (key-out (head-key offerable) few-here woken-here);
+        }

@@ -41,8 +41,8 @@ fn store(
     head
 }
 
-// A turn: the head of the next hyperedge gets its candidate as label, and what waited for that head
-// goes on.
+// A turn: the head of the next hyperedge gets its candidate as label, what waited for that head goes
+// on, and its key is taken out.
 fn turn(
     measure: Measure,
     heads: &[u64],
@@ -77,7 +77,6 @@ fn turn(
     }
     let l = queue::unpack(measure, key);
     let v = store(l, heads, weights, depths, edges);
-    minima::raise(queue, v.0 as usize);
     waiting::wake_all(
         measure,
         v,
@@ -95,6 +94,7 @@ fn turn(
         deepest,
         queue,
     );
+    minima::raise(queue, v.0 as usize);
 }
 
 // A turn for each vertex.

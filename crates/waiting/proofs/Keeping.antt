@@ -1,6 +1,6 @@
 -- The laws of hyperedges that wait: labels that extend others keep what was passed; a list keeps its hyperedges while others move; and one that moves keeps what holds
 -- of all. Assumes nothing.
-use Prim.Native.Nat.{ℕ, _*_, _≤_, _<_, min}
+use Prim.Native.Nat.{ℕ, _+_, _*_, _≤_, _<_, min}
 use mathlib.Core.Path.{_≡_, refl, sym, _∙_, ap, subst}
 use mathlib.Core.Logic.{_⊎_, inl, inr, _≢_}
 use mathlib.Core.Bool.{Bool, true, false}
@@ -15,17 +15,15 @@ use Rattle.weights.specs.Choice.{pick}
 use Rattle.weights.specs.declared.Measure.{Measure}
 use Rattle.weights.specs.Measures.{Algebra, algebra}
 use Rattle.weights.specs.Figures.{isStruckMark}
-use Rattle.weights.specs.declared.Offer.{Offer}
 use Rattle.provenance.specs.Labelling.{noneZero}
 use Rattle.provenance.specs.BestFirst.{opening}
 use Rattle.columns.specs.Columns.{Columns, headAt, strikeAt, tailAt, cell}
 use Rattle.tables.specs.Table.{hypergraph}
 use Rattle.offers.specs.Passing.{Extends, Carried}
 use Rattle.minima.specs.Minima.{none, leaves, keyIn, Grouped}
-use Rattle.queue.specs.Keys.{Fitting, nothing, found, keyOf}
-use Rattle.queue.proofs.Packing.{below-none}
+use Rattle.queue.specs.Keys.{Fitting, keyOf}
 use Rattle.queue.specs.Queue.{offered}
-use Rattle.queue.proofs.Laws.{offered-length, offered-grouped, offered-key}
+use Rattle.queue.proofs.Laws.{offered-length, offered-grouped, offered-key, open-made}
 use Rattle.waiting.specs.Lines.{Lines, roomOf, Sizes, pushed, Chain, ended, linked, Waiter, keyOn, Placed, kept, waits, heard, Waiting}
 
 module _ {w d w′ d′ : ℕ → ℕ} (x : Extends w d w′ d′) where
@@ -157,10 +155,6 @@ module _ (A : Algebra) (c : Columns) (w d : ℕ → ℕ) (s : Lines) (u e i j g 
 
 -- Going on ---------------------------------------------------------------------------------------------------------------------------------------------
 
-fitting-bound : (m : Measure) {o : Offer} → Fitting o → keyOf m o ≤ none
-fitting-bound m nothing = omega arith
-fitting-bound m (found {l = l} f) = omega (arith, below-none m l f)
-
 module _ (m : Measure) (c : Columns) (w d : ℕ → ℕ) (heads : (e : ℕ) → e < length (c .heads) → headAt c e < roomOf c .vertices)
     (fits : (e : ℕ) → e < length (c .heads) → Fitting (opening (algebra m) (hypergraph c) (cell (c .own)) w d e)) where
   abbrev pub key : ℕ → ℕ
@@ -168,10 +162,6 @@ module _ (m : Measure) (c : Columns) (w d : ℕ → ℕ) (heads : (e : ℕ) → 
 
   abbrev pub Source : List ℕ → ℕ → Type 0
   Source q u = (keyIn q u ≡ none) ⊎ ((e : ℕ) × ((e < length (c .heads)) × ((headAt c e ≡ u) × (keyIn q u ≡ key e))))
-
-  pub source-bound : (q : List ℕ) (u : ℕ) → Source q u → keyIn q u ≤ none
-  source-bound q u (inl p) = omega arith
-  source-bound q u (inr x) = omega (arith, x .1 .1 .1, fitting-bound m (fits (x .0) (x .1 .0)))
 
   module _ {s : Lines} {q : List ℕ} {busy : ℕ → Type 0} (W : Waiting m c w d s q busy) (e : ℕ) (h : e < length (c .heads)) {q′ : List ℕ}
       (p : q′ ≡ offered m q (headAt c e) (opening (algebra m) (hypergraph c) (cell (c .own)) w d e)) where
@@ -193,8 +183,8 @@ module _ (m : Measure) (c : Columns) (w d : ℕ → ℕ) (heads : (e : ℕ) → 
     sized-still : length q′ ≡ 2 * roomOf c .vertices
     sized-still = ap length p ∙ offered-length m q (headAt c e) (wide (headAt c e) (heads e h)) (fits e h) (W .grouped) ∙ W .sized
 
-    sources : (u : ℕ) → u < roomOf c .vertices → Source q′ u
-    sources u l = go (eqb (headAt c e) u) refl (at-key u l) (decLe (keyIn q u) (key e)) (W .offers u l)
+    sources : (u : ℕ) → u < roomOf c .vertices → d u ≡ 0 → Source q′ u
+    sources u l z = go (eqb (headAt c e) u) refl (at-key u l) (decLe (keyIn q u) (key e)) (W .offers u l z)
       where
         as-before : keyIn q′ u ≡ keyIn q u → Source q u → Source q′ u
         as-before r (inl y) = inl (r ∙ y)
@@ -203,7 +193,15 @@ module _ (m : Measure) (c : Columns) (w d : ℕ → ℕ) (heads : (e : ℕ) → 
         go : (t : Bool) → eqb (headAt c e) u ≡ t → keyIn q′ u ≡ min (keyIn q u) (pick t (key e) none) → Dec (keyIn q u ≤ key e) → Source q u → Source q′ u
         go true y r (yes b) x = as-before (omega arith) x
         go true y r (no b) x = inr (e, (h, (eqb-true _ _ y, omega arith)))
-        go false y r b x = as-before (omega (arith, source-bound q u x)) x
+        go false y r b x = as-before (omega (arith, W .grouped .low (leaves q + u))) x
+
+    -- nothing is offered to a made vertex
+    pub taken-still : (u : ℕ) → u < roomOf c .vertices → d u ≢ 0 → keyIn q u ≡ none → keyIn q′ u ≡ none
+    taken-still u l n z = go (eqb (headAt c e) u) refl (at-key u l)
+      where
+        go : (t : Bool) → eqb (headAt c e) u ≡ t → keyIn q′ u ≡ min (keyIn q u) (pick t (key e) none) → keyIn q′ u ≡ none
+        go true y r = omega (arith, ap (keyOf m) (open-made (algebra m) (hypergraph c) (cell (c .own)) w d e (λ k. n (ap d (sym (eqb-true _ _ y)) ∙ k))))
+        go false y r = omega arith
 
     module _ {busy′ : ℕ → Type 0} (others : (x : ℕ) → busy x → (x ≡ e) ⊎ busy′ x) (fewer : (x : ℕ) → busy′ x → busy x) where
       -- e stays out of the lists

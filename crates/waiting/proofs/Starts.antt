@@ -37,7 +37,7 @@ nothing-waits {c = c} x = record {
     apart = λ v e h z i b. List·Memᴰ·not-nil i;
     grouped = subst Grouped (sym (x .nothing)) (no-keys-grouped (roomOf c .vertices) (room-power (c .vertices) (length (c .heads))));
     sized = ap length (x .nothing) ∙ length-replicate (2 * roomOf c .vertices) none;
-    offers = λ u h. inl (ap (λ (z : List ℕ). keyIn z u) (x .nothing) ∙ no-keys (roomOf c .vertices) u h);
+    offers = λ u h z. inl (ap (λ (z : List ℕ). keyIn z u) (x .nothing) ∙ no-keys (roomOf c .vertices) u h);
   };
 }
 
@@ -143,4 +143,8 @@ module _ {m : Measure} {c : Columns} {ws ds : List ℕ} {s : Lines} {q : List �
             })
 
   pub all-started : length (c .heads) ≤ i → Rested m c ws ds s q
-  all-started h = record { sizes = x .sizes; waiting = waiting-on (λ e k u b. omega arith) (λ e z. absurd z) (x .waiting) }
+  all-started h = record {
+    sizes = x .sizes;
+    waiting = waiting-on (λ e k u b. omega arith) (λ e z. absurd z) (x .waiting);
+    taken = λ u l n. absurd (n (x .unmade u));
+  }

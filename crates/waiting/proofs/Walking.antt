@@ -10,8 +10,9 @@ use Rattle.weights.specs.declared.Measure.{Measure}
 use Rattle.weights.specs.Figures.{isStruckMark}
 use Rattle.weights.specs.Measures.{algebra}
 use Rattle.columns.specs.Columns.{Columns, strikeAt, tailAt, cell}
-use Rattle.waiting.specs.Lines.{end, Lines, roomOf, pushed, Chain, ended, linked, Waiter, Placed, kept, waits, heard, Waiting, Moved, stays, Went, Offerable, Waking, Rested, Wakeful}
-use Rattle.waiting.proofs.Keeping.{chain-other, pushed-sizes, went-stays, went-waits}
+use Rattle.minima.specs.Minima.{none, keyIn}
+use Rattle.waiting.specs.Lines.{end, Lines, roomOf, pushed, Chain, ended, linked, Waiter, Placed, kept, waits, heard, Waiting, Moved, stays, Went, Offerable, Waking, Woken, Wakeful}
+use Rattle.waiting.proofs.Keeping.{chain-other, pushed-sizes, taken-still, went-stays, went-waits}
 use Rattle.waiting.proofs.Steps.{enough, edge-few, edge-room, head-key, tail-below, edge-fits}
 use Rattle.waiting.proofs.Short.{chain-short, steps, chain-steps}
 
@@ -78,6 +79,9 @@ module _ {m : Measure} {c : Columns} {ws ds : List ℕ} {s : Lines} {q : List �
     pub walked : {s′ : Lines} {q′ : List ℕ} → Went m c (cell ws) (cell ds) l s s′ q q′ → Walked s′ q′
     walked {s′} {q′} y = go (x .chain) (x .waiting) (y .moved)
       where
+        still : {es : List ℕ} → W s q es → l < length (c .heads) → (u : ℕ) → u < roomOf c .vertices → cell ds u ≢ 0 → u ≢ v → keyIn q′ u ≡ none
+        still t h u f b k = taken-still m c (cell ws) (cell ds) (head-key o) (λ e h. edge-fits o e h m) t l h (y .heard) u f b (x .taken u f b k)
+
         go : {es : List ℕ} → C s l es → W s q es → Moved (algebra m) c (cell ws) (cell ds) l s s′ → Walked s′ q′
         go (ended p) t k = absurd (n p)
         go (linked {es = es} p k r) t (stays z b) =
@@ -88,6 +92,7 @@ module _ {m : Measure} {c : Columns} {ws ds : List ℕ} {s : Lines} {q : List �
                 left = es;
                 chain = r;
                 waiting = went-stays m c (cell ws) (cell ds) (head-key o) (λ e h. edge-fits o e h m) t l (p .numbered) (y .heard) (λ e i. List·Memᴰ·cases-cons i) (λ e i. List·Memᴰ·tail i) b;
+                taken = still t (p .numbered);
               };
               fewer = counted {s′ = s} (linked p k r) r;
             })
@@ -105,14 +110,15 @@ module _ {m : Measure} {c : Columns} {ws ds : List ℕ} {s : Lines} {q : List �
                     i j g (x .sizes) (edge-room o l (p .numbered)) (tail-below o l (p .numbered)) (enough o .vertices)
                     (List·Memᴰ·head refl) k
                     (p .unstruck) b z a;
+                taken = still t (p .numbered);
               };
               fewer = counted {s′ = pushed s (cell (tailAt c l) i) l i j g} (linked p k r) r′;
             })
 
   -- the end of the list
-  pub rested : l ≡ end → Rested m c ws ds s q
-  rested z = go (x .chain) (x .waiting)
+  pub all-woken : l ≡ end → Woken m c ws ds s q v
+  all-woken z = go (x .chain) (x .waiting)
     where
-      go : {es : List ℕ} → C s l es → W s q es → Rested m c ws ds s q
-      go (ended p) t = record { sizes = x .sizes; waiting = waiting-on (λ e h u i. List·Memᴰ·not-nil i) (λ e z. absurd z) t }
+      go : {es : List ℕ} → C s l es → W s q es → Woken m c ws ds s q v
+      go (ended p) t = record { sizes = x .sizes; made = x .made; waiting = waiting-on (λ e h u i. List·Memᴰ·not-nil i) (λ e z. absurd z) t; taken = x .taken }
       go (linked p k r) t = absurd (omega (arith, edge-few o l (p .numbered)))

@@ -126,7 +126,7 @@ module _ (m : Measure) (c : Columns) (w d : ℕ → ℕ) where
     waits : (v : ℕ) → v < c .vertices → d v ≡ 0 → List·Memᴰ e (lists v) → Placed lists q busy e
     heard : noneZero d (tailAt c e) ≡ true → keyIn q (headAt c e) ≤ keyOn e → Placed lists q busy e
 
-  -- every unstruck hyperedge whose head is unmade is in one of these; and what is queued is offered by some hyperedge
+  -- every unstruck hyperedge whose head is unmade is in one of these; and what is queued for an unmade vertex is offered by some hyperedge
   pub record Waiting (s : Lines) (q : List ℕ) (busy : ℕ → Type 0) : Type 0 where
     pub lists : ℕ → List ℕ
     pub chained : (v : ℕ) → v < c .vertices → d v ≡ 0 → Chain (Waiter (algebra m) c w d s v) (s .next) (cell (s .first) v) (lists v)
@@ -134,7 +134,7 @@ module _ (m : Measure) (c : Columns) (w d : ℕ → ℕ) where
     pub apart : (v e : ℕ) → v < c .vertices → d v ≡ 0 → List·Memᴰ e (lists v) → busy e → ⊥
     pub grouped : Grouped q
     pub sized : length q ≡ 2 * roomOf c .vertices
-    pub offers : (u : ℕ) → u < roomOf c .vertices → (keyIn q u ≡ none) ⊎ ((e : ℕ) × ((e < length (c .heads)) × ((headAt c e ≡ u) × (keyIn q u ≡ keyOn e))))
+    pub offers : (u : ℕ) → u < roomOf c .vertices → d u ≡ 0 → (keyIn q u ≡ none) ⊎ ((e : ℕ) × ((e < length (c .heads)) × ((headAt c e ≡ u) × (keyIn q u ≡ keyOn e))))
 
   pub record Went (e : ℕ) (s s′ : Lines) (q q′ : List ℕ) : Type 0 where
     pub moved : Moved (algebra m) c w d e s s′
@@ -199,18 +199,27 @@ pub record Starting (m : Measure) (c : Columns) (ws ds : List ℕ) (s : Lines) (
   pub untouched : (e : ℕ) → i ≤ e → e < length (c .heads) → Untouched (algebra m) s e
   pub waiting : Waiting m c (cell ws) (cell ds) s q (λ e. i ≤ e)
 
--- vertex v is made, and what waited for it is still to be looked at
+-- vertex v is made, and what waited for it is still to be looked at; of what is made it alone has its key still in the queue
 pub record Waking (m : Measure) (c : Columns) (ws ds : List ℕ) (s : Lines) (q : List ℕ) (v l : ℕ) : Type 0 where
   pub sizes : Sizes (roomOf c) s
   pub made : cell ds v ≢ 0
   pub left : List ℕ
   pub chain : Chain (Waiter (algebra m) c (cell ws) (cell ds) s v) (s .next) l left
   pub waiting : Waiting m c (cell ws) (cell ds) s q (λ e. List·Memᴰ e left)
+  pub taken : (u : ℕ) → u < roomOf c .vertices → cell ds u ≢ 0 → u ≢ v → keyIn q u ≡ none
 
--- nothing is still to be looked at
+-- nothing is still to be looked at, and the key of v is still in the queue
+pub record Woken (m : Measure) (c : Columns) (ws ds : List ℕ) (s : Lines) (q : List ℕ) (v : ℕ) : Type 0 where
+  pub sizes : Sizes (roomOf c) s
+  pub made : cell ds v ≢ 0
+  pub waiting : Waiting m c (cell ws) (cell ds) s q (λ e. ⊥)
+  pub taken : (u : ℕ) → u < roomOf c .vertices → cell ds u ≢ 0 → u ≢ v → keyIn q u ≡ none
+
+-- nothing is still to be looked at, and what is made has no key
 pub record Rested (m : Measure) (c : Columns) (ws ds : List ℕ) (s : Lines) (q : List ℕ) : Type 0 where
   pub sizes : Sizes (roomOf c) s
   pub waiting : Waiting m c (cell ws) (cell ds) s q (λ e. ⊥)
+  pub taken : (u : ℕ) → u < roomOf c .vertices → cell ds u ≢ 0 → keyIn q u ≡ none
 
 -- no vertex is made, nothing is passed, nothing waits, and nothing is queued
 pub record Empty (m : Measure) (c : Columns) (ds : List ℕ) (s : Lines) (q : List ℕ) : Type 0 where

@@ -21,7 +21,7 @@ ghost use Rattle.columns.specs.Lent.{lent};
 ghost use Rattle.columns.specs.Columns.{cell};
 ghost use Rattle.queue.specs.Queue.{offered};
 ghost use Rattle.offers.specs.Passing.{Passable, Carried};
-ghost use Rattle.waiting.specs.Lines.{lines, pushed, Gone, Linkable, Linked, Pushable, Queueable, Arriving, Offerable, Going, Went, Wakeful, Starting, Waking, Rested, Empty};
+ghost use Rattle.waiting.specs.Lines.{lines, pushed, Gone, Linkable, Linked, Pushable, Queueable, Arriving, Offerable, Going, Went, Wakeful, Starting, Waking, Woken, Rested, Empty};
 
 // In place of a hyperedge, at the end of a list.
 const END: u16 = 65535;
@@ -242,7 +242,8 @@ fn wake(
     );
 }
 
-// Vertex v is made: what waited for it goes on.
+// Vertex v is made: what waited for it goes on. The key of v is still in the queue, the least of all:
+// a key that is lowered meanwhile goes up only to where the ways of the two meet.
 pub fn wake_all(
     measure: Measure,
     v: Vertex,
@@ -266,7 +267,7 @@ pub fn wake_all(
     ensures { λ r.
         let c = lent (now (heads .entry)) (now (own .entry)) (now (strikes .entry)) (now (spans .entry)) (now (tails .entry)) (now (depths .entry)) in
         let s′ = lines (now (first .exit)) (now (next .exit)) (now (at .exit)) (now (joined .exit)) (now (deepest .exit)) in
-        ⌜ Rested measure c (now (weights .entry)) (now (depths .entry)) s′ (now (queue .exit)) ⌝ }
+        ⌜ Woken measure c (now (weights .entry)) (now (depths .entry)) s′ (now (queue .exit)) (v .0) ⌝ }
 {
     let place = v.0 as usize;
     let mut l = first[place];

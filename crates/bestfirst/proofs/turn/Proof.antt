@@ -1,11 +1,11 @@
--- `bestfirst::turn` meets its contract: the least key is that of what is next; its head is labelled in all three columns, taken out of the queue, and what waited for it
--- goes on. Assumes nothing.
+-- `bestfirst::turn` meets its contract: the least key is that of what is next; its head is labelled in all three columns, what waited for it goes on, and its key
+-- is taken out of the queue. Assumes nothing.
 use borrow.Author.Needs.{needs}
 use Rattle.bestfirst.proofs.turn.Statement.{statement}
 use Rattle.bestfirst.proofs.turn.Tie as tie
 use mathlib.Core.Path.{_≡_}
 use Rattle.weights.specs.declared.Offer.the-variants.{Found}
-use Rattle.bestfirst.proofs.Turning.{here, stuck, found, placeable, stored-turn, raisable, waking-after, waits-after}
+use Rattle.bestfirst.proofs.Turning.{here, stuck, found, placeable, stored-turn, waking-after, raisable, waits-after}
 
 -- what the least key tells is what is next
 is-next : (c : tie.After-unpack)
@@ -26,28 +26,36 @@ store-requires c κs =
     (c .before .before .before .before .before .before .before .before .before .before .before .before .before .before .before .before .before .before .before .before .before .pre)
     (is-next (c .before .before .before))
 
-raise-requires : tie.Need-raise-requires
-raise-requires c κs =
-    let p = c .before .before .before .before .before .before .before in
-    let q = p .before .before .before .before in
-    let r = q .before .before .before .before .before .before .before .before .before .before .before .before .before .before .before .before .before .before in
-    raisable (r .pre) (is-next (q)) (p .store .ensures .1) (p .store .ensures .0)
+-- where the label is stored, from where what waited is woken
+abbrev stored : tie.After-wake-all-arg8 → tie.After-store
+stored c = c .before .before .before .before .before .before .before .before .before .before .before .before .before .before
+
+-- what the turn starts from
+abbrev start : tie.After-unpack → tie.Start
+start c = c .before .before .before .before .before .before .before .before .before .before .before .before .before .before .before .before .before .before
 
 wake-all-requires : tie.Need-wake-all-requires
 wake-all-requires c κs =
-    let p = c .before .before .before .before .before .before .before .before .before .before in
-    let q = p .before .before .before .before .before .before .before .before in
+    let q = stored c in
     let r = q .before .before .before .before in
-    let s = r .before .before .before .before .before .before .before .before .before .before .before .before .before .before .before .before .before .before in
-    waking-after (s .pre) (is-next (r)) (q .store .ensures .1) (q .store .ensures .0) (p .raise .ensures)
+    waking-after (start r .pre) (is-next r) (q .store .ensures .1) (q .store .ensures .0)
+
+raise-requires : tie.Need-raise-requires
+raise-requires c κs =
+    let p = c .before .before .before .before .before .before .before .before .before .before .before .before .before in
+    let q = stored (p .before) in
+    let r = q .before .before .before .before in
+    raisable (start r .pre) (is-next r) (q .store .ensures .1) (q .store .ensures .0) (p .wake-all .ensures)
 
 returns-2 : tie.Need-returns-2
 returns-2 c =
-    let p = c .before .before .before .before .before .before .before .before .before .before .before .before in
-    let q = p .before .before .before .before .before .before .before .before .before .before .before .before .before .before .before .before .before .before .before in
+    let p = c .before .before .before .before .before .before .before .before .before .before .before .before .before .before .before .before in
+    let q = stored (p .before) in
     let r = q .before .before .before .before in
-    let s = r .before .before .before .before .before .before .before .before .before .before .before .before .before .before .before .before .before .before in
-    (stored-turn (s .pre) (is-next (r)) (q .store .ensures .1) (q .store .ensures .0), waits-after (s .pre) (is-next (r)) (q .store .ensures .1) (q .store .ensures .0) (p .wake-all .ensures))
+    let n = is-next r in (
+      stored-turn (start r .pre) n (q .store .ensures .1) (q .store .ensures .0),
+      waits-after (start r .pre) n (q .store .ensures .1) (q .store .ensures .0) (p .wake-all .ensures) (c .before .before .raise .ensures),
+    )
 
 pub turn-spec : {M : Type 1} → statement M
 turn-spec =
@@ -58,8 +66,8 @@ turn-spec =
     returns
     (λ c κs. search needs)
     store-requires
-    raise-requires
     wake-all-requires
+    raise-requires
     (λ c. search needs)
     (λ c. search needs)
     (λ c. search needs)

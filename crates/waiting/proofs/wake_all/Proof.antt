@@ -8,7 +8,7 @@ use Rattle.columns.specs.Lent.{lent}
 use Rattle.waiting.specs.Lines.{lines, Offerable, Waking}
 use Rattle.waiting.proofs.Steps.{enough, vertices-few}
 use Rattle.waiting.proofs.Short.{steps}
-use Rattle.waiting.proofs.Walking.{wakeful, below, placed, walked, rested}
+use Rattle.waiting.proofs.Walking.{wakeful, below, placed, walked, all-woken}
 
 abbrev Inv-loop : tie.InvT-loop
 Inv-loop measure heads own strikes spans tails weights depths first₀ next₀ at₀ joined₀ deepest₀ queue₀ place l₀ first next at joined deepest queue l =
@@ -109,7 +109,7 @@ same-length-6 c =
     ∙ sym (c .before .before .before .before .before .before .before .before .before .before .before .before .before .before .before .before .pre .0 .sized)
 
 returns : tie.Need-returns Inv-loop μ-loop
-returns c = rested (queued (c .before)) (c .before .loop .inv) (c .loop-test .left)
+returns c = all-woken (queued (c .before)) (c .before .loop .inv) (c .loop-test .left)
 
 pub wake-all-spec : {M : Type 1} → statement M
 wake-all-spec =
