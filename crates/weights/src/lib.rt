@@ -1,7 +1,7 @@
 // Weights, the measures by which they are joined and compared, and the labels and entries that are
 // made of them.
 ghost use mathlib.Core.Path.{_≡_};
-ghost use Prim.Native.Nat.{_+_, min, max};
+ghost use Prim.Native.Nat.{_+_, min};
 ghost use Rattle.weights.specs.Figures.{isStruckMark, isOver, capped};
 ghost use Rattle.weights.specs.Measures.{algebra};
 ghost use Rattle.weights.specs.Labels.{aheadOf, stateOf, entryOf};
@@ -54,15 +54,6 @@ impl Weight {
         Weight(self.0 + other.0)
     }
 
-    pub fn greater(self, other: Weight) -> Weight
-        ensures { λ r. ⌜ r .0 ≡ max (self .0) (other .0) ⌝ }
-    {
-        if self.0 < other.0 {
-            return other;
-        }
-        self
-    }
-
     pub fn lesser(self, other: Weight) -> Weight
         ensures { λ r. ⌜ r .0 ≡ min (self .0) (other .0) ⌝ }
     {
@@ -82,17 +73,6 @@ impl Weight {
             Measure::Cost => Weight(0),
             Measure::Days => Weight(0),
             Measure::Grade => Weight::GREATEST,
-        }
-    }
-
-    // The weights of two vertices of a tail, joined.
-    pub fn join(self, measure: Measure, other: Weight) -> Weight
-        ensures { λ r. ⌜ r .0 ≡ algebra measure .join (self .0) (other .0) ⌝ }
-    {
-        match measure {
-            Measure::Cost => self.plus(other),
-            Measure::Days => self.greater(other),
-            Measure::Grade => self.lesser(other),
         }
     }
 
