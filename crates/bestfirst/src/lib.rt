@@ -1,12 +1,10 @@
-// Best-first over a table in columns: a turn labels the head of the least key in the queue, and what
-// waited for that head goes on.
+// Best-first over a table in columns: a turn labels the head of the least key in the queue, what
+// waited for that head goes on, and the key is taken out.
 use weights::Label;
 use weights::Measure;
 use weights::Vertex;
 use weights::Weight;
 ghost use mathlib.Core.Path.{_≡_};
-ghost use Prim.Native.Nat.{_≤_, _<_};
-ghost use lib.ListN.{length};
 ghost use Rattle.weights.specs.Measures.{algebra};
 ghost use Rattle.provenance.specs.BestFirst.{put, turn, best-first};
 ghost use Rattle.columns.specs.Columns.{answers, cell};
@@ -348,13 +346,13 @@ fn label_large(
 }
 
 // Whether so many vertices and hyperedges have their places among so many.
-fn holds(width: usize, height: usize, vertices: usize, edges: usize) -> bool
-    ensures { λ r. ⌜ r ≡ holds (record { vertices = width; edges = height }) vertices edges ⌝ }
+fn holds(most_vertices: usize, most_edges: usize, vertices: usize, edges: usize) -> bool
+    ensures { λ r. ⌜ r ≡ holds (record { vertices = most_vertices; edges = most_edges }) vertices edges ⌝ }
 {
-    if vertices > width {
+    if vertices > most_vertices {
         return false;
     }
-    edges <= height
+    edges <= most_edges
 }
 
 // Leaves the table's answers in the answer columns, which are all unmade at first.

@@ -52,7 +52,9 @@ cases =
     (entries (1_000_000_000 ∷ 10_000_000_000 ∷ 100_000_000_000 ∷ 1_000_000_000_001 ∷ []) (1 ∷ 2 ∷ 3 ∷ 4 ∷ []) (0 ∷ 1 ∷ 2 ∷ 3 ∷ []) (1 ∷ 10 ∷ 100 ∷ 1000 ∷ []))
     (Made ∷ Made ∷ Made ∷ Over ∷ [])
     -- P9: a tie goes to the lesser depth before the lower line
-    ∷ settles Cost (columns 2 (0 ∷ 1 ∷ 1 ∷ []) (5 ∷ 0 ∷ 5 ∷ []) (0 ∷ 0 ∷ 0 ∷ []) (0 ∷ 0 ∷ 0 ∷ 1 ∷ 1 ∷ 0 ∷ []) (0 ∷ [])) two (entries (5 ∷ 5 ∷ []) (1 ∷ 1 ∷ []) (0 ∷ 2 ∷ []) (1 ∷ 1 ∷ [])) (Made ∷ Made ∷ [])
+    ∷ settles Cost (columns 2 (0 ∷ 1 ∷ 1 ∷ []) (5 ∷ 0 ∷ 5 ∷ []) (0 ∷ 0 ∷ 0 ∷ []) (0 ∷ 0 ∷ 0 ∷ 1 ∷ 1 ∷ 0 ∷ []) (0 ∷ [])) two
+    (entries (5 ∷ 5 ∷ []) (1 ∷ 1 ∷ []) (0 ∷ 2 ∷ []) (1 ∷ 1 ∷ []))
+    (Made ∷ Made ∷ [])
     -- P10: line 0 struck; part 2 takes line 3, and part 0 is unmade
     ∷ strikes Cost worked five 0 (1 ∷ 0 ∷ 0 ∷ 0 ∷ 0 ∷ 0 ∷ []) (entries (0 ∷ 300 ∷ 2100 ∷ 2700 ∷ 0 ∷ []) (0 ∷ 1 ∷ 1 ∷ 2 ∷ 0 ∷ []) (0 ∷ 1 ∷ 3 ∷ 4 ∷ 0 ∷ []) (0 ∷ 1 ∷ 1 ∷ 3 ∷ 0 ∷ []))
     -- and restored: it stands at 1200, the figure that it kept, and the answers are those of P1

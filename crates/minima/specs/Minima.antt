@@ -1,6 +1,6 @@
--- A tree of least keys, four to a place: with room for so many keys, a power of 4, key v stands in the second half, and each place before has the least of the
--- four places under it, so place 1 the least of all; place 0 is not used. And what its two changes do: a key is lowered, a key is taken out. Numbers alone: what a
--- key stands for is said elsewhere. Assumes nothing: these are definitions.
+-- A tree of least keys, four to a place: with room for so many keys, a power of 4, key v stands in the second half, and each place of the first quarter, from 1 on, has
+-- the least of the four places under it, so place 1 the least of all; place 0 and the second quarter are not used. And what
+-- its two changes do: a key is lowered, a key is taken out. Numbers alone: what a key stands for is said elsewhere. Assumes nothing: these are definitions.
 use Prim.Native.Nat.{ℕ, zero, suc, _+_, _*_, _/_, _≤_, _<_, min}
 use mathlib.Core.Path.{_≡_}
 use mathlib.Core.List.{List}

@@ -1,6 +1,7 @@
 // Keys, and the first of them, in a tree of least keys: with room for so many keys, a power of 4, the
-// keys are the second half of the tree's places, and place i before them has the least of places 4 i to
-// 4 i + 3, so place 1 the least of all. No key is ever moved, and a tree of few keys is short.
+// keys are the second half of the tree's places, and place i of the first quarter, from 1 on, has the
+// least of places 4 i to 4 i + 3, so place 1 the least of all. No key is ever moved, and a tree of few
+// keys is short.
 ghost use mathlib.Core.Path.{_≡_};
 ghost use Prim.Native.Nat.{_+_, _*_, _<_, min};
 ghost use lib.ListN.{length};

@@ -49,7 +49,8 @@ module _ (m : Measure) (c : Columns) (a : Entries) where
       let s = g .sized .labels in
       let t = answers-sized m c (g .table) in
       let b = answersOf m c in
-      let u : (v : ℕ) → v < c .vertices → labels (a .labels) v ≡ labels b v = λ v h. means-unique (lawful m) (labels (a .labels) v) (labels b v) (d .means v h .means) (answers-means m c (g .table) v) in
+      let u : (v : ℕ) → v < c .vertices → labels (a .labels) v ≡ labels b v =
+      λ v h. means-unique (lawful m) (labels (a .labels) v) (labels b v) (d .means v h .means) (answers-means m c (g .table) v) in
       let weights = ext-getD 0 (a .labels .weights) (b .weights) (s .weights ∙ sym (t .weights)) (λ v h. ap (λ (l : Label). l .weight .0) (u v (omega (arith, s .weights)))) in
       let depths = ext-getD 0 (a .labels .depths) (b .depths) (s .depths ∙ sym (t .depths)) (λ v h. ap (λ (l : Label). l .depth) (u v (omega (arith, s .depths)))) in
       let edges = ext-getD 0 (a .labels .edges) (b .edges) (s .edges ∙ sym (t .edges)) (λ v h. ap (λ (l : Label). l .edge .0) (u v (omega (arith, s .edges)))) in

@@ -122,9 +122,6 @@ module _ (m : Measure) (c : Columns) where
 -- Before the walk
 
 module _ {c : Columns} {a : Answers} (h : AcceptedLabels c a) where
-  pub few-lines : length (c .heads) ≤ mostEdges
-  few-lines = table-accepted c (h .table) .edges
-
   pub linkable : Linkable (c .heads) (replicate mostVertices end) (replicate mostEdges 0)
   linkable =
       let t = table-accepted c (h .table) in

@@ -195,7 +195,8 @@ fn lesser(a: u64, b: u64) -> u64
 
 // The key of what hyperedge e of this own weight and tail gives from the labels in the columns; none
 // where a vertex of its tail is unmade. The weights are the walk's own, so a sum of at most 16 of them
-// does not wrap, and it is capped once, at the end.
+// does not wrap, and it is capped once, at the end. The loop is that of `offers::candidate`, which with
+// a second caller would be inlined in neither.
 fn candidate(
     measure: Measure,
     e: Hyperedge,

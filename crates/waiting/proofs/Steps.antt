@@ -85,9 +85,6 @@ enough {c} r = room-enough (c .vertices) (length (c .heads)) (table-accepted c (
 
 -- a hyperedge of a usable table: its tail, its head, and what it offers
 module _ {c : Columns} {ws ds q : List ℕ} (r : Offerable c ws ds q) (e : ℕ) (h : e < length (c .heads)) where
-  pub few : c .vertices ≤ 1024
-  few = table-accepted c (r .usable .accepted) .few
-
   pub edge-few : e < 4096
   edge-few = omega (arith, table-accepted c (r .usable .accepted) .edges)
 

@@ -1,12 +1,8 @@
 -- `minima::lower` meets its contract: the invariant: the way up so far, and that what is left of it gives the whole. Assumes nothing.
 use Rattle.minima.proofs.lower.Statement.{statement}
 use Rattle.minima.proofs.lower.Tie as tie
-use mathlib.Core.Path.{_∙_, ap}
-use Prim.Native.Nat.{ℕ, _*_, _<_}
 use native.Mathlib.Omega.{arith}
 use borrow.Author.Needs.{needs}
-use lib.ListN.{length}
-use Rattle.minima.specs.Minima.{leaves}
 use Rattle.minima.proofs.Laws.{Left, left-all, left-up, left-idle, left-none, left-inside}
 
 abbrev Inv-loop : tie.InvT-loop

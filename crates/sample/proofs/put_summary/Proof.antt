@@ -1,5 +1,5 @@
 -- `sample::put_summary` meets its contract, by what summarizing returned. Assumes nothing.
-use mathlib.Core.Path.{refl, sym}
+use mathlib.Core.Path.{refl}
 use native.Mathlib.Omega.{arith}
 use borrow.Author.Needs.{needs}
 use Rattle.sample.proofs.Said.{said-as, summary-refused, summary-moments}

@@ -2,16 +2,12 @@
 use mathlib.Core.Path.{sym, _∙_}
 use borrow.Author.Needs.{needs}
 use borrow.Author.Tests.{not-true, not-false}
-use Rattle.columns.specs.Columns.{Answers, Columns, answers}
-use Rattle.columns.specs.Lent.{lent}
+use Rattle.columns.specs.Columns.{Answers, answers}
 use Rattle.settle.proofs.Comparing.{valuable, comparable, wrong-fit, right-fit}
 use Rattle.settle.proofs.right_in.Statement.{statement}
 use Rattle.settle.proofs.right_in.Tie as tie
 
--- the table and the answers
-abbrev tableOf : tie.Start → Columns
-tableOf c = let a = c .args in lent (a .heads .now) (a .own .now) (a .strikes .now) (a .spans .now) (a .tails .now) (a .depths .now)
-
+-- the answers
 abbrev came : tie.Start → Answers
 came c = let a = c .args in answers (a .weights .now) (a .depths .now) (a .edges .now)
 

@@ -15,7 +15,8 @@ use Rattle.topological.proofs.Checking.{line-passed, lines-step, lines-
 
 abbrev Inv-loop : tie.InvT-loop
 Inv-loop n heads own strikes spans tails end₀ i₀ end i =
-    (i ≤ length heads) × (orderedEdgesAcceptance (columns n heads own strikes spans tails) (length heads - i) i end ≡ orderedEdgesAcceptance (columns n heads own strikes spans tails) (length heads) 0 0)
+    let c = columns n heads own strikes spans tails in
+    (i ≤ length heads) × (orderedEdgesAcceptance c (length heads - i) i end ≡ orderedEdgesAcceptance c (length heads) 0 0)
 
 abbrev μ-loop : tie.MeasureT-loop
 μ-loop n heads own strikes spans tails end₀ i₀ end i = length heads - i

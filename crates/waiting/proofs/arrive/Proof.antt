@@ -1,7 +1,6 @@
 -- `waiting::arrive` meets its contract: what the hyperedge gives is offered to its head. Assumes nothing.
 use mathlib.Core.Path.{sym, _∙_, ap, subst}
 use Prim.Native.Nat.{ℕ, _+_}
-use native.Mathlib.Omega.{arith}
 use borrow.Author.Needs.{needs}
 use Rattle.weights.specs.declared.Offer.the-variants.{Found}
 use Rattle.weights.specs.Labels.{label}
