@@ -1,6 +1,7 @@
 pub mod Walks
 pub mod Lengths
 pub mod Rooms
+pub mod Repeats
 pub mod Admitted
 pub mod Printed
 pub mod Asked

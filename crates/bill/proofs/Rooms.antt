@@ -1,5 +1,5 @@
 -- The laws by which a room is filled: nothing is written yet, the root is, or the next bill of a tail follows: one line, or the part behind what is written is lent for
--- it. Assumes nothing.
+-- it, or the bill before it is copied. Assumes nothing.
 use mathlib.Core.Path.{_≡_, sym, _∙_, ap, ap₂, subst}
 use mathlib.Core.List.{List, [], _∷_, _++_, append-assoc, append-nil}
 use Prim.Native.Nat.{ℕ, _+_, _-_, _*_, _≤_, _<_}
@@ -10,7 +10,7 @@ use lib.Seq.{take-all, take-at, drop-at, drop-drop, set-split}
 use borrow.Rule.Slice.PartMut.{putMid}
 use Rattle.columns.specs.Columns.{cell, tailOf}
 use Rattle.columns.specs.Filled.{filled}
-use Rattle.bill.specs.Walk.{vertexBill, tailBill, Grounded, VertexFits, TailFits, WrittenFrom}
+use Rattle.bill.specs.Walk.{vertexBill, tailBill, Grounded, VertexFits, TailFits, WrittenFrom, Repeatable, standing, Long, TailWritten}
 use Rattle.bill.proofs.Walks.{Below, grounded, bought, each-at, bills-none, bills-next, bills-all, bills-within}
 
 -- a room from a place on, as it is lent; and the room once that part has come back as ys
@@ -32,11 +32,11 @@ lent-length : (room : List ℕ) (from : ℕ) → from ≤ length room → from +
 lent-length room from h = simp (length-take, length-drop) (omega arith)
 
 -- writing keeps a room's length
-written-length : {from : ℕ} {new room : List ℕ} {to : ℕ} {left : List ℕ} → WrittenFrom from new room to left → from + length new ≤ length room → length left ≡ length room
+pub written-length : {from : ℕ} {new room : List ℕ} {to : ℕ} {left : List ℕ} → WrittenFrom from new room to left → from + length new ≤ length room → length left ≡ length room
 unfolding filled
 written-length {from} {new} {room} w h = rw (w .content) (simp (length-append, length-take, length-drop) (omega arith))
 
-write-none : (from : ℕ) (new room : List ℕ) → new ≡ [] → WrittenFrom from new room from room
+pub write-none : (from : ℕ) (new room : List ℕ) → new ≡ [] → WrittenFrom from new room from room
 unfolding filled
 write-none from new room e = record { reaches = rw e (omega arith); content = rw e (sym (take-append-drop from room)) }
 
@@ -50,7 +50,7 @@ write-root {e} {es} {new} {room} {to} {left} q h w = go room h w
     go (x ∷ xs) k w = record { reaches = rw q (omega (arith, w .reaches)); content = rw q (w .content) }
 
 -- one line
-write-line : (room : List ℕ) (at e : ℕ) → at < length room → WrittenFrom at (e ∷ []) room (at + 1) (set room at e)
+pub write-line : (room : List ℕ) (at e : ℕ) → at < length room → WrittenFrom at (e ∷ []) room (at + 1) (set room at e)
 unfolding filled
 write-line room at e h = record {
   reaches = omega arith;
@@ -59,27 +59,30 @@ write-line room at e h = record {
       set-split room at e h ∙ ap (λ (zs : List ℕ). take at room ++ e ∷ zs) behind;
 }
 
+-- what stands before the place that a writing reached, and behind it
+module _ {from : ℕ} {new room : List ℕ} {to : ℕ} {left : List ℕ} (h : from + length new ≤ length room) (w : WrittenFrom from new room to left) where
+  parts : left ≡ (take from room ++ new) ++ drop (length new) (drop from room)
+  unfolding filled
+  parts = w .content ∙ sym (append-assoc (take from room) new (drop (length new) (drop from room)))
+
+  reach : length (take from room ++ new) ≡ to
+  reach = simp (length-append, length-take) (omega (arith, w .reaches))
+
+  written-before : take to left ≡ take from room ++ new
+  written-before = ap (take to) parts ∙ take-at (take from room ++ new) (drop (length new) (drop from room)) to reach
+
+  written-behind : drop to left ≡ drop (length new) (drop from room)
+  written-behind = ap (drop to) parts ∙ drop-at (take from room ++ new) (drop (length new) (drop from room)) to reach
+
 -- one writing after another
-write-on : {from to end : ℕ} {new next room now left : List ℕ} → from + length new ≤ length room → WrittenFrom from new room to now → WrittenFrom to next now end left
+pub write-on : {from to end : ℕ} {new next room now left : List ℕ} → from + length new ≤ length room → WrittenFrom from new room to now → WrittenFrom to next now end left
     → WrittenFrom from (new ++ next) room end left
 unfolding filled
 write-on {from} {to} {end} {new} {next} {room} {now} {left} h w v = record {
   reaches = simp length-append (omega (arith, v .reaches, w .reaches));
-  content = v .content ∙ ap₂ _++_ kept (ap (filled next) behind) ∙ regroup;
+  content = v .content ∙ ap₂ _++_ (written-before h w) (ap (filled next) (written-behind h w)) ∙ regroup;
 }
   where
-    parts : now ≡ (take from room ++ new) ++ drop (length new) (drop from room)
-    parts = w .content ∙ sym (append-assoc (take from room) new (drop (length new) (drop from room)))
-
-    reach : length (take from room ++ new) ≡ to
-    reach = simp (length-append, length-take) (omega (arith, w .reaches))
-
-    kept : take to now ≡ take from room ++ new
-    kept = ap (take to) parts ∙ take-at (take from room ++ new) (drop (length new) (drop from room)) to reach
-
-    behind : drop to now ≡ drop (length new) (drop from room)
-    behind = ap (drop to) parts ∙ drop-at (take from room ++ new) (drop (length new) (drop from room)) to reach
-
     regroup : (take from room ++ new) ++ filled next (drop (length new) (drop from room)) ≡ take from room ++ filled (new ++ next) (drop from room)
     regroup = rw (length-append new next, drop-drop (length next) (length new) (drop from room)) (simp append-assoc)
 
@@ -113,25 +116,25 @@ module _ {spans tails edges : List ℕ} {depth v : ℕ} {room : List ℕ} (f : V
 
 -- what `tail_bill` goes by: the bills of the parts up to a place are written, the next one goes behind them
 module _ {spans tails edges : List ℕ} {depth : ℕ} {tail : List ℕ} {from : ℕ} {room : List ℕ} (f : TailFits spans tails edges depth tail from room) where
-  pub none-written : WrittenFrom from (tailBill spans tails edges depth (take 0 tail)) room from room
-  none-written = write-none from _ room (bills-none (vertexBill spans tails edges depth) tail)
+  pub none-written : (size : ℕ) → TailWritten spans tails edges depth tail from room 0 size from room
+  none-written size = record { written = write-none from _ room (bills-none (vertexBill spans tails edges depth) tail); last = λ h. absurd (omega arith) }
 
   -- the next part is grounded
   pub next-below : (i : ℕ) → i < length tail → Below spans tails edges depth (getD tail i 0)
   next-below i h = grounded spans tails edges depth (getD tail i 0) (each-at (Grounded spans tails edges depth) tail i h (f .grounded))
 
-  module _ (i : ℕ) {at : ℕ} {now : List ℕ} (w : WrittenFrom from (tailBill spans tails edges depth (take i tail)) room at now) where
+  module _ {i size at : ℕ} {now : List ℕ} (w : TailWritten spans tails edges depth tail from room i size at now) where
     so-far-within : from + length (tailBill spans tails edges depth (take i tail)) ≤ length room
     so-far-within = omega (arith, f .fits, bills-within (vertexBill spans tails edges depth) tail i)
 
     pub room-kept : length now ≡ length room
-    room-kept = written-length w so-far-within
+    room-kept = written-length (w .written) so-far-within
 
     pub reached-within : at ≤ length now
-    reached-within = omega (arith, w .reaches, so-far-within, room-kept)
+    reached-within = omega (arith, w .written .reaches, so-far-within, room-kept)
 
     pub all-written : length tail ≤ i → WrittenFrom from (tailBill spans tails edges depth tail) room at now
-    all-written h = subst (λ (es : List ℕ). WrittenFrom from es room at now) (bills-all (vertexBill spans tails edges depth) tail h) w
+    all-written h = subst (λ (es : List ℕ). WrittenFrom from es room at now) (bills-all (vertexBill spans tails edges depth) tail h) (w .written)
 
     module _ (h : i < length tail) where
       next-within : at + length (vertexBill spans tails edges depth (getD tail i 0)) ≤ length now
@@ -139,7 +142,18 @@ module _ {spans tails edges : List ℕ} {depth : ℕ} {tail : List ℕ} {from : 
           let before = tailBill spans tails edges depth (take i tail) in
           let one = vertexBill spans tails edges depth (getD tail i 0) in
           let long = ap length (bills-next (vertexBill spans tails edges depth) tail h) ∙ length-append before one in
-          omega (arith, f .fits, w .reaches, long, bills-within (vertexBill spans tails edges depth) tail (i + 1), room-kept)
+          omega (arith, f .fits, w .written .reaches, long, bills-within (vertexBill spans tails edges depth) tail (i + 1), room-kept)
+
+      -- its bill follows
+      next-follows : {long to : ℕ} {left : List ℕ} → Long spans tails edges depth (getD tail i 0) long → WrittenFrom at (vertexBill spans tails edges depth (getD tail i 0)) now to left
+          → TailWritten spans tails edges depth tail from room (i + 1) long to left
+      next-follows {long} {to} {left} l v =
+          let more = write-on so-far-within (w .written) v in
+          let e : i ≡ i + 1 - 1 = omega arith in
+          record {
+            written = subst (λ (es : List ℕ). WrittenFrom from es room to left) (sym (bills-next (vertexBill spans tails edges depth) tail h)) more;
+            last = λ _. subst (λ (j : ℕ). Long spans tails edges depth (getD tail j 0) long) e l;
+          }
 
       pub next-fits : VertexFits spans tails edges depth (getD tail i 0) (lent now at)
       next-fits = record {
@@ -153,20 +167,47 @@ module _ {spans tails edges : List ℕ} {depth : ℕ} {tail : List ℕ} {from : 
 
       -- and is all of its bill if it lists nothing
       pub line-written : let root = getD edges (getD tail i 0) 0 in
-          cell spans (2 * root + 1) ≡ 0 → WrittenFrom from (tailBill spans tails edges depth (take (i + 1) tail)) room (at + 1) (set now at root)
+          cell spans (2 * root + 1) ≡ 0 → TailWritten spans tails edges depth tail from room (i + 1) size (at + 1) (set now at root)
       line-written z =
           let root = getD edges (getD tail i 0) 0 in
-          let before = tailBill spans tails edges depth (take i tail) in
-          let one = ap (λ (es : List ℕ). before ++ es) (bought spans tails edges (next-below i h) z) in
-          let more = write-on so-far-within w (write-line now at root line-within) in
-          let bills = bills-next (vertexBill spans tails edges depth) tail h ∙ one in
-          subst (λ (es : List ℕ). WrittenFrom from es room (at + 1) (set now at root)) (sym bills) more
+          let line = write-line now at root line-within in
+          let one = sym (bought spans tails edges (next-below i h) z) in
+          next-follows (λ k. absurd (k z)) (subst (λ (es : List ℕ). WrittenFrom at es now (at + 1) (set now at root)) one line)
 
       module _ {count : ℕ} {ys : List ℕ} (v : WrittenFrom 0 (vertexBill spans tails edges depth (getD tail i 0)) (lent now at) count ys) where
         pub next-reached : at + count ≤ length now
         next-reached = omega (arith, next-within, v .reaches)
 
-        pub next-written : WrittenFrom from (tailBill spans tails edges depth (take (i + 1) tail)) room (at + count) (returned now at ys)
-        next-written =
-            let more = write-on so-far-within w (write-lent now at v) in
-            subst (λ (es : List ℕ). WrittenFrom from es room (at + count) (returned now at ys)) (sym (bills-next (vertexBill spans tails edges depth) tail h)) more
+        pub next-written : TailWritten spans tails edges depth tail from room (i + 1) count (at + count) (returned now at ys)
+        next-written = next-follows (λ _. omega (arith, v .reaches)) (write-lent now at v)
+
+      -- a part that is listed again: its bill stands right before the place that is reached
+      module _ (p : 0 < i) (again : getD tail (i - 1) 0 ≡ getD tail i 0) (k : ¬ (cell spans (2 * getD edges (getD tail i 0) 0 + 1) ≡ 0)) where
+        again-long : size ≡ length (vertexBill spans tails edges depth (getD tail i 0))
+        again-long = subst (λ (v : ℕ). Long spans tails edges depth v size) again (w .last p) k
+
+        again-last : tailBill spans tails edges depth (take i tail) ≡ tailBill spans tails edges depth (take (i - 1) tail) ++ vertexBill spans tails edges depth (getD tail i 0)
+        again-last =
+            let bill = vertexBill spans tails edges depth in
+            let e : i ≡ i - 1 + 1 = omega arith in
+            ap (λ (j : ℕ). tailBill spans tails edges depth (take j tail)) e ∙ bills-next bill tail {i = i - 1} (omega arith)
+            ∙ ap (λ (v : ℕ). tailBill spans tails edges depth (take (i - 1) tail) ++ bill v) again
+
+        again-reaches : at ≡ from + length (tailBill spans tails edges depth (take (i - 1) tail)) + size
+        again-reaches =
+            let one = vertexBill spans tails edges depth (getD tail i 0) in
+            let long = ap length again-last ∙ length-append (tailBill spans tails edges depth (take (i - 1) tail)) one in
+            omega (arith, w .written .reaches, long, again-long)
+
+        pub again-fits : Repeatable at size now
+        again-fits = record { stand = omega (arith, again-reaches); fits = omega (arith, next-within, again-long) }
+
+        again-stands : standing at size now ≡ vertexBill spans tails edges depth (getD tail i 0)
+        again-stands =
+            let one = vertexBill spans tails edges depth (getD tail i 0) in
+            let before = tailBill spans tails edges depth (take (i - 1) tail) in
+            let kept = written-before so-far-within (w .written) ∙ ap (λ (es : List ℕ). take from room ++ es) again-last ∙ sym (append-assoc (take from room) before one) in
+            ap (drop (at - size)) kept ∙ drop-at (take from room ++ before) one (at - size) (simp (length-append, length-take) (omega (arith, again-reaches, so-far-within)))
+
+        pub again-written : {to : ℕ} {left : List ℕ} → WrittenFrom at (standing at size now) now to left → TailWritten spans tails edges depth tail from room (i + 1) size to left
+        again-written {to} {left} v = next-follows (λ _. again-long) (subst (λ (es : List ℕ). WrittenFrom at es now to left) again-stands v)

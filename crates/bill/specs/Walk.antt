@@ -2,7 +2,7 @@
 -- that is written from a place on; a budget, and the lengths that are known. Assumes nothing: these are definitions.
 use mathlib.Core.Path.{_≡_}
 use mathlib.Core.List.{List, [], _∷_, _++_}
-use Prim.Native.Nat.{ℕ, zero, suc, _+_, _-_, _≤_, _<_}
+use Prim.Native.Nat.{ℕ, zero, suc, _+_, _-_, _*_, _≤_, _<_}
 use lib.ListN.{length, getD, take, drop}
 use lib.Dec.{leb}
 use Rattle.weights.specs.declared.Label.{Label}
@@ -57,6 +57,28 @@ pub record TailFits (spans tails edges : List ℕ) (depth : ℕ) (tail : List �
 pub record WrittenFrom (from : ℕ) (new room : List ℕ) (to : ℕ) (left : List ℕ) : Type 0 where
   pub reaches : to ≡ from + length new
   pub content : left ≡ take from room ++ filled new (drop from room)
+
+-- what stands in the `size` places before a place; what copying it behind them asks: they are there, and as many more
+abbrev pub standing : (at size : ℕ) → List ℕ → List ℕ
+standing at size room = drop (at - size) (take at room)
+
+pub record Repeatable (at size : ℕ) (room : List ℕ) : Type 0 where
+  pub stand : size ≤ at
+  pub fits : at + size ≤ length room
+
+-- and k of them are copied
+pub record Copied (at size : ℕ) (room : List ℕ) (k : ℕ) (left : List ℕ) : Type 0 where
+  pub within : k ≤ size
+  pub written : WrittenFrom at (take k (standing at size room)) room (at + k) left
+
+-- the bill of v, if its line lists something, has this length
+abbrev pub Long : (spans tails edges : List ℕ) → (depth v size : ℕ) → Type 0
+Long spans tails edges depth v size = ¬ (cell spans (2 * getD edges v 0 + 1) ≡ 0) → size ≡ length (vertexBill spans tails edges depth v)
+
+-- the bills of the parts of a tail up to i are written from a place on, and `size` is the length of the last one
+pub record TailWritten (spans tails edges : List ℕ) (depth : ℕ) (tail : List ℕ) (from : ℕ) (room : List ℕ) (i size to : ℕ) (left : List ℕ) : Type 0 where
+  pub written : WrittenFrom from (tailBill spans tails edges depth (take i tail)) room to left
+  pub last : 0 < i → Long spans tails edges depth (getD tail (i - 1) 0) size
 
 -- a column of lengths is right: it has a place for every part, and holds 0 or the length of the part's bill
 pub record Known (spans tails edges lengths : List ℕ) : Type 0 where

@@ -14,7 +14,7 @@ ghost use lib.ListN.{length};
 ghost use Rattle.columns.specs.Columns.{columns, entries};
 ghost use Rattle.columns.specs.Acceptance.{mostVertices};
 ghost use Rattle.bill.specs.Billing.{partAcceptance, printed, billed};
-ghost use Rattle.bill.specs.Walk.{vertexBill, tailBill, Grounded, AllGrounded, VertexFits, TailFits, WrittenFrom, Known, KnownStill, spend};
+ghost use Rattle.bill.specs.Walk.{vertexBill, tailBill, Grounded, AllGrounded, VertexFits, TailFits, WrittenFrom, Repeatable, standing, Known, KnownStill, spend};
 
 // What is left of the room that a bill may take.
 enum Budget {
@@ -127,9 +127,24 @@ fn vertex_bill(
     tail_bill(depth - 1, tail, spans, tails, edges, room, 1)
 }
 
+// Copies the `size` places before `at` behind them, and gives how far the room is filled then.
+fn repeat(room: &mut [u64], at: usize, size: usize) -> usize
+    requires { ⌜ Repeatable at size (now room) ⌝ }
+    ensures { λ r. ⌜ WrittenFrom at (standing at size (now (room .entry))) (now (room .entry)) r (now (room .exit)) ⌝ }
+{
+    let from = at - size;
+    let mut k = 0;
+    while k < size {
+        room[at + k] = room[from + k];
+        k += 1;
+    }
+    at + size
+}
+
 // The same for the bills of the vertices of a tail, one behind the other, in a room that is filled
 // so far; gives how far it is filled then. A hyperedge that lists nothing is written with no call:
-// most lines of a bill are such.
+// most lines of a bill are such. A vertex that is listed again at once is not walked again: its bill
+// stands right before.
 fn tail_bill(
     depth: u64,
     tail: &[u64],
@@ -142,6 +157,7 @@ fn tail_bill(
     requires { ⌜ TailFits (now spans) (now tails) (now edges) depth (now tail) filled (now room) ⌝ }
     ensures { λ r. ⌜ WrittenFrom filled (tailBill (now (spans .entry)) (now (tails .entry)) (now (edges .entry)) depth (now (tail .entry))) (now (room .entry)) r (now (room .exit)) ⌝ }
 {
+    let mut length = 0;
     let mut at = filled;
     let mut i = 0;
     while i < tail.len() {
@@ -156,7 +172,15 @@ fn tail_bill(
             i += 1;
             continue;
         }
-        let length = vertex_bill(depth, Vertex(v), spans, tails, edges, &mut room[at..]);
+        if i > 0 {
+            let before = tail[i - 1];
+            if before == v {
+                at = repeat(room, at, length);
+                i += 1;
+                continue;
+            }
+        }
+        length = vertex_bill(depth, Vertex(v), spans, tails, edges, &mut room[at..]);
         at += length;
         i += 1;
     }
