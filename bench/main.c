@@ -2,7 +2,8 @@
  * The library's calls beside the same written by hand in C, in one process: medians of many runs, in
  * microseconds; a row has a table's kind, its parts, and for each call the figures of the library, of
  * plain C and of the strongest C. Results are compared first. Arguments: [cost | days | grade], or `once` KIND
- * N MEASURE, which makes each call once and compares, for a tool that counts instructions.
+ * N MEASURE [rests], which makes each call once and compares, for a tool that counts instructions; with `rests`
+ * the line that is repriced is chosen for no part, before and after.
  */
 #include <stdio.h>
 #include <stdlib.h>
@@ -71,6 +72,18 @@ static void choose(struct job *j)
         }
     j->line = j->lines[j->part];
     j->figure = j->t.own[j->line];
+}
+
+/* The last line that is chosen for no part, and that a figure with its lowest bit turned makes no better. */
+static void choose_resting(struct job *j)
+{
+    uint64_t worse = j->measure == TOZBIERDU_GRADE ? 1 : 0, line = j->t.lines;
+
+    while (line-- > 0)
+        if (j->lines[j->t.heads[line]] != line && j->t.own[line] % 2 == worse)
+            break;
+    j->line = line;
+    j->figure = line < j->t.lines ? j->t.own[line] : 0;
 }
 
 /* Each maker has a job of its own: all give the same result, none a refusal, and leave the same bytes. */
@@ -178,7 +191,7 @@ static uint64_t measure_of(const char *word)
     return strcmp(word, "days") == 0 ? TOZBIERDU_DAYS : TOZBIERDU_COST;
 }
 
-static int once(const char *kind, uint64_t n, uint64_t measure)
+static int once(const char *kind, uint64_t n, uint64_t measure, int rests)
 {
     static struct job jobs[MAKERS];
     int k, which, i;
@@ -192,8 +205,11 @@ static int once(const char *kind, uint64_t n, uint64_t measure)
     for (which = 0; which < CALLS; which++) {
         if (!agree_on(which, jobs))
             disagreed(k, n);
-        for (i = 0; which == 0 && i < MAKERS; i++)
+        for (i = 0; which == 0 && i < MAKERS; i++) {
             choose(&jobs[i]);
+            if (rests)
+                choose_resting(&jobs[i]);
+        }
     }
     return 0;
 }
@@ -205,8 +221,8 @@ int main(int count, char **given)
     int kind;
     size_t i;
 
-    if (count == 5 && strcmp(given[1], "once") == 0)
-        return once(given[2], strtoull(given[3], NULL, 10), measure_of(given[4]));
+    if ((count == 5 || count == 6) && strcmp(given[1], "once") == 0)
+        return once(given[2], strtoull(given[3], NULL, 10), measure_of(given[4]), count == 6);
     for (kind = 0; kind < KINDS; kind++)
         for (i = 0; i < sizeof sizes / sizeof *sizes; i++)
             row(measure, kind, sizes[i]);
