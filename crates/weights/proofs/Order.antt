@@ -1,10 +1,11 @@
 -- The order of labels, by weight, then by depth, then by hyperedge: the relation behind the test `aheadOf`. It is total. Assumes nothing.
-use mathlib.Core.Path.{_≡_, refl}
+use mathlib.Core.Path.{_≡_, refl, sym, _∙_, ap}
+use mathlib.Core.Logic.{_≢_}
 use mathlib.Core.Bool.{Bool, true, false}
 use Prim.Native.Nat.{ℕ, _≤_, _<_}
 use native.Mathlib.Omega.{arith}
 use lib.Dec.{leb, ltb}
-use borrow.Author.Tests.{ltb-true, ltb-false, leb-true, leb-false}
+use borrow.Author.Tests.{lt-ltb, le-ltb, ltb-true, ltb-false, leb-true, leb-false}
 use Rattle.weights.specs.declared.Label.{Label}
 use Rattle.weights.specs.Choice.{pick}
 use Rattle.weights.specs.Measures.{Algebra}
@@ -15,6 +16,36 @@ use Rattle.weights.specs.Order.{Ahead, Ranked, ahead, behind}
 -- a test that failed did not hold
 pub failed : {leq : ℕ → ℕ → Bool} {a b : ℕ} → leq a b ≡ false → ¬ NoWorse leq a b
 failed e p = let h = p .holds in let z : _≡_ {A = ℕ} 0 1 = cc in omega arith
+
+-- the test by one comparison of weights, of depths or of hyperedges: what differs first decides
+module _ {A : Algebra} (L : Lawful A) (a b : Label) where
+  pub by-weight : a .weight .0 ≢ b .weight .0 → A .leq (a .weight .0) (b .weight .0) ≡ aheadOf A a b
+  unfolding aheadOf
+  by-weight n = go _ (A .leq (a .weight .0) (b .weight .0)) (A .leq (b .weight .0) (a .weight .0)) refl refl
+    where
+      go : (t p q : Bool) → A .leq (a .weight .0) (b .weight .0) ≡ p → A .leq (b .weight .0) (a .weight .0) ≡ q → p ≡ pick p (pick q t true) false
+      go t false q ep eq = refl
+      go t true false ep eq = refl
+      go t true true ep eq = absurd (n (L .ordered .antisymmetric (record { holds = ep }) (record { holds = eq })))
+
+  module _ (e : a .weight .0 ≡ b .weight .0) where
+    there : A .leq (a .weight .0) (b .weight .0) ≡ true
+    there = ap (A .leq (a .weight .0)) (sym e) ∙ L .ordered .reflexive .holds
+
+    back : A .leq (b .weight .0) (a .weight .0) ≡ true
+    back = ap (A .leq (b .weight .0)) e ∙ L .ordered .reflexive .holds
+
+    pub by-depth : a .depth ≢ b .depth → ltb (a .depth) (b .depth) ≡ aheadOf A a b
+    unfolding aheadOf
+    by-depth n = rw (there, back) (go (leb (a .edge .0) (b .edge .0)) (ltb (a .depth) (b .depth)) refl)
+      where
+        go : (t p : Bool) → ltb (a .depth) (b .depth) ≡ p → p ≡ pick p true (pick (ltb (b .depth) (a .depth)) false t)
+        go t true q = refl
+        go t false q = let h : b .depth ≤ a .depth = ltb-false _ _ q in rw (lt-ltb (b .depth) (a .depth) (omega (arith, n)))
+
+    pub by-edge : a .depth ≡ b .depth → leb (a .edge .0) (b .edge .0) ≡ aheadOf A a b
+    unfolding aheadOf
+    by-edge d = rw (there, back, le-ltb (a .depth) (b .depth) (omega arith), le-ltb (b .depth) (a .depth) (omega arith))
 
 module _ {A : Algebra} (L : Lawful A) where
   pub ahead-refl : {a : Label} → Ahead A a a

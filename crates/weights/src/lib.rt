@@ -134,19 +134,15 @@ pub fn ahead(measure: Measure, a: Label, b: Label) -> bool
 {
     let x = a.weight;
     let y = b.weight;
-    if !x.no_worse(measure, y) {
-        return false;
+    if x.0 != y.0 {
+        return x.no_worse(measure, y);
     }
-    if !y.no_worse(measure, x) {
-        return true;
+    if a.depth != b.depth {
+        return a.depth < b.depth;
     }
-    if a.depth < b.depth {
-        return true;
-    }
-    if b.depth < a.depth {
-        return false;
-    }
-    a.edge.0 <= b.edge.0
+    let i = a.edge;
+    let j = b.edge;
+    i.0 <= j.0
 }
 
 // The paper's state of a part.
