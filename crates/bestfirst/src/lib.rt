@@ -345,14 +345,14 @@ fn label_large(
     );
 }
 
-// Whether so many vertices and hyperedges have their places among so many.
-fn holds(most_vertices: usize, most_edges: usize, vertices: usize, edges: usize) -> bool
-    ensures { λ r. ⌜ r ≡ holds (record { vertices = most_vertices; edges = most_edges }) vertices edges ⌝ }
+// Whether so many vertices have their keys, and so many hyperedges their places in the lists.
+fn holds(keys: usize, places: usize, vertices: usize, edges: usize) -> bool
+    ensures { λ r. ⌜ r ≡ holds (record { vertices = keys; edges = places }) vertices edges ⌝ }
 {
-    if vertices > most_vertices {
+    if vertices > keys {
         return false;
     }
-    edges <= most_edges
+    edges <= places
 }
 
 // Leaves the table's answers in the answer columns, which are all unmade at first.

@@ -8,12 +8,11 @@ use lib.ListN.{length}
 use Rattle.weights.specs.declared.Measure.{Measure}
 use Rattle.weights.specs.declared.Offer.{Offer}
 use Rattle.weights.specs.declared.Offer.the-variants.{Nothing, Found}
-use Rattle.weights.specs.Figures.{none, isStruckMark}
+use Rattle.weights.specs.Figures.{greatest, none, isStruckMark}
 use Rattle.weights.specs.Measures.{algebra}
 use Rattle.provenance.specs.Labelling.{valueOf, heightOf}
 use Rattle.columns.specs.Columns.{cell, tailOf}
 use Rattle.columns.specs.Lent.{EdgeIn}
-use Rattle.queue.specs.Keys.{heavy}
 use Rattle.offers.specs.Passing.{Light}
 
 -- the numbers that f gives below k, in order
@@ -60,7 +59,7 @@ pub record Notable (i : ℕ) (o : Offer) (vs hs : List ℕ) : Type 0 where
 -- every line of an accepted table can be read and summed, and has its place in both columns
 pub record Valuable (os ms ss ts ws ds vs hs : List ℕ) : Type 0 where
   pub each : (e : ℕ) → e < length os → EdgeIn e os ms ss ts ws ds
-  pub figures : (e : ℕ) → e < length os → cell os e < heavy
+  pub figures : (e : ℕ) → e < length os → cell os e ≤ greatest
   pub light : Light ws
   pub values : length os ≤ length vs
   pub heights : length os ≤ length hs

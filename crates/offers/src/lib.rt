@@ -10,7 +10,7 @@ ghost use mathlib.Core.Path.{_≡_};
 ghost use mathlib.Core.Bool.{not};
 ghost use Prim.Native.Nat.{_+_, _/_, _≤_, _<_, min, max};
 ghost use lib.ListN.{length, set};
-ghost use Rattle.weights.specs.Figures.{isStruckMark, capped};
+ghost use Rattle.weights.specs.Figures.{greatest, isStruckMark, capped};
 ghost use Rattle.weights.specs.Measures.{algebra};
 ghost use Rattle.provenance.specs.Labelling.{offerOf};
 ghost use Rattle.columns.specs.Columns.{tailOf, cell};
@@ -104,7 +104,8 @@ pub fn all_light(weights: &[u64]) -> bool
 
 // What hyperedge e of this own weight, mark and tail gives from the labels in the columns; nothing
 // where it is struck or a vertex of its tail is unmade. The weights are light, so a sum of at most 17
-// of them does not wrap, and it is capped once, at the end.
+// of them does not wrap, and it is capped once, at the end. With an empty tail that is its own weight
+// in every measure, so nothing is joined.
 fn candidate(
     measure: Measure,
     e: Hyperedge,
@@ -114,11 +115,18 @@ fn candidate(
     weights: &[u64],
     depths: &[u64],
 ) -> Offer
-    requires { ⌜ (Passable (now tail) (now weights) (now depths)) × (own .0 < heavy) ⌝ }
+    requires { ⌜ (Passable (now tail) (now weights) (now depths)) × (own .0 ≤ greatest) ⌝ }
     ensures { λ r. ⌜ r ≡ offerOf (algebra measure) (not (isStruckMark (mark .0))) (own .0) (now (tail .entry)) (cell (now (weights .entry))) (cell (now (depths .entry))) (e .0) ⌝ }
 {
     if mark.is_struck() {
         return Offer::Nothing;
+    }
+    if tail.len() == 0 {
+        return Offer::Found(Label {
+            weight: own,
+            depth: 1,
+            edge: e,
+        });
     }
     let unit = Weight::unit(measure);
     let mut joined = unit.0;
@@ -155,7 +163,7 @@ pub fn offer(
     weights: &[u64],
     depths: &[u64],
 ) -> Offer
-    requires { ⌜ (EdgeIn (e .0) (now own) (now strikes) (now spans) (now tails) (now weights) (now depths)) × (cell (now own) (e .0) < heavy) × Light (now weights) ⌝ }
+    requires { ⌜ (EdgeIn (e .0) (now own) (now strikes) (now spans) (now tails) (now weights) (now depths)) × (cell (now own) (e .0) ≤ greatest) × Light (now weights) ⌝ }
     ensures { λ r.
         let live = not (isStruckMark (cell (now (strikes .entry)) (e .0))) in
         let tail = tailOf (now (spans .entry)) (now (tails .entry)) (e .0) in

@@ -1,16 +1,18 @@
 -- `offers::candidate` meets its contract. The invariant: what was passed is carried. Assumes nothing.
-use mathlib.Core.Path.{_≡_, sym, _∙_, subst}
+use mathlib.Core.Path.{_≡_, sym, _∙_, ap, subst}
 use mathlib.Core.Bool.{false}
 use Prim.Native.Nat.{ℕ, _+_, _-_, _<_, max}
 use native.Mathlib.Omega.{arith}
 use borrow.Author.Needs.{needs}
 use lib.ListN.{length}
+use Rattle.weights.specs.declared.Offer.the-variants.{Found}
 use Rattle.weights.specs.Figures.{isStruckMark}
+use Rattle.weights.specs.Labels.{label}
 use Rattle.weights.specs.Measures.{algebra}
 use Rattle.columns.specs.Columns.{cell}
 use Rattle.offers.specs.Passing.{Carried}
 use Rattle.offers.proofs.Laws.{rest-whole, struck-nothing}
-use Rattle.offers.proofs.Passing.{unit-light, carried-none, carried-more, carried-stop, carried-end}
+use Rattle.offers.proofs.Passing.{alone, unit-light, carried-none, carried-more, carried-stop, carried-end}
 use Rattle.offers.proofs.candidate.Statement.{statement}
 use Rattle.offers.proofs.candidate.Tie as tie
 
@@ -25,7 +27,7 @@ abbrev begin : tie.After-is-struck Inv-loop μ-loop → tie.Start Inv-loop μ-lo
 begin c = c .before .before .before .before
 
 abbrev entry : tie.At-loop Inv-loop μ-loop → tie.Start Inv-loop μ-loop
-entry c = begin (c .before .before .before)
+entry c = begin (c .before .before .before .before)
 
 -- its mark
 abbrev mark : tie.After-is-struck Inv-loop μ-loop → ℕ
@@ -38,9 +40,21 @@ returns c = struck-nothing _ _ _ (mark (c .before)) _ _ _ (sym (c .before .is-st
 standing : (c : tie.Else1 Inv-loop μ-loop) → isStruckMark (mark (c .before)) ≡ false
 standing c = sym (c .before .is-struck .ensures) ∙ c .if1 .left
 
+-- with an empty tail nothing is left to be passed
+returns-2 : tie.Need-returns-2 Inv-loop μ-loop
+returns-2 c =
+    let q = c .before in
+    let s = begin (q .before) in
+    let a = s .args in
+    let A = algebra (a .measure) in
+    let none = carried-none A (cell (a .weights .now)) (cell (a .depths .now)) (a .tail .now) in
+    ap (λ (z : ℕ). Found (label z 1 (a .e .0))) (sym (alone (a .measure) (a .own .0) (s .pre .1)))
+    ∙ carried-end none (a .e .0) (a .own .0) (omega (arith, c .if2 .taken))
+    ∙ rest-whole _ _ _ (mark (q .before)) _ _ _ (standing q)
+
 loop-holds : tie.Need-loop-holds Inv-loop μ-loop
 loop-holds c =
-    let a = begin (c .before .before) .args in
+    let a = begin (c .before .before .before) .args in
     let A = algebra (a .measure) in
     let w = cell (a .weights .now) in
     let d = cell (a .depths .now) in
@@ -56,11 +70,11 @@ mul-depth c = omega (arith, inside (c .before))
 shared-slice-read-depth : tie.Need-shared-slice-read-depth Inv-loop μ-loop
 shared-slice-read-depth c = inside (c .before .before)
 
-returns-2 : tie.Need-returns-2 Inv-loop μ-loop
-returns-2 c =
+returns-3 : tie.Need-returns-3 Inv-loop μ-loop
+returns-3 c =
     let t = c .before .before .before in
-    let q = t .before .before .before in
-    carried-stop (t .before .loop .inv) _ _ (t .loop-test .taken) (c .if2 .taken) ∙ rest-whole _ _ _ (mark (q .before)) _ _ _ (standing q)
+    let q = t .before .before .before .before in
+    carried-stop (t .before .loop .inv) _ _ (t .loop-test .taken) (c .if3 .taken) ∙ rest-whole _ _ _ (mark (q .before)) _ _ _ (standing q)
 
 mul-weight : tie.Need-mul-weight Inv-loop μ-loop
 mul-weight c = let t = c .before .before .before in omega (arith, inside t, entry (t .before) .pre .0 .legible .level)
@@ -89,7 +103,7 @@ loop-again c =
     subst (λ (g : ℕ). Carried A w d tail (l .i + 1) (j .joining .result) g) (sym (c .deeper .ensures))
     (subst (λ (x : ℕ). Carried A w d tail (l .i + 1) x (max (l .deepest) (d v))) (sym (j .joining .ensures))
     (carried-more (s .args .measure) w d tail (l .i) (l .joined) (l .deepest) (l .inv) (t .loop-test .taken)
-    (j .before .before .if2 .left) (s .pre .0 .legible .shallow v) (s .pre .0 .light v)))
+    (j .before .before .if3 .left) (s .pre .0 .legible .shallow v) (s .pre .0 .light v)))
 
 finishing-requires : tie.Need-finishing-requires Inv-loop μ-loop
 finishing-requires c κs =
@@ -100,10 +114,10 @@ finishing-requires c κs =
 add-depth : tie.Need-add-depth Inv-loop μ-loop
 add-depth c = omega (arith, c .before .before .loop .inv .shallow)
 
-returns-3 : tie.Need-returns-3 Inv-loop μ-loop
-returns-3 c =
+returns-4 : tie.Need-returns-4 Inv-loop μ-loop
+returns-4 c =
     let l = c .before .before in
-    let q = l .before .before in
+    let q = l .before .before .before in
     rw (c .finishing .ensures) (carried-end (l .loop .inv) _ _ (c .before .loop-test .left) ∙ rest-whole _ _ _ (mark (q .before)) _ _ _ (standing q))
 
 pub candidate-spec : {M : Type 1} → statement M
@@ -114,13 +128,14 @@ candidate-spec =
     μ-loop
     (λ c κs. search needs)
     returns
+    returns-2
     (λ c κs. search needs)
     loop-holds
     (λ c. search needs)
     (λ c. search needs)
     mul-depth
     shared-slice-read-depth
-    returns-2
+    returns-3
     mul-weight
     shared-slice-read-weight
     joining-requires
@@ -130,4 +145,4 @@ candidate-spec =
     loop-again
     finishing-requires
     add-depth
-    returns-3)
+    returns-4)
