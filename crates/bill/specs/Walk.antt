@@ -1,5 +1,5 @@
 -- What the walks of a bill read and write: the lists of the lines and the chosen line of each part, as three columns hold them; what must hold of them; a room
--- that is written from a place on; a budget, and the lengths that are known. Assumes nothing: these are definitions.
+-- that is written from a place on, and what is copied in it; a budget, and the lengths that are known. Assumes nothing: these are definitions.
 use mathlib.Core.Path.{_≡_}
 use mathlib.Core.List.{List, [], _∷_, _++_}
 use Prim.Native.Nat.{ℕ, zero, suc, _+_, _-_, _*_, _≤_, _<_}
@@ -66,7 +66,7 @@ pub record Repeatable (at size : ℕ) (room : List ℕ) : Type 0 where
   pub stand : size ≤ at
   pub fits : at + size ≤ length room
 
--- and k of them are copied
+-- k of them are copied
 pub record Copied (at size : ℕ) (room : List ℕ) (k : ℕ) (left : List ℕ) : Type 0 where
   pub within : k ≤ size
   pub written : WrittenFrom at (take k (standing at size room)) room (at + k) left
@@ -75,7 +75,7 @@ pub record Copied (at size : ℕ) (room : List ℕ) (k : ℕ) (left : List ℕ) 
 abbrev pub Long : (spans tails edges : List ℕ) → (depth v size : ℕ) → Type 0
 Long spans tails edges depth v size = ¬ (cell spans (2 * getD edges v 0 + 1) ≡ 0) → size ≡ length (vertexBill spans tails edges depth v)
 
--- the bills of the parts of a tail up to i are written from a place on, and `size` is the length of the last one
+-- the bills of the parts of a tail up to i are written from a place on, and the last one, unless a bought part's, has the length `size`
 pub record TailWritten (spans tails edges : List ℕ) (depth : ℕ) (tail : List ℕ) (from : ℕ) (room : List ℕ) (i size to : ℕ) (left : List ℕ) : Type 0 where
   pub written : WrittenFrom from (tailBill spans tails edges depth (take i tail)) room to left
   pub last : 0 < i → Long spans tails edges depth (getD tail (i - 1) 0) size

@@ -107,6 +107,20 @@ fn tail_spend(
     Budget::Left(left)
 }
 
+// Copies the `size` places before `at` behind them, and gives how far the room is filled then.
+fn repeat(room: &mut [u64], at: usize, size: usize) -> usize
+    requires { ⌜ Repeatable at size (now room) ⌝ }
+    ensures { λ r. ⌜ WrittenFrom at (standing at size (now (room .entry))) (now (room .entry)) r (now (room .exit)) ⌝ }
+{
+    let from = at - size;
+    let mut k = 0;
+    while k < size {
+        room[at + k] = room[from + k];
+        k += 1;
+    }
+    at + size
+}
+
 // Writes the bill of v, which is at most `depth` deep, from the start of a room that holds it, and
 // gives its length.
 fn vertex_bill(
@@ -127,24 +141,10 @@ fn vertex_bill(
     tail_bill(depth - 1, tail, spans, tails, edges, room, 1)
 }
 
-// Copies the `size` places before `at` behind them, and gives how far the room is filled then.
-fn repeat(room: &mut [u64], at: usize, size: usize) -> usize
-    requires { ⌜ Repeatable at size (now room) ⌝ }
-    ensures { λ r. ⌜ WrittenFrom at (standing at size (now (room .entry))) (now (room .entry)) r (now (room .exit)) ⌝ }
-{
-    let from = at - size;
-    let mut k = 0;
-    while k < size {
-        room[at + k] = room[from + k];
-        k += 1;
-    }
-    at + size
-}
-
 // The same for the bills of the vertices of a tail, one behind the other, in a room that is filled
 // so far; gives how far it is filled then. A hyperedge that lists nothing is written with no call:
 // most lines of a bill are such. A vertex that is listed again at once is not walked again: its bill
-// stands right before.
+// stands right before, and is copied.
 fn tail_bill(
     depth: u64,
     tail: &[u64],
