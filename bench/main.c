@@ -18,9 +18,9 @@ enum { ROOM = 4096, SAMPLES = 101, CALLS = 4, MAKERS = 3 };
 static const struct maker library = { settle, tozbierdu_check_answers, reprice, bill };
 static const struct maker *const makers[MAKERS] = { &library, &plain, &strongest };
 
-/* A table with its answers, a part whose bill fits the room, a line that is used, and its figure. */
+/* A table with its answers, a part whose bill fits the room, a line, its figure, and the bits that repricing turns. */
 struct job {
-    uint64_t measure, part, line, figure;
+    uint64_t measure, part, line, figure, turned;
     struct table t;
     uint64_t figures[TOZBIERDU_MOST_PARTS], depths[TOZBIERDU_MOST_PARTS], lines[TOZBIERDU_MOST_PARTS],
         pieces[TOZBIERDU_MOST_PARTS];
@@ -38,7 +38,7 @@ static uint64_t call(const struct maker *m, int which, struct job *j)
     case 0: return m->settle(j->measure, j->t.n, TABLE(j), ANSWERS(j));
     case 1: return m->check_answers(j->measure, j->t.n, TABLE(j), ANSWERS(j));
     case 2:
-        j->figure ^= 1;
+        j->figure ^= j->turned;
         return m->reprice(j->measure, j->t.n, TABLE(j), ANSWERS(j), j->line, j->figure);
     default: return m->bill(j->measure, j->t.n, TABLE(j), ANSWERS(j), j->part, j->room, ROOM);
     }
@@ -72,18 +72,23 @@ static void choose(struct job *j)
         }
     j->line = j->lines[j->part];
     j->figure = j->t.own[j->line];
+    j->turned = 1;
 }
 
-/* The last line that is chosen for no part, and that a figure with its lowest bit turned makes no better. */
-static void choose_resting(struct job *j)
+/* The last line that is chosen for no part and can be worse by one; whether there is one. */
+static int choose_resting(struct job *j)
 {
-    uint64_t worse = j->measure == TOZBIERDU_GRADE ? 1 : 0, line = j->t.lines;
+    uint64_t line = j->t.lines, last = j->measure == TOZBIERDU_GRADE ? 0 : TOZBIERDU_GREATEST;
 
     while (line-- > 0)
-        if (j->lines[j->t.heads[line]] != line && j->t.own[line] % 2 == worse)
+        if (j->lines[j->t.heads[line]] != line && j->t.own[line] != last)
             break;
     j->line = line;
-    j->figure = line < j->t.lines ? j->t.own[line] : 0;
+    if (line >= j->t.lines)
+        return 0;
+    j->figure = j->t.own[line];
+    j->turned = j->figure ^ (j->measure == TOZBIERDU_GRADE ? j->figure - 1 : j->figure + 1);
+    return 1;
 }
 
 /* Each maker has a job of its own: all give the same result, none a refusal, and leave the same bytes. */
@@ -207,8 +212,10 @@ static int once(const char *kind, uint64_t n, uint64_t measure, int rests)
             disagreed(k, n);
         for (i = 0; which == 0 && i < MAKERS; i++) {
             choose(&jobs[i]);
-            if (rests)
-                choose_resting(&jobs[i]);
+            if (rests && !choose_resting(&jobs[i])) {
+                fprintf(stderr, "%s: no line can be worse\n", kind);
+                return 2;
+            }
         }
     }
     return 0;

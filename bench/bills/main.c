@@ -1,6 +1,7 @@
 /*
- * Long bills: part i needs part i - 1 so many times, so a bill has 1 + k + k^2 + … lines. `once K DEPTH` makes each
- * call once, for callgrind; else the time of a call, the median of many, in microseconds.
+ * Long bills: part i needs part i - 1 so many times, so a bill has 1 + k + k^2 + … lines; or, for 0 times, the two parts
+ * before it, so that no part is listed twice. `once K DEPTH` makes each call once, for callgrind; else the time of a
+ * call, the median of many, in microseconds.
  */
 #include <stdio.h>
 #include <stdlib.h>
@@ -28,9 +29,11 @@ static void make(uint64_t times, uint64_t deep)
         heads[i] = i;
         own[i] = 1;
         spans[2 * i] = listed;
-        spans[2 * i + 1] = i == 0 ? 0 : times;
         for (k = 0; i > 0 && k < times; k++)
             tails[listed++] = i - 1;
+        for (k = 1; times == 0 && k <= 2 && k <= i; k++)
+            tails[listed++] = i - k;
+        spans[2 * i + 1] = listed - spans[2 * i];
     }
     settle(TOZBIERDU_COST, GIVEN);
 }
@@ -80,8 +83,8 @@ static void row(uint64_t times, uint64_t deep, size_t places)
     }
     ours = median(bill, room[0], places);
     theirs = median(plain.bill, room[1], places);
-    printf("%llu parts, each the one before %llu times: %llu; %.2f; plain C %.2f (%.2f)\n", (unsigned long long)deep,
-           (unsigned long long)times, (unsigned long long)given, ours, theirs, ours / theirs);
+    printf("%llu parts, each the one before %llu times (0: the two before): %llu; %.2f; plain C %.2f (%.2f)\n",
+           (unsigned long long)deep, (unsigned long long)times, (unsigned long long)given, ours, theirs, ours / theirs);
 }
 
 int main(int count, char **given)
@@ -94,6 +97,7 @@ int main(int count, char **given)
     }
     row(2, 16, ROOM);
     row(16, 5, ROOM);
+    row(0, 23, ROOM);
     row(2, 32, ROOM);
     row(2, 64, ROOM);
     return 0;
