@@ -8,12 +8,12 @@ use lib.ListN.{length}
 use Rattle.weights.specs.declared.Measure.{Measure}
 use Rattle.weights.specs.declared.Offer.{Offer}
 use Rattle.weights.specs.declared.Offer.the-variants.{Nothing, Found}
-use Rattle.weights.specs.Figures.{greatest, none, isStruckMark}
+use Rattle.weights.specs.Figures.{greatest, none, isStruckMark, capped}
 use Rattle.weights.specs.Measures.{algebra}
 use Rattle.provenance.specs.Labelling.{valueOf, heightOf}
+use Rattle.columns.specs.Acceptance.{mostVertices}
 use Rattle.columns.specs.Columns.{cell, tailOf}
 use Rattle.columns.specs.Lent.{EdgeIn}
-use Rattle.offers.specs.Passing.{Light}
 
 -- the numbers that f gives below k, in order
 unfoldable pub below : (ℕ → ℕ) → ℕ → List ℕ
@@ -50,16 +50,20 @@ module _ (m : Measure) (os ms ss ts ws ds : List ℕ) where
     pub value : (e : ℕ) → e < length os → cell vs e ≡ valueAt e
     pub height : (e : ℕ) → e < length os → cell hs e ≡ heightAt e
 
+-- every number of a column, capped
+abbrev pub cappedColumn : List ℕ → List ℕ
+cappedColumn ws = below (λ v. capped (cell ws v)) (length ws)
+
 -- place i can take what an offer comes to
 pub record Notable (i : ℕ) (o : Offer) (vs hs : List ℕ) : Type 0 where
   pub value : i < length vs
   pub height : i < length hs
   pub small : heightIn o < 65536
 
--- every line of an accepted table can be read and summed, and has its place in both columns
+-- every line of an accepted table, of few vertices, can be read, and has its place in both columns
 pub record Valuable (os ms ss ts ws ds vs hs : List ℕ) : Type 0 where
   pub each : (e : ℕ) → e < length os → EdgeIn e os ms ss ts ws ds
   pub figures : (e : ℕ) → e < length os → cell os e ≤ greatest
-  pub light : Light ws
+  pub few : length ws ≤ mostVertices
   pub values : length os ≤ length vs
   pub heights : length os ≤ length hs

@@ -19,7 +19,7 @@ ghost use Rattle.columns.specs.Acceptance.{mostVertices, allBelow};
 ghost use Rattle.columns.specs.Lent.{EdgeIn};
 ghost use Rattle.queue.specs.Keys.{heavy};
 ghost use Rattle.offers.specs.Passing.{plain, Light, Passable};
-ghost use Rattle.offers.specs.Values.{valueIn, heightIn, valuesOf, heightsOf, Notable, Valuable};
+ghost use Rattle.offers.specs.Values.{valueIn, heightIn, valuesOf, heightsOf, cappedColumn, Notable, Valuable};
 
 // Weights below it are light: a tail of them can be summed.
 const HEAVY: u64 = 1099511627776;
@@ -57,7 +57,7 @@ pub fn joining(measure: Measure, a: u64, b: u64) -> u64
     }
 }
 
-// A sum that did not wrap, capped.
+// A lent weight, or a sum that did not wrap, capped.
 fn cap(sum: u64) -> u64
     ensures { λ r. ⌜ r ≡ capped sum ⌝ }
 {
@@ -88,7 +88,7 @@ fn share(weight: u64) -> u64
 
 // Whether every weight of a column is light, so that those of a tail can be summed. Dividing and
 // adding takes fewer instructions than as many comparisons of 64 bits.
-pub fn all_light(weights: &[u64]) -> bool
+fn all_light(weights: &[u64]) -> bool
     requires { ⌜ length (now weights) ≤ mostVertices ⌝ }
     ensures { λ r. ⌜ r ≡ allBelow heavy (now (weights .entry)) ⌝ }
 {
@@ -202,8 +202,86 @@ fn note(i: usize, o: Offer, values: &mut [u64], heights: &mut [u16])
     heights[i] = x.depth as u16;
 }
 
-// The value and the height of every hyperedge of a table, from the labels in the columns; what stands
-// behind them stays. Each tail is read once.
+// The value and the height of every hyperedge of a table, from the labels in the columns, whose weights
+// are light; what stands behind them stays. Each tail is read once.
+fn light_values(
+    measure: Measure,
+    own: &[u64],
+    strikes: &[u64],
+    spans: &[u64],
+    tails: &[u64],
+    weights: &[u64],
+    depths: &[u64],
+    values: &mut [u64],
+    heights: &mut [u16],
+)
+    requires { ⌜ (Valuable (now own) (now strikes) (now spans) (now tails) (now weights) (now depths) (now values) (now heights)) × Light (now weights) ⌝ }
+    ensures { λ r.
+        let n = length (now (own .entry)) in
+        let vs = valuesOf measure (now (own .entry)) (now (strikes .entry)) (now (spans .entry)) (now (tails .entry)) (now (weights .entry)) (now (depths .entry)) n in
+        let hs = heightsOf measure (now (own .entry)) (now (strikes .entry)) (now (spans .entry)) (now (tails .entry)) (now (weights .entry)) (now (depths .entry)) n in
+        ⌜ (now (values .exit) ≡ filled vs (now (values .entry))) × (now (heights .exit) ≡ filled hs (now (heights .entry))) ⌝ }
+{
+    let mut i = 0;
+    while i < own.len() {
+        let e = Hyperedge(i as u64);
+        let o = offer(measure, e, own, strikes, spans, tails, weights, depths);
+        note(i, o, values, heights);
+        i += 1;
+    }
+}
+
+// Every weight of a column, capped, goes into another from its start.
+fn cap_all(weights: &[u64], column: &mut [u64])
+    requires { ⌜ length (now weights) ≤ length (now column) ⌝ }
+    ensures { λ r. ⌜ now (column .exit) ≡ filled (cappedColumn (now (weights .entry))) (now (column .entry)) ⌝ }
+{
+    let mut i = 0;
+    while i < weights.len() {
+        let weight = cap(weights[i]);
+        column[i] = weight;
+        i += 1;
+    }
+}
+
+// The value and the height of every hyperedge, from any weights, by way of a column of these, capped:
+// a weight above the ceiling gives what the mark over gives, and that is light.
+fn heavy_values(
+    measure: Measure,
+    own: &[u64],
+    strikes: &[u64],
+    spans: &[u64],
+    tails: &[u64],
+    weights: &[u64],
+    depths: &[u64],
+    values: &mut [u64],
+    heights: &mut [u16],
+)
+    requires { ⌜ Valuable (now own) (now strikes) (now spans) (now tails) (now weights) (now depths) (now values) (now heights) ⌝ }
+    ensures { λ r.
+        let n = length (now (own .entry)) in
+        let vs = valuesOf measure (now (own .entry)) (now (strikes .entry)) (now (spans .entry)) (now (tails .entry)) (now (weights .entry)) (now (depths .entry)) n in
+        let hs = heightsOf measure (now (own .entry)) (now (strikes .entry)) (now (spans .entry)) (now (tails .entry)) (now (weights .entry)) (now (depths .entry)) n in
+        ⌜ (now (values .exit) ≡ filled vs (now (values .entry))) × (now (heights .exit) ≡ filled hs (now (heights .entry))) ⌝ }
+{
+    let mut column = [0u64; 1024];
+    cap_all(weights, &mut column);
+    let n = weights.len();
+    light_values(
+        measure,
+        own,
+        strikes,
+        spans,
+        tails,
+        &column[0..n],
+        depths,
+        values,
+        heights,
+    );
+}
+
+// The value and the height of every hyperedge of a table, from the labels in the columns, whatever
+// their weights are; what stands behind them stays. Each tail is read once.
 pub fn line_values(
     measure: Measure,
     own: &[u64],
@@ -222,11 +300,29 @@ pub fn line_values(
         let hs = heightsOf measure (now (own .entry)) (now (strikes .entry)) (now (spans .entry)) (now (tails .entry)) (now (weights .entry)) (now (depths .entry)) n in
         ⌜ (now (values .exit) ≡ filled vs (now (values .entry))) × (now (heights .exit) ≡ filled hs (now (heights .entry))) ⌝ }
 {
-    let mut i = 0;
-    while i < own.len() {
-        let e = Hyperedge(i as u64);
-        let o = offer(measure, e, own, strikes, spans, tails, weights, depths);
-        note(i, o, values, heights);
-        i += 1;
+    if all_light(weights) {
+        light_values(
+            measure,
+            own,
+            strikes,
+            spans,
+            tails,
+            weights,
+            depths,
+            values,
+            heights,
+        );
+        return;
     }
+    heavy_values(
+        measure,
+        own,
+        strikes,
+        spans,
+        tails,
+        weights,
+        depths,
+        values,
+        heights,
+    );
 }

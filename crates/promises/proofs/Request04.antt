@@ -18,8 +18,8 @@ use Rattle.offers.specs.Values.{valueAt}
 -- 2026-04: checking answers drags on wide tables ---------------------------------------------------------------------------------------------------------------------
 
 -- "for every line the figure that its own figure and the lent figures of its parts give, or none if it is struck or lists a part at depth 0": the column that
--- `offers::line_values` fills, by its contract, holds `valueAt` of every line, from labels that are lent and may be wrong. It asks that no depth is above 1,024 and no
--- figure 2^40 or more: to such labels the answer check says no before any value is worked out
+-- `offers::line_values` fills, by its contract, holds `valueAt` of every line, from labels that are lent and may be wrong. It asks for an
+-- accepted table's lines, at most 1,024 parts, and no depth above 1,024: to a greater depth the answer check says no before any value is worked out
 module _ (m : Measure) (c : Columns) (a : Answers) (e : ℕ) where
   abbrev value : ℕ
   value = valueAt m (c .own) (c .strikes) (c .spans) (c .tails) (a .weights) (a .depths) e

@@ -111,7 +111,7 @@ module _ (c : Columns) (a : Entries) (e w : ℕ) (h : Changeable c a e w) where
         let o : OnlyAt c e (set (c .own) e w) (c .strikes) = record { figures = own-elsewhere c e w; marks = λ x n. refl } in
         record {
           accepted = told-accepted (withOwn c e w) a k;
-          summable = rests-asks m c a (set (c .own) e w) (c .strikes) (h .accepted) (k .table) q;
+          turning = rests-asks m c a (set (c .own) e w) (c .strikes) (h .accepted) (k .table) q;
           numbered = omega (arith, h .placed, table-accepted c (h .accepted .table) .own);
           stays = rests-stay m c a (set (c .own) e w) (c .strikes) (h .accepted) (k .table) q e o;
         }
@@ -135,7 +135,7 @@ module _ (c : Columns) (a : Entries) (e s : ℕ) (h : Markable c a e s) where
         let o : OnlyAt c e (c .own) (set (c .strikes) e s) = record { figures = λ x n. refl; marks = strike-elsewhere c e s } in
         record {
           accepted = told-accepted (withStrike c e s) a k;
-          summable = rests-asks m c a (c .own) (set (c .strikes) e s) (h .accepted) (k .table) q;
+          turning = rests-asks m c a (c .own) (set (c .strikes) e s) (h .accepted) (k .table) q;
           numbered = omega (arith, h .placed, table-accepted c (h .accepted .table) .strikes);
           stays = rests-stay m c a (c .own) (set (c .strikes) e s) (h .accepted) (k .table) q e o;
         }

@@ -14,10 +14,10 @@ use Rattle.refusal.specs.declared.Acceptance.{Acceptance}
 use Rattle.refusal.specs.declared.Acceptance.the-variants.{Accepted, Refused}
 use Rattle.columns.specs.Columns.{Entries, Columns, strikeAt, withOwn, withStrike}
 use Rattle.columns.specs.Acceptance.{test, andThen, lentAcceptance}
+use Rattle.columns.specs.Lent.{Turning}
 use Rattle.columns.proofs.Accepted.{AcceptedColumns}
 use Rattle.settle.specs.Settling.{entriesOf}
 use Rattle.settle.specs.Checking.{answersAcceptance}
-use Rattle.settle.specs.Comparing.{Summable}
 use Rattle.settle.specs.Resting.{rests}
 
 -- line e exists and is not struck
@@ -82,11 +82,11 @@ pub record Markable (c : Columns) (a : Entries) (e s : ℕ) : Type 0 where
   pub placed : e < length (c .strikes)
   pub allowed : s ≤ struckMark
 
--- what renewing answers asks after a change of line e: the table as it now is, accepted; answer columns that can be looked at and summed; and where the line rests,
+-- what renewing answers asks after a change of line e: the table as it now is, accepted; answer columns that can be looked at; and where the line rests,
 -- that they are right as they are
 pub record Renewable (m : Measure) (c : Columns) (a : Entries) (e : ℕ) : Type 0 where
   pub accepted : AcceptedColumns c a
-  pub summable : Summable c (a .labels)
+  pub turning : Turning c (a .labels)
   pub numbered : e < length (c .heads)
   pub stays : rests m c (a .labels) e ≡ true → a ≡ entriesOf m c
 

@@ -1,13 +1,12 @@
 -- The laws by which `labels_right`, `answers_right` and `check_answers` go: where every test passes the answers are the table's, and where one fails they are not. Assumes nothing.
 use mathlib.Core.Path.{_≡_, refl, sym, _∙_, ap, subst}
 use mathlib.Core.Bool.{Bool, true, false}
-use Prim.Native.Nat.{ℕ, _+_, _≤_, _<_}
+use Prim.Native.Nat.{ℕ, _+_, _≤_}
 use native.Mathlib.Omega.{arith}
 use native.Mathlib.Decide.{decLe}
 use lib.ListN.{length, getD, List·getD-eq-default}
 use Rattle.weights.specs.declared.Measure.{Measure}
 use Rattle.weights.specs.Choice.{pick}
-use Rattle.weights.specs.Figures.{over}
 use Rattle.weights.proofs.Choice.{apart}
 use Rattle.weights.specs.Measures.{algebra}
 use Rattle.weights.proofs.Laws.{lawful}
@@ -31,7 +30,6 @@ use Rattle.settle.specs.Settling.{answersOf, entriesOf}
 use Rattle.settle.specs.Checking.{verdict as judged, checked}
 use Rattle.settle.specs.Comparing.{allRight}
 use Rattle.pieces.specs.Counting.{Countable, counted}
-use Rattle.settle.proofs.Demands.{answers-low}
 use Rattle.settle.proofs.Settled.{answers-countable, answers-counted}
 use Rattle.columns.proofs.Usable.{same-table, turning-columns}
 
@@ -54,12 +52,6 @@ module _ (m : Measure) (c : Columns) (a : Answers) (l : AcceptedLabels c a) wher
   too-deep q =
       let low = exists-shallow (lawful m) (ownAt c) (well-formed c (l .table)) in
       others (λ e. apart (sym q ∙ below-all _ _ (λ k h. omega (arith, low k, ap (λ (b : Answers). getD (b .depths) k 0) e))))
-
-  -- so is a weight above over
-  pub too-heavy : {n : ℕ} → over < n → allBelow n (a .weights) ≡ false → false ≡ sameAnswers a (answersOf m c)
-  too-heavy {n} o q =
-      let low = answers-low m c (l .table) in
-      others (λ e. apart (sym q ∙ below-all n (a .weights) (λ k h. omega (arith, low k, ap (λ (b : Answers). getD (b .weights) k 0) e))))
 
   -- else the columns can be looked at
   shallow : allBelow (c .vertices + 1) (a .depths) ≡ true → (v : ℕ) → Dec (length (a .depths) ≤ v) → getD (a .depths) v 0 ≤ mostVertices

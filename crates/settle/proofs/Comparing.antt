@@ -38,12 +38,12 @@ own-most {c} t e h = table-accepted c (t .usable .accepted) .each e h .1 .own
 -- what filling the columns asks
 pub valuable : {c : Columns} {a : Answers} {vs hs : List ℕ} → Weighable c a vs hs → Valuable (c .own) (c .strikes) (c .spans) (c .tails) (a .weights) (a .depths) vs hs
 valuable w =
-    let t = w .summable .turning in
+    let t = w .turning in
     let n = lines t in
     record {
       each = λ e h. edge-in (t .usable) e (omega arith);
       figures = λ e h. omega (arith, own-most t e (omega arith));
-      light = w .summable .light;
+      few = omega (arith, t .usable .level, t .usable .vertices, table-accepted _ (t .usable .accepted) .few);
       values = omega (arith, w .values);
       heights = omega (arith, w .heights);
     }
@@ -66,7 +66,7 @@ module _
     (f : (vs ≡ filled (valuesOf m (c .own) (c .strikes) (c .spans) (c .tails) (a .weights) (a .depths) (length (c .own))) vs₀)
     × (hs ≡ filled (heightsOf m (c .own) (c .strikes) (c .spans) (c .tails) (a .weights) (a .depths) (length (c .own))) hs₀)) where
   t : Turning c a
-  t = w .summable .turning
+  t = w .turning
 
   d : Valued m (c .own) (c .strikes) (c .spans) (c .tails) (a .weights) (a .depths) vs hs
   d = valued m (c .own) (c .strikes) (c .spans) (c .tails) (a .weights) (a .depths) vs₀ hs₀ (f .0) (f .1)

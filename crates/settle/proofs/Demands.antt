@@ -3,13 +3,11 @@ use mathlib.Core.Path.{_≡_, refl, sym, _∙_, ap, subst}
 use mathlib.Core.Bool.{Bool, true, false}
 use Prim.Native.Nat.{ℕ, _≤_}
 use native.Mathlib.Omega.{arith}
-use native.Mathlib.Decide.{decLe}
 use lib.ListN.{List·getD-eq-default}
 use Rattle.weights.specs.declared.Measure.{Measure}
 use Rattle.weights.specs.declared.Measure.the-variants.{Cost, Days, Grade}
-use Rattle.weights.specs.Figures.{over}
 use Rattle.weights.specs.Measures.{algebra}
-use Rattle.weights.proofs.Laws.{lawful, below-over, cost-lawful, days-lawful, grade-lawful}
+use Rattle.weights.proofs.Laws.{lawful, cost-lawful, days-lawful, grade-lawful}
 use Rattle.weights.specs.declared.Label.{Label}
 use Rattle.refusal.specs.declared.Acceptance.{Acceptance}
 use Rattle.refusal.specs.declared.Acceptance.the-variants.{Accepted, Refused}
@@ -23,7 +21,7 @@ use Rattle.provenance.proofs.Support.{chosen, supports}
 use Rattle.provenance.proofs.Meaning.{meaning}
 use Rattle.columns.specs.Columns.{Sized, Entries, SizedEntries, Columns, cell, ownAt}
 use Rattle.provenance.specs.BestFirst.{labels}
-use Rattle.provenance.proofs.Existence.{exists, exists-sized, exists-shallow, label-within}
+use Rattle.provenance.proofs.Existence.{exists, exists-sized, exists-shallow}
 use Rattle.provenance.proofs.Semirings.{cost-computes, days-weighs, grade-computes}
 use Rattle.provenance.proofs.Provenance.{provenance}
 use Rattle.provenance.proofs.BestWeight.{best-weight}
@@ -49,14 +47,6 @@ module _ (m : Measure) (c : Columns) (p : acceptance c ≡ Accepted) where
   answers-shallow : (v : ℕ) → labels (answersOf m c) v .depth ≤ c .vertices
   unfolding answersOf
   answers-shallow = exists-shallow (lawful m) (ownAt c) (well-formed c p)
-
-  -- no figure is above over
-  pub answers-low : (v : ℕ) → cell (answersOf m c .weights) v ≤ over
-  answers-low v = go (decLe 1 (labels (answersOf m c) v .depth))
-    where
-      go : Dec (1 ≤ labels (answersOf m c) v .depth) → cell (answersOf m c .weights) v ≤ over
-      go (yes k) = below-over m (label-within (lawful m) answers-fixpoint v (record { deep = k }))
-      go (no n) = omega (arith, ap (λ (l : Label). l .weight .0) (answers-fixpoint .blank v (omega arith)))
 
   fixpoint-worth : (k : Measure) {ls : ℕ → Label} → Fixpoint (algebra k) (hypergraph c) (ownAt c) ls → (v : ℕ) → Worth k c (ls v) v
   fixpoint-worth Cost fix v = provenance cost-computes (hypergraph c) (ownAt c) cost-lawful (well-formed c p) fix v

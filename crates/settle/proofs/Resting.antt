@@ -20,7 +20,7 @@ use Rattle.refusal.specs.declared.Acceptance.the-variants.{Accepted}
 use Rattle.columns.specs.Acceptance.{mostVertices, acceptance}
 use Rattle.columns.specs.Columns.{Answers, Entries, Columns, cell, headAt, ownAt, part, tailOf, tailAt}
 use Rattle.columns.specs.Filled.{filled}
-use Rattle.columns.specs.Lent.{Legible, EdgeIn}
+use Rattle.columns.specs.Lent.{Legible, EdgeIn, Turning}
 use Rattle.columns.specs.Same.{sameEntries}
 use Rattle.columns.proofs.Accepted.{AcceptedColumns, part-at, part-length, table-accepted}
 use Rattle.columns.proofs.Same.{entries-true}
@@ -35,10 +35,9 @@ use Rattle.tables.proofs.Formed.{well-formed}
 use Rattle.offers.specs.Values.{valueAt, heightAt, valuesOf, heightsOf, Valued, Valuable}
 use Rattle.offers.proofs.Values.{height-within, valued}
 use Rattle.settle.specs.Settling.{answersOf, entriesOf}
-use Rattle.settle.specs.Comparing.{Summable}
 use Rattle.settle.specs.Resting.{rests, withLines, OnlyAt}
 use Rattle.settle.proofs.Comparing.{own-most, edge-told}
-use Rattle.settle.proofs.Demands.{answers-fixpoint, answers-sized, answers-low, entries-mean}
+use Rattle.settle.proofs.Demands.{answers-fixpoint, answers-sized, entries-mean}
 use Rattle.settle.proofs.Settled.{answers-counted, entered}
 
 -- the line that its head's label names does not rest
@@ -98,9 +97,9 @@ module _ (os ms ss ts ws ds : List ℕ) (e : ℕ) where
     unfolding heightAt
     height-alone = rw (alone-at ms e, tail-alone ss e ts)
 
-module _ {c : Columns} {a : Answers} (t : Summable c a) (e : ℕ) (h : e < length (c .heads)) where
+module _ {c : Columns} {a : Answers} (t : Turning c a) (e : ℕ) (h : e < length (c .heads)) where
   g : EdgeIn e (c .own) (c .strikes) (c .spans) (c .tails) (a .weights) (a .depths)
-  g = edge-in (t .turning .usable) e h
+  g = edge-in (t .usable) e h
 
   -- what filling two places asks
   pub valuable-alone : {vs hs : List ℕ} → 1 ≤ length vs → 1 ≤ length hs
@@ -114,8 +113,8 @@ module _ {c : Columns} {a : Answers} (t : Summable c a) (e : ℕ) (h : e < lengt
             (edge-alone (c .own) (c .strikes) (c .spans) (c .tails) (a .weights) (a .depths) e g);
         figures = λ k i.
             let z : k ≡ 0 = omega arith in
-            omega (arith, ap (cell (alone (c .own) e)) z, alone-at (c .own) e, own-most (t .turning) e h);
-        light = t .light;
+            omega (arith, ap (cell (alone (c .own) e)) z, alone-at (c .own) e, own-most t e h);
+        few = omega (arith, t .usable .level, t .usable .vertices, table-accepted c (t .usable .accepted) .few);
         values = omega arith;
         heights = omega arith;
       }
@@ -137,7 +136,7 @@ module _ {c : Columns} {a : Answers} (t : Summable c a) (e : ℕ) (h : e < lengt
     -- the height is small
     pub height-low : cell hs 0 ≤ mostVertices + 1
     unfolding heightAt
-    height-low = omega (arith, height-told, height-within (cell (a .depths)) mostVertices (t .turning .usable .shallow) (hypergraph c .live e) (hypergraph c .tail e))
+    height-low = omega (arith, height-told, height-within (cell (a .depths)) mostVertices (t .usable .shallow) (hypergraph c .live e) (hypergraph c .tail e))
 
     -- a line that the head's label does not name rests as they tell
     pub rests-told : ¬ (cell (a .edges) (headAt c e) ≡ e) → keepsUpAt (algebra m) (labels a (headAt c e)) (cell vs 0) (cell hs 0) e ≡ rests m c a e
@@ -243,14 +242,11 @@ module _
   is = entries-true a (entriesOf m c) right
 
   -- what asking whether a line rests asks
-  pub rests-asks : Summable (same-table (withLines c own strikes) (length (a .labels .depths))) (a .labels)
+  pub rests-asks : Turning (same-table (withLines c own strikes) (length (a .labels .depths))) (a .labels)
   unfolding entriesOf
-  rests-asks = record {
-    turning =
-        turning-columns (withLines c own strikes) (a .labels) p′ (h .sized .labels) (λ v.
-        omega (arith, ap (λ (b : Entries). cell (b .labels .depths) v) is, entries-mean m c (h .table) v .shallow, table-accepted c (h .table) .few));
-    light = λ v. omega (arith, ap (λ (b : Entries). cell (b .labels .weights) v) is, answers-low m c (h .table) v);
-  }
+  rests-asks =
+      turning-columns (withLines c own strikes) (a .labels) p′ (h .sized .labels) (λ v.
+      omega (arith, ap (λ (b : Entries). cell (b .labels .depths) v) is, entries-mean m c (h .table) v .shallow, table-accepted c (h .table) .few))
 
   -- where the one line that differs rests, the answers stay
   pub rests-stay : (e : ℕ) → OnlyAt c e own strikes → rests m (same-table (withLines c own strikes) (length (a .labels .depths))) (a .labels) e ≡ true

@@ -16,7 +16,6 @@ use Rattle.provenance.specs.BestFirst.{labels}
 use Rattle.provenance.specs.Local.{every, vertexRight, edgeRight}
 use Rattle.provenance.specs.Values.{givesAt, keepsUpAt}
 use Rattle.tables.specs.Table.{hypergraph}
-use Rattle.offers.specs.Passing.{Light}
 
 module _ (heads vs hs : List ℕ) (ls : ℕ → Label) where
   -- the label of v is blank, or the value and the height of its own hyperedge
@@ -40,14 +39,9 @@ pub record Comparable (heads vs hs : List ℕ) (a : Answers) : Type 0 where
   pub values : length heads ≤ length vs
   pub heights : length heads ≤ length hs
 
--- a table with its answer columns, of which the weights can be summed
-pub record Summable (c : Columns) (a : Answers) : Type 0 where
-  pub turning : Turning c a
-  pub light : Light (a .weights)
-
--- the same, and room for the value and the height of every line
+-- a table with its answer columns, and room for the value and the height of every line
 pub record Weighable (c : Columns) (a : Answers) (vs hs : List ℕ) : Type 0 where
-  pub summable : Summable c a
+  pub turning : Turning c a
   pub values : length (c .heads) ≤ length vs
   pub heights : length (c .heads) ≤ length hs
 

@@ -18,11 +18,11 @@ ghost use Rattle.provenance.specs.Values.{keepsUpAt};
 ghost use Rattle.columns.specs.Columns.{columns, answers, entries, cell};
 ghost use Rattle.columns.proofs.Accepted.{AcceptedLabels, AcceptedColumns};
 ghost use Rattle.columns.specs.Same.{sameAnswers, sameEntries};
-ghost use Rattle.columns.specs.Lent.{lent};
+ghost use Rattle.columns.specs.Lent.{lent, Turning};
 ghost use Rattle.settle.specs.Settling.{answersOf, entriesOf, entryAt, settled};
 ghost use Rattle.settle.specs.Checking.{checked};
 ghost use Rattle.settle.specs.Resting.{rests};
-ghost use Rattle.settle.specs.Comparing.{vertexFits, edgeFits, Comparable, Summable, Weighable, allRight, fewLines};
+ghost use Rattle.settle.specs.Comparing.{vertexFits, edgeFits, Comparable, Weighable, allRight, fewLines};
 
 // The labels of an accepted table go into three of the answer columns, whatever they held.
 fn label_vertices(
@@ -254,7 +254,7 @@ pub fn line_rests(
 ) -> bool
     requires { let c = lent (now heads) (now own) (now strikes) (now spans) (now tails) (now depths) in
         let a = answers (now weights) (now depths) (now edges) in
-        ⌜ (Summable c a) × (e .0 < length (now heads)) ⌝ }
+        ⌜ (Turning c a) × (e .0 < length (now heads)) ⌝ }
     ensures { λ r.
         let c = lent (now (heads .entry)) (now (own .entry)) (now (strikes .entry)) (now (spans .entry)) (now (tails .entry)) (now (depths .entry)) in
         let a = answers (now (weights .entry)) (now (depths .entry)) (now (edges .entry)) in
@@ -400,7 +400,7 @@ fn right_few(
 ) -> bool
     requires { let c = lent (now heads) (now own) (now strikes) (now spans) (now tails) (now depths) in
         let a = answers (now weights) (now depths) (now edges) in
-        ⌜ (Summable c a) × (length (now heads) ≤ fewLines) ⌝ }
+        ⌜ (Turning c a) × (length (now heads) ≤ fewLines) ⌝ }
     ensures { λ r.
         let c = lent (now (heads .entry)) (now (own .entry)) (now (strikes .entry)) (now (spans .entry)) (now (tails .entry)) (now (depths .entry)) in
         let a = answers (now (weights .entry)) (now (depths .entry)) (now (edges .entry)) in
@@ -437,7 +437,7 @@ fn right_many(
 ) -> bool
     requires { let c = lent (now heads) (now own) (now strikes) (now spans) (now tails) (now depths) in
         let a = answers (now weights) (now depths) (now edges) in
-        ⌜ Summable c a ⌝ }
+        ⌜ Turning c a ⌝ }
     ensures { λ r.
         let c = lent (now (heads .entry)) (now (own .entry)) (now (strikes .entry)) (now (spans .entry)) (now (tails .entry)) (now (depths .entry)) in
         let a = answers (now (weights .entry)) (now (depths .entry)) (now (edges .entry)) in
@@ -461,7 +461,7 @@ fn right_many(
 }
 
 // Whether three of the answer columns hold the labels of an accepted table, whoever wrote them. A depth
-// above n and a weight that is not light are none of them, so no sum below wraps.
+// above n is none of them, so no height wraps.
 fn labels_right(
     measure: Measure,
     n: u64,
@@ -481,9 +481,6 @@ fn labels_right(
         ⌜ r ≡ sameAnswers a (answersOf measure c) ⌝ }
 {
     if !columns::all_below(n + 1, depths) {
-        return false;
-    }
-    if !offers::all_light(weights) {
         return false;
     }
     if heads.len() <= 256 {

@@ -28,13 +28,13 @@ start c = entry (c .before .before .before .before .before)
 
 -- the head has its place in the columns
 inside : (c : tie.After-shared-slice-known9) → cell (entry c .args .heads .now) (entry c .args .e .0) < length (entry c .args .depths .now)
-inside c = head-in (entry c .pre .0 .turning .usable) (entry c .args .e .0) (entry c .pre .1)
+inside c = head-in (entry c .pre .0 .usable) (entry c .args .e .0) (entry c .pre .1)
 
 mul-weight : tie.Need-mul-weight
-mul-weight c = omega (arith, inside c, entry c .pre .0 .turning .usable .level)
+mul-weight c = omega (arith, inside c, entry c .pre .0 .usable .level)
 
 shared-slice-read-weight : tie.Need-shared-slice-read-weight
-shared-slice-read-weight c = let p = c .before in omega (arith, inside p, entry p .pre .0 .turning .usable .level)
+shared-slice-read-weight c = let p = c .before in omega (arith, inside p, entry p .pre .0 .usable .level)
 
 mul-depth : tie.Need-mul-depth
 mul-depth c = omega (arith, inside (c .before))
@@ -43,10 +43,10 @@ shared-slice-read-depth : tie.Need-shared-slice-read-depth
 shared-slice-read-depth c = omega (arith, inside (c .before .before))
 
 mul-root : tie.Need-mul-root
-mul-root c = let p = c .before .before in omega (arith, inside p, table-accepted (tableOf (entry p)) (entry p .pre .0 .turning .usable .accepted) .few)
+mul-root c = let p = c .before .before in omega (arith, inside p, table-accepted (tableOf (entry p)) (entry p .pre .0 .usable .accepted) .few)
 
 shared-slice-read-root : tie.Need-shared-slice-read-root
-shared-slice-read-root c = let p = c .before .before .before in omega (arith, inside p, entry p .pre .0 .turning .edges)
+shared-slice-read-root c = let p = c .before .before .before in omega (arith, inside p, entry p .pre .0 .edges)
 
 returns : tie.Need-returns
 returns c =
@@ -54,13 +54,13 @@ returns c =
     rests-not (s .args .measure) (tableOf s) (came s) (s .args .e .0) (c .if1 .taken)
 
 part-line-values-end : tie.Need-part-line-values-end
-part-line-values-end c = let s = start c in omega (arith, table-accepted (tableOf s) (s .pre .0 .turning .usable .accepted) .own, s .pre .1)
+part-line-values-end c = let s = start c in omega (arith, table-accepted (tableOf s) (s .pre .0 .usable .accepted) .own, s .pre .1)
 
 part-line-values-end-2 : tie.Need-part-line-values-end-2
-part-line-values-end-2 c = let s = start (c .before) in omega (arith, table-accepted (tableOf s) (s .pre .0 .turning .usable .accepted) .strikes, s .pre .1)
+part-line-values-end-2 c = let s = start (c .before) in omega (arith, table-accepted (tableOf s) (s .pre .0 .usable .accepted) .strikes, s .pre .1)
 
 part-line-values-end-3 : tie.Need-part-line-values-end-3
-part-line-values-end-3 c = let s = start (c .before .before) in omega (arith, table-accepted (tableOf s) (s .pre .0 .turning .usable .accepted) .spans, s .pre .1)
+part-line-values-end-3 c = let s = start (c .before .before) in omega (arith, table-accepted (tableOf s) (s .pre .0 .usable .accepted) .spans, s .pre .1)
 
 line-values-requires : tie.Need-line-values-requires
 line-values-requires c κs =

@@ -7,7 +7,7 @@ use Rattle.settle.proofs.right_few.Tie as tie
 right-in-requires : tie.Need-right-in-requires
 right-in-requires c κs =
     let p = c .before .before .before .before .before .before .before .before .before .before .pre in
-    record { summable = p .0; values = omega (arith, p .1); heights = omega (arith, p .1) }
+    record { turning = p .0; values = omega (arith, p .1); heights = omega (arith, p .1) }
 
 pub right-few-spec : {M : Type 1} → statement M
 right-few-spec = tie.close (tie.spec (λ c. search needs) (λ c. search needs) right-in-requires (λ c. c .before .before .right-in .ensures))
