@@ -53,7 +53,7 @@ fn turn(
     edges: &mut [u64],
     first: &mut [u16],
     next: &mut [u16],
-    at: &mut [u16],
+    at: &mut [u8],
     joined: &mut [u64],
     deepest: &mut [u16],
     queue: &mut [u64],
@@ -108,7 +108,7 @@ fn turns(
     edges: &mut [u64],
     first: &mut [u16],
     next: &mut [u16],
-    at: &mut [u16],
+    at: &mut [u8],
     joined: &mut [u64],
     deepest: &mut [u16],
     queue: &mut [u64],
@@ -158,7 +158,7 @@ fn label_in(
     edges: &mut [u64],
     first: &mut [u16],
     next: &mut [u16],
-    at: &mut [u16],
+    at: &mut [u8],
     joined: &mut [u64],
     deepest: &mut [u16],
     queue: &mut [u64],
@@ -230,7 +230,7 @@ fn label_small(
     let unit = Weight::unit(measure);
     let mut first = [65535u16; 64];
     let mut next = [0u16; 256];
-    let mut at = [0u16; 256];
+    let mut at = [0u8; 256];
     let mut joined = [unit.0; 256];
     let mut deepest = [0u16; 256];
     let mut queue = [18446744073709551615u64; 128];
@@ -276,7 +276,7 @@ fn label_middle(
     let unit = Weight::unit(measure);
     let mut first = [65535u16; 256];
     let mut next = [0u16; 1024];
-    let mut at = [0u16; 1024];
+    let mut at = [0u8; 1024];
     let mut joined = [unit.0; 1024];
     let mut deepest = [0u16; 1024];
     let mut queue = [18446744073709551615u64; 512];
@@ -322,7 +322,7 @@ fn label_large(
     let unit = Weight::unit(measure);
     let mut first = [65535u16; 1024];
     let mut next = [0u16; 4096];
-    let mut at = [0u16; 4096];
+    let mut at = [0u8; 4096];
     let mut joined = [unit.0; 4096];
     let mut deepest = [0u16; 4096];
     let mut queue = [18446744073709551615u64; 2048];

@@ -4,14 +4,13 @@ use mathlib.Core.List.{List, [], _∷_, _++_}
 use mathlib.Core.Logic.{_⊎_, ⊎-elim}
 use Prim.Native.Nat.{ℕ, zero, suc, _+_, _*_, _-_, _≤_, _<_}
 use native.Mathlib.Nat.{eq-or-lt-of-le}
-use native.Mathlib.Numerals.{add-one}
 use native.Mathlib.Omega.{arith}
 use lib.ListN.{length, getD, take, drop, length-append, length-take, length-drop, List·getD-append}
-use lib.Seq.{getD-at, getD-append-add, getD-take, getD-drop, take-all, drop-at, take-at, length-take-le, ext-getD}
+use lib.Seq.{getD-at, getD-append-add, getD-take, getD-drop, take-all, drop-at, length-take-le, ext-getD}
 use Rattle.refusal.specs.declared.Acceptance.the-variants.{Accepted}
 use Rattle.columns.specs.Columns.{Columns, headAt, ownAt, strikeAt, offsetAt, lengthAt, part, tailAt}
 use Rattle.columns.specs.Acceptance.{mostEdges, mostListed, acceptance}
-use Rattle.columns.specs.Right.{endBefore, RightSpan, RightEdge, RightTable}
+use Rattle.columns.specs.Right.{endBefore, RightEdge, RightTable}
 use Rattle.columns.specs.Longer.{NewLine, endIn, endOf, longer, RightLine, OneMore}
 use Rattle.columns.proofs.Exactly.{accepted-exactly}
 

@@ -1,5 +1,5 @@
 -- A table with one own figure or one strike mark changed, to any that is allowed: what it then holds, and that it is accepted as before. Assumes nothing.
-use mathlib.Core.Path.{_≡_, refl, sym, _∙_, ap}
+use mathlib.Core.Path.{_≡_, refl, _∙_, ap}
 use mathlib.Core.List.{List}
 use Prim.Native.Nat.{ℕ, zero, suc, _≤_, _<_}
 use native.Mathlib.Omega.{arith}
@@ -10,7 +10,7 @@ use Rattle.weights.specs.Figures.{greatest, struckMark}
 use Rattle.refusal.specs.declared.Acceptance.the-variants.{Accepted}
 use Rattle.columns.specs.Columns.{Columns, columns, ownAt, strikeAt, withOwn, withStrike}
 use Rattle.columns.specs.Acceptance.{acceptance}
-use Rattle.columns.specs.Right.{endBefore, RightOwn, RightMark, RightTable}
+use Rattle.columns.specs.Right.{endBefore, RightOwn, RightMark}
 use Rattle.columns.proofs.Exactly.{accepted-exactly}
 
 -- one place of a column changed to a number within a limit: every place that was within it still is

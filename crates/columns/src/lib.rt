@@ -41,8 +41,8 @@ pub fn all_below(n: u64, list: &[u64]) -> bool
     above == 0
 }
 
-// What is wrong with hyperedge e, its tail apart: that is `size` vertices from `offset` on in a column
-// of `all`, where the tail before it ends at `end`. `offset + size` could wrap, so it is not computed
+// What is wrong with hyperedge e, its tail apart: that is `size` vertices from `offset` on in the column
+// of tails, where the tail before it ends at `end`. `offset + size` could wrap, so it is not computed
 // before the offset is known to be within the column.
 pub fn check_fields(
     n: u64,
@@ -53,9 +53,9 @@ pub fn check_fields(
     offset: u64,
     size: u64,
     end: u64,
-    all: u64,
+    tails: &[u64],
 ) -> Acceptance
-    ensures { λ r. ⌜ r ≡ fieldsAcceptance n e (head .0) (own .0) (mark .0) offset size end all ⌝ }
+    ensures { λ r. ⌜ r ≡ fieldsAcceptance n e (head .0) (own .0) (mark .0) offset size end (length (now (tails .entry))) ⌝ }
 {
     if head.0 >= n {
         return Acceptance::Refused(Refusal::Head(e));
@@ -72,10 +72,11 @@ pub fn check_fields(
     if size > LONGEST_TAIL {
         return Acceptance::Refused(Refusal::Span(e));
     }
+    let all = tails.len() as u64;
     if offset > all {
         return Acceptance::Refused(Refusal::Span(e));
     }
-    if size > all - offset {
+    if offset + size > all {
         return Acceptance::Refused(Refusal::Span(e));
     }
     Acceptance::Accepted
@@ -98,8 +99,7 @@ pub fn check_edge(
     requires { ⌜ clean ≡ allBelow n (now tails) ⌝ }
     ensures { λ r. ⌜ r ≡ edgeAcceptance n e (head .0) (own .0) (mark .0) offset size end (now (tails .entry)) ⌝ }
 {
-    let all = tails.len() as u64;
-    let a = check_fields(n, e, head, own, mark, offset, size, end, all);
+    let a = check_fields(n, e, head, own, mark, offset, size, end, tails);
     match a {
         Acceptance::Refused(r) => return Acceptance::Refused(r),
         Acceptance::Accepted => {}

@@ -6,7 +6,7 @@ use mathlib.Core.List.{List, [], _∷_}
 use native.Mathlib.Omega.{arith}
 use native.Mathlib.Decide.{ℕ-discrete}
 use lib.ListN.{length, getD, set, replicate, length-set, length-replicate}
-use lib.Seq.{getD-set-same, getD-set-other}
+use lib.Seq.{getD-set-same, getD-set-other, set-set}
 use Rattle.minima.specs.Minima.{none, PowerOfFour, four, times, leaves, keyIn, leastFrom, leastKey, leastUnder, Grouped, lowerAt, lowerUp, lowered, again, againUp, raised}
 
 pub least-at-most : (q : List ℕ) (at k : ℕ) → leastFrom q at k ≤ none
@@ -367,6 +367,13 @@ again-up l (suc k) q (suc i) m h r =
     (mending-set r (omega arith) (omega arith) (omega (arith, r .low (4 * suc i))) (λ _. refl))
 
 module _ (q : List ℕ) (v : ℕ) (g : Grouped q) (h : v < leaves q) where
+  -- the key is gone, and nothing above it is mended
+  mending-first : Mending (leaves q) (set q (leaves q + v) none) ((leaves q + v) / 4)
+  mending-first =
+      let p = power-some (g .power) in
+      let b : Mending (leaves q) q (leaves q + v) = record { sized = g .sized; low = g .low; least = λ j a c n. g .least j a c } in
+      mending-set {x = none} b (omega arith) (omega arith) (omega arith) (λ c. absurd (omega arith))
+
   pub raised-length : length (raised q v) ≡ length q
   unfolding raised
   raised-length = again-length (length q) (set q (leaves q + v) none) ((leaves q + v) / 4) ∙ length-set q (leaves q + v) none
@@ -389,11 +396,8 @@ module _ (q : List ℕ) (v : ℕ) (g : Grouped q) (h : v < leaves q) where
   pub raised-grouped : Grouped (raised q v)
   unfolding raised
   raised-grouped =
-      let p = power-some (g .power) in
       let i = leaves q + v in
-      let b : Mending (leaves q) q i = record { sized = g .sized; low = g .low; least = λ j a c n. g .least j a c } in
-      let d = mending-set {x = none} b (omega arith) (omega arith) (omega arith) (λ c. absurd (omega arith)) in
-      let r = again-up (leaves q) (length q) (set q i none) (i / 4) (omega (arith, g .sized)) (omega arith) d in
+      let r = again-up (leaves q) (length q) (set q i none) (i / 4) (omega (arith, g .sized)) (omega arith) mending-first in
       let e = sym raised-leaves in
       record {
         power = subst PowerOfFour e (g .power);
@@ -416,28 +420,82 @@ rising-all q v g h =
     let e = power-even (g .power) in
     record { sized = refl; inside = omega (arith, s, g .sized, e); steps = length (set q (leaves q + v) none); enough = omega (arith, s, g .sized); left = refl }
 
-module _ {q : List ℕ} {i₀ : ℕ} {q′ : List ℕ} {i : ℕ} (t : Rising q i₀ q′ i) where
-  pub rising-up : 0 < i → {x : ℕ} → x ≡ leastUnder q′ i → Rising q i₀ (set q′ i x) (i / 4)
-  rising-up o {x} y = go (t .steps) (t .enough) (t .left)
-    where
-      go : (k : ℕ) → i ≤ k → againUp k q′ i ≡ againUp (length q) q i₀ → Rising q i₀ (set q′ i x) (i / 4)
-      go zero a e = absurd (omega arith)
-      go (suc k) a e = record {
-        sized = length-set q′ i x ∙ t .sized;
-        inside = omega (arith, t .inside);
-        steps = k;
-        enough = omega arith;
-        left = ap (λ (z : ℕ). againUp k (set q′ i z) (i / 4)) y ∙ sym (again-more k q′ i o) ∙ e;
-      }
+pub rising-under : {q : List ℕ} {i₀ : ℕ} {q′ : List ℕ} {i : ℕ} → Rising q i₀ q′ i → 4 * i + 3 < length q′
+rising-under t = omega (arith, t .inside, t .sized)
 
-  pub rising-under : 4 * i + 3 < length q′
-  rising-under = omega (arith, t .inside, t .sized)
+rising-up : {q : List ℕ} {i₀ : ℕ} {q′ : List ℕ} {i : ℕ} → Rising q i₀ q′ i → 0 < i → {x : ℕ} → x ≡ leastUnder q′ i → Rising q i₀ (set q′ i x) (i / 4)
+rising-up {q} {i₀} {q′} {i} t o {x} y = go (t .steps) (t .enough) (t .left)
+  where
+    go : (k : ℕ) → i ≤ k → againUp k q′ i ≡ againUp (length q) q i₀ → Rising q i₀ (set q′ i x) (i / 4)
+    go zero a e = absurd (omega arith)
+    go (suc k) a e = record {
+      sized = length-set q′ i x ∙ t .sized;
+      inside = omega (arith, t .inside);
+      steps = k;
+      enough = omega arith;
+      left = ap (λ (z : ℕ). againUp k (set q′ i z) (i / 4)) y ∙ sym (again-more k q′ i o) ∙ e;
+    }
 
-pub rising-none : (q : List ℕ) (v : ℕ) {q′ : List ℕ} {i : ℕ} → Rising (set q (leaves q + v) none) ((leaves q + v) / 4) q′ i → i ≡ 0 → q′ ≡ raised q v
+rising-none : (q : List ℕ) (v : ℕ) {q′ : List ℕ} {i : ℕ} → Rising (set q (leaves q + v) none) ((leaves q + v) / 4) q′ i → i ≡ 0 → q′ ≡ raised q v
 unfolding raised
 rising-none q v {q′} t e =
     sym (ap (againUp (t .steps) q′) e ∙ again-none (t .steps) q′) ∙ t .left
     ∙ ap (λ (z : ℕ). againUp z (set q (leaves q + v) none) ((leaves q + v) / 4)) (length-set q (leaves q + v) none)
+
+-- the same, with what place i is to get carried and not stored yet
+pub record Climbing (q : List ℕ) (i₀ : ℕ) (q′ : List ℕ) (i least : ℕ) : Type 0 where
+  pub some : 0 < i
+  pub inside : i < length q′
+  pub sized : length q′ ≡ length q
+  pub low : least ≤ none
+  pub rising : Rising q i₀ (set q′ i least) (i / 4)
+
+min-low : (a b : ℕ) → a ≤ none → min a b ≤ none
+min-low a b h = omega arith
+
+under-low : (q : List ℕ) (i : ℕ) → getD q (4 * i) 0 ≤ none → leastUnder q i ≤ none
+under-low q i h = min-low _ _ (min-low _ _ h)
+
+pub climbing-first : (q : List ℕ) (v : ℕ) → Grouped q → v < leaves q → {x : ℕ} → x ≡ leastUnder (set q (leaves q + v) none) ((leaves q + v) / 4)
+    → Climbing (set q (leaves q + v) none) ((leaves q + v) / 4) (set q (leaves q + v) none) ((leaves q + v) / 4) x
+climbing-first q v g h y =
+    let o : 0 < (leaves q + v) / 4 = omega (arith, power-some (g .power)) in
+    let s = length-set q (leaves q + v) none in
+    let l = under-low (set q (leaves q + v) none) ((leaves q + v) / 4) (mending-first q v g h .low _) in
+    record { some = o; inside = omega (arith, s, g .sized); sized = refl; low = subst (λ (z : ℕ). z ≤ none) (sym y) l; rising = rising-up (rising-all q v g h) o y }
+
+-- the least of four is that of one of them and of what it is with none in its place
+least-of-others : (q : List ℕ) (i x : ℕ) → i < length q → x ≤ none → leastUnder (set q i x) (i / 4) ≡ min (leastUnder (set q i none) (i / 4)) x
+least-of-others q i x h n =
+    let e : min (getD (set q i none) i 0) x ≡ x = ap (λ (z : ℕ). min z x) (getD-set-same q i none 0 h) ∙ lesser in
+    ap (λ (r : List ℕ). leastUnder r (i / 4)) (sym (ap (set (set q i none) i) e ∙ set-set q i none x))
+    ∙ under-same (set q i none) i x (omega (arith, length-set q i none))
+  where
+    lesser : min none x ≡ x
+    lesser = omega arith
+
+module _ {q : List ℕ} {i₀ : ℕ} {q′ : List ℕ} {i least : ℕ} (t : Climbing q i₀ q′ i least) where
+  pub climbing-under : 4 * (i / 4) + 3 < length (set q′ i none)
+  climbing-under = omega (arith, rising-under (t .rising), length-set q′ i least, length-set q′ i none)
+
+  pub climbing-up : 3 < i → {others x : ℕ} → others ≡ leastUnder (set q′ i none) (i / 4) → x ≡ min least others → Climbing q i₀ (set (set q′ i none) i least) (i / 4) x
+  climbing-up o {others} {x} y m =
+      let e = set-set q′ i none least in
+      let s = length-set q′ i least in
+      let n : x ≡ leastUnder (set q′ i least) (i / 4) = m ∙ turned ∙ ap (λ (z : ℕ). min z least) y ∙ sym (least-of-others q′ i least (t .inside) (t .low)) in
+      subst (λ (r : List ℕ). Climbing q i₀ r (i / 4) x) (sym e) (record {
+        some = omega arith;
+        inside = omega (arith, t .inside, s);
+        sized = s ∙ t .sized;
+        low = subst (λ (z : ℕ). z ≤ none) (sym m) (min-low least others (t .low));
+        rising = rising-up (t .rising) (omega arith) n;
+      })
+    where
+      turned : min least others ≡ min others least
+      turned = omega arith
+
+pub climbing-none : (q : List ℕ) (v : ℕ) {q′ : List ℕ} {i least : ℕ} → Climbing (set q (leaves q + v) none) ((leaves q + v) / 4) q′ i least → i ≤ 3 → set q′ i least ≡ raised q v
+climbing-none q v t h = rising-none q v (t .rising) (omega arith)
 
 -- No key ------------------------------------------------------------------------------------------------------------------------------------------------
 

@@ -49,7 +49,8 @@ pub fn lower(q: &mut [u64], v: usize, x: u64)
     }
 }
 
-// Key v is taken out.
+// Key v is taken out. The least of four is carried up to the place above them, which is none for as
+// long as the least of the other three is looked for: what was stored last is not read again.
 pub fn raise(q: &mut [u64], v: usize)
     requires { ⌜ (Grouped (now q)) × (v < leaves (now q)) ⌝ }
     ensures { λ r. ⌜ now (q .exit) ≡ raised (now (q .entry)) v ⌝ }
@@ -57,11 +58,15 @@ pub fn raise(q: &mut [u64], v: usize)
     let leaf = q.len() / 2 + v;
     q[leaf] = NONE;
     let mut i = leaf / 4;
-    while i > 0 {
-        let least = least_under(q, i);
+    let mut least = least_under(q, i);
+    while i > 3 {
+        q[i] = NONE;
+        let others = least_under(q, i / 4);
         q[i] = least;
+        least = lesser(least, others);
         i = i / 4;
     }
+    q[i] = least;
 }
 
 // The least key.

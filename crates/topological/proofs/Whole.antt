@@ -95,7 +95,7 @@ module _ (m : Measure) (c : Columns) where
       usable : Usable (same-table c (length (a .depths))) (a .weights) (a .depths)
       usable = turning-columns c a p (g .size) (λ u. omega (arith, g .shallow u, table-accepted c p .few)) .usable
 
-      pub visitable : {fs ns : List ℕ} → Linked (c .heads) fs ns 0 → v < c .vertices → Visitable (same-table c (length (a .depths))) (a .weights) (a .depths) fs ns v
+      pub visitable : {fs ns : List ℕ} → Linked (c .heads) (c .strikes) fs ns 0 → v < c .vertices → Visitable (same-table c (length (a .depths))) (a .weights) (a .depths) fs ns v
       visitable l i = record { usable = usable; light = g .light; linked = l; inside = omega (arith, g .size .depths) }
 
       pub storable : v < c .vertices → Storable v a
@@ -122,11 +122,12 @@ module _ (m : Measure) (c : Columns) where
 -- Before the walk
 
 module _ {c : Columns} {a : Answers} (h : AcceptedLabels c a) where
-  pub linkable : Linkable (c .heads) (replicate mostVertices end) (replicate mostEdges 0)
+  pub linkable : Linkable (c .heads) (c .strikes) (replicate mostVertices end) (replicate mostEdges 0)
   linkable =
       let t = table-accepted c (h .table) in
       record {
         few = t .edges;
+        marked = omega (arith, t .strikes);
         inside = λ e i. omega (arith, t .each e i .1 .head, t .few);
         wide = length-replicate mostVertices end;
         long = omega (arith, t .edges, length-replicate {A = ℕ} mostEdges 0);
@@ -141,7 +142,7 @@ module _ {c : Columns} {a : Answers} (h : AcceptedLabels c a) where
     cleared : answers ws ds es ≡ blank (c .vertices)
     cleared = rw (p, q, r, h .sized .weights, h .sized .depths, h .sized .edges)
 
-    pub walkable : {fs ns : List ℕ} → Linked (c .heads) fs ns 0 → Walkable (same-table c (length ds)) (answers ws ds es) fs ns
+    pub walkable : {fs ns : List ℕ} → Linked (c .heads) (c .strikes) fs ns 0 → Walkable (same-table c (length ds)) (answers ws ds es) fs ns
     walkable l = record {
       accepted = subst (λ (n : ℕ). acceptance (same-table c n) ≡ Accepted) (sym depths-long) (h .table);
       empty = subst (λ (n : ℕ). answers ws ds es ≡ blank n) (sym depths-long) cleared;

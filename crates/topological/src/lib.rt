@@ -2,6 +2,7 @@
 // their settling by one walk up the vertices, which needs no queue: when a vertex is visited, all that
 // its hyperedges list has its label.
 use offers::deeper;
+use offers::finishing;
 use offers::joining;
 use refusal::Acceptance;
 use refusal::Refusal;
@@ -13,15 +14,15 @@ use weights::Offer;
 use weights::Vertex;
 use weights::Weight;
 ghost use mathlib.Core.Path.{_≡_};
-ghost use mathlib.Core.Bool.{true, not};
-ghost use Prim.Native.Nat.{_*_, _<_, min};
+ghost use mathlib.Core.Bool.{true};
+ghost use Prim.Native.Nat.{_*_, _≤_, _<_, min};
 ghost use lib.ListN.{length};
-ghost use Rattle.weights.specs.Figures.{isStruckMark};
+ghost use Rattle.weights.specs.Figures.{greatest};
 ghost use Rattle.weights.specs.Measures.{algebra};
 ghost use Rattle.provenance.specs.Labelling.{offerOf};
 ghost use Rattle.provenance.specs.InOrder.{in-order};
 ghost use Rattle.columns.specs.Columns.{columns, answers, entries, tailOf, cell};
-ghost use Rattle.columns.specs.Acceptance.{mostEdges};
+ghost use Rattle.columns.specs.Acceptance.{mostEdges, allBelow};
 ghost use Rattle.columns.specs.Lent.{lent};
 ghost use Rattle.columns.proofs.Accepted.{AcceptedLabels};
 ghost use Rattle.tables.specs.Table.{hypergraph};
@@ -33,6 +34,21 @@ ghost use Rattle.topological.specs.Walking.{Linkable, Linked, Weighable,
 
 // In place of a hyperedge, at the end of a list.
 const END: u16 = 65535;
+
+// Whether each vertex of a tail is below n. A tail is short, so it is left at the first that is not: a
+// loop that goes to the end, as `columns::all_below`, is unrolled, which takes longer here.
+fn tail_below(n: u64, tail: &[u64]) -> bool
+    ensures { λ r. ⌜ r ≡ allBelow n (now (tail .entry)) ⌝ }
+{
+    let mut k = 0;
+    while k < tail.len() {
+        if tail[k] >= n {
+            return false;
+        }
+        k += 1;
+    }
+    true
+}
 
 // What is wrong with hyperedge e, whose tail must be below its head. A tail that is so is below n too,
 // so only of another it is asked which of the two fails.
@@ -49,19 +65,18 @@ fn check_line(
 ) -> Acceptance
     ensures { λ r. ⌜ r ≡ orderedEdge n e (head .0) (own .0) (mark .0) offset size end (now (tails .entry)) ⌝ }
 {
-    let all = tails.len() as u64;
     let h = head.0;
-    let a = columns::check_fields(n, e, head, own, mark, offset, size, end, all);
+    let a = columns::check_fields(n, e, head, own, mark, offset, size, end, tails);
     match a {
         Acceptance::Refused(r) => return Acceptance::Refused(r),
         Acceptance::Accepted => {}
     }
     let from = offset as usize;
     let to = from + size as usize;
-    if columns::all_below(h, &tails[from..to]) {
+    if tail_below(h, &tails[from..to]) {
         return Acceptance::Accepted;
     }
-    if columns::all_below(n, &tails[from..to]) {
+    if tail_below(n, &tails[from..to]) {
         return Acceptance::Refused(Refusal::Order(e));
     }
     Acceptance::Refused(Refusal::Tail(e))
@@ -167,18 +182,23 @@ fn check_lent(
     Acceptance::Accepted
 }
 
-// The hyperedges of each head are linked, from the last one down, so that a list goes up.
-fn link(heads: &[u64], first: &mut [u16], next: &mut [u16])
-    requires { ⌜ Linkable (now heads) (now first) (now next) ⌝ }
-    ensures { λ r. ⌜ Linked (now (heads .entry)) (now (first .exit)) (now (next .exit)) 0 ⌝ }
+// The hyperedges of each head that are not struck are linked, from the last one down, so that a list
+// goes up.
+fn link(heads: &[u64], strikes: &[u64], first: &mut [u16], next: &mut [u16])
+    requires { ⌜ Linkable (now heads) (now strikes) (now first) (now next) ⌝ }
+    ensures { λ r. ⌜ Linked (now (heads .entry)) (now (strikes .entry)) (now (first .exit)) (now (next .exit)) 0 ⌝ }
 {
     let mut i = heads.len();
     while i > 0 {
         let e = i - 1;
-        let h = heads[e] as usize;
-        let later = first[h];
-        next[e] = later;
-        first[h] = e as u16;
+        let mark = strikes[e];
+        let struck = Mark(mark).is_struck();
+        if !struck {
+            let h = heads[e] as usize;
+            let later = first[h];
+            next[e] = later;
+            first[h] = e as u16;
+        }
         i = e;
     }
 }
@@ -194,7 +214,7 @@ fn lesser(a: u64, b: u64) -> u64
 }
 
 // The key of what hyperedge e of this own weight and tail gives from the labels in the columns; none
-// where a vertex of its tail is unmade. The weights are the walk's own, so a sum of at most 16 of them
+// where a vertex of its tail is unmade. The weights are the walk's own, so a sum of at most 17 of them
 // does not wrap, and it is capped once, at the end. The loop is that of `offers::candidate`, which with
 // a second caller would be inlined in neither.
 fn candidate(
@@ -205,7 +225,7 @@ fn candidate(
     weights: &[u64],
     depths: &[u64],
 ) -> u64
-    requires { ⌜ (Passable (now tail) (now weights) (now depths)) × (e .0 < mostEdges) ⌝ }
+    requires { ⌜ (Passable (now tail) (now weights) (now depths)) × (own .0 ≤ greatest) × (e .0 < mostEdges) ⌝ }
     ensures { λ r.
         let o = offerOf (algebra measure) true (own .0) (now (tail .entry)) (cell (now (weights .entry))) (cell (now (depths .entry))) (e .0) in
         ⌜ r ≡ keyOf measure o ⌝ }
@@ -225,41 +245,34 @@ fn candidate(
         deepest = deeper(deepest, depth);
         i += 1;
     }
-    let weight = own.finish(measure, Weight(joined));
+    let weight = finishing(measure, own.0, joined);
     let depth = deepest + 1;
     let l = Label {
-        weight,
+        weight: Weight(weight),
         depth,
         edge: e,
     };
     queue::pack(measure, l)
 }
 
-// The key of what hyperedge e of a table offers; none where it is struck. With an empty tail that is
-// its own weight in every measure, so nothing is joined.
+// The key of what hyperedge e of a table offers, which is not struck. With an empty tail that is its own
+// weight in every measure, so nothing is joined.
 fn key_in_order(
     measure: Measure,
     e: Hyperedge,
     own: &[u64],
-    strikes: &[u64],
     spans: &[u64],
     tails: &[u64],
     weights: &[u64],
     depths: &[u64],
 ) -> u64
-    requires { ⌜ Weighable (e .0) (now own) (now strikes) (now spans) (now tails) (now weights) (now depths) ⌝ }
+    requires { ⌜ Weighable (e .0) (now own) (now spans) (now tails) (now weights) (now depths) ⌝ }
     ensures { λ r.
-        let live = not (isStruckMark (cell (now (strikes .entry)) (e .0))) in
         let tail = tailOf (now (spans .entry)) (now (tails .entry)) (e .0) in
-        let o = offerOf (algebra measure) live (cell (now (own .entry)) (e .0)) tail (cell (now (weights .entry))) (cell (now (depths .entry))) (e .0) in
+        let o = offerOf (algebra measure) true (cell (now (own .entry)) (e .0)) tail (cell (now (weights .entry))) (cell (now (depths .entry))) (e .0) in
         ⌜ r ≡ keyOf measure o ⌝ }
 {
     let i = e.0 as usize;
-    let mark = strikes[i];
-    let struck = Mark(mark).is_struck();
-    if struck {
-        return minima::NONE;
-    }
     let weight = own[i];
     let size = spans[2 * i + 1];
     if size == 0 {
@@ -299,9 +312,10 @@ fn visit(
     while l != END {
         let number = l as u64;
         let e = Hyperedge(number);
-        let key = key_in_order(measure, e, own, strikes, spans, tails, weights, depths);
+        let later = next[l as usize];
+        let key = key_in_order(measure, e, own, spans, tails, weights, depths);
         best = lesser(best, key);
-        l = next[l as usize];
+        l = later;
     }
     if best == minima::NONE {
         return Offer::Nothing;
@@ -393,7 +407,7 @@ fn label(
 {
     let mut first = [65535u16; 1024];
     let mut next = [0u16; 4096];
-    link(heads, &mut first, &mut next);
+    link(heads, strikes, &mut first, &mut next);
     columns::set_all(weights, 0);
     columns::set_all(depths, 0);
     columns::set_all(edges, 0);

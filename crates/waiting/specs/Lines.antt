@@ -155,7 +155,7 @@ pub record Pushable (s : Lines) (v e i g : ℕ) : Type 0 where
   pub vertex : v < room .vertices
   pub edge : e < room .edges
   pub small : e < 65536
-  pub place : i < 65536
+  pub place : i < 256
   pub depth : g < 65536
 
 -- a label can be offered to the head of its hyperedge

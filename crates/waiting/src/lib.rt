@@ -83,7 +83,7 @@ fn wait(
     to: Reached,
     first: &mut [u16],
     next: &mut [u16],
-    at: &mut [u16],
+    at: &mut [u8],
     joined: &mut [u64],
     deepest: &mut [u16],
 )
@@ -95,7 +95,7 @@ fn wait(
 {
     let i = e.0 as usize;
     let weight = to.joined;
-    at[i] = to.at as u16;
+    at[i] = to.at as u8;
     joined[i] = weight.0;
     deepest[i] = to.deepest as u16;
     link(e, v, first, next);
@@ -154,7 +154,7 @@ fn advance(
     depths: &[u64],
     first: &mut [u16],
     next: &mut [u16],
-    at: &mut [u16],
+    at: &mut [u8],
     joined: &mut [u64],
     deepest: &mut [u16],
     queue: &mut [u64],
@@ -195,7 +195,7 @@ fn wake(
     depths: &[u64],
     first: &mut [u16],
     next: &mut [u16],
-    at: &mut [u16],
+    at: &mut [u8],
     joined: &mut [u64],
     deepest: &mut [u16],
     queue: &mut [u64],
@@ -256,7 +256,7 @@ pub fn wake_all(
     depths: &[u64],
     first: &mut [u16],
     next: &mut [u16],
-    at: &mut [u16],
+    at: &mut [u8],
     joined: &mut [u64],
     deepest: &mut [u16],
     queue: &mut [u64],
@@ -312,7 +312,7 @@ fn begin(
     depths: &[u64],
     first: &mut [u16],
     next: &mut [u16],
-    at: &mut [u16],
+    at: &mut [u8],
     joined: &mut [u64],
     deepest: &mut [u16],
     queue: &mut [u64],
@@ -359,7 +359,7 @@ pub fn start(
     depths: &[u64],
     first: &mut [u16],
     next: &mut [u16],
-    at: &mut [u16],
+    at: &mut [u8],
     joined: &mut [u64],
     deepest: &mut [u16],
     queue: &mut [u64],

@@ -31,34 +31,34 @@ within c = let a = entry c .args in fields-within (a .n) (a .e) _ _ _ _ _ _ (a .
 add-to : tie.Need-add-to
 add-to c = let w = within c in search needs
 
-mul-all-below : tie.Need-mul-all-below
-mul-all-below c = let w = within c in search needs
+mul-tail-below : tie.Need-mul-tail-below
+mul-tail-below c = let w = within c in search needs
 
-part-all-below-end : tie.Need-part-all-below-end
-part-all-below-end c = let w = within c in search needs
+part-tail-below-end : tie.Need-part-tail-below-end
+part-tail-below-end c = let w = within c in search needs
 
 -- the part that is lent is the hyperedge's tail
 tail-is : (offset size : ℕ) → offset + size - offset ≡ size
 tail-is offset size = omega arith
 
-below-head : (c : tie.After-all-below) → let a = entry (c .before .before) .args in c .all-below .result ≡ allBelow (a .head .0) (part (a .offset) (a .size) (a .tails .now))
+below-head : (c : tie.After-tail-below) → let a = entry (c .before .before) .args in c .tail-below .result ≡ allBelow (a .head .0) (part (a .offset) (a .size) (a .tails .now))
 below-head c =
     let a = entry (c .before .before) .args in
-    c .all-below .ensures ∙ ap (λ (k : ℕ). allBelow (a .head .0) (part (a .offset) k (a .tails .now))) (tail-is (a .offset) (a .size))
+    c .tail-below .ensures ∙ ap (λ (k : ℕ). allBelow (a .head .0) (part (a .offset) k (a .tails .now))) (tail-is (a .offset) (a .size))
 
 returns-2 : tie.Need-returns-2
 returns-2 c = line-accepted _ _ _ _ _ _ _ _ _ (passed (c .before .before .before)) (sym (below-head (c .before)) ∙ c .if1 .taken)
 
-mul-all-below-2 : tie.Need-mul-all-below-2
-mul-all-below-2 c = let w = within (c .before .before .before) in search needs
+mul-tail-below-2 : tie.Need-mul-tail-below-2
+mul-tail-below-2 c = let w = within (c .before .before .before) in search needs
 
-part-all-below-end-2 : tie.Need-part-all-below-end-2
-part-all-below-end-2 c = let w = within (c .before .before .before) in search needs
+part-tail-below-end-2 : tie.Need-part-tail-below-end-2
+part-tail-below-end-2 c = let w = within (c .before .before .before) in search needs
 
-below-n : (c : tie.After-all-below2) → let a = entry (c .before .before .before .before .before) .args in c .all-below2 .result ≡ allBelow (a .n) (part (a .offset) (a .size) (a .tails .now))
+below-n : (c : tie.After-tail-below2) → let a = entry (c .before .before .before .before .before) .args in c .tail-below2 .result ≡ allBelow (a .n) (part (a .offset) (a .size) (a .tails .now))
 below-n c =
     let a = entry (c .before .before .before .before .before) .args in
-    c .all-below2 .ensures ∙ ap (λ (k : ℕ). allBelow (a .n) (part (a .offset) k (a .tails .now))) (tail-is (a .offset) (a .size))
+    c .tail-below2 .ensures ∙ ap (λ (k : ℕ). allBelow (a .n) (part (a .offset) k (a .tails .now))) (tail-is (a .offset) (a .size))
 
 returns-3 : tie.Need-returns-3
 returns-3 c =
@@ -79,16 +79,16 @@ check-line-spec =
     returns
     (λ c. search needs)
     add-to
-    mul-all-below
+    mul-tail-below
     (λ c. search needs)
     (λ c. search needs)
-    part-all-below-end
+    part-tail-below-end
     (λ c κs. search needs)
     returns-2
-    mul-all-below-2
+    mul-tail-below-2
     (λ c. search needs)
     (λ c. search needs)
-    part-all-below-end-2
+    part-tail-below-end-2
     (λ c κs. search needs)
     returns-3
     returns-4)

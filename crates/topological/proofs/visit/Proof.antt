@@ -19,6 +19,7 @@ use Rattle.minima.specs.Minima.{none}
 use Rattle.queue.specs.Keys.{Fitting, keyOf}
 use Rattle.queue.proofs.Laws.{told-nothing, told-found}
 use Rattle.topological.specs.Walking.{end, visited}
+use Rattle.offers.proofs.Passing.{passable}
 use Rattle.topological.proofs.Passing.{offer-fits}
 use Rattle.topological.proofs.Linking.{fitting-best, Along, along-first, along-line, along-next, along-further, along-end}
 use Rattle.topological.proofs.visit.Statement.{statement}
@@ -83,26 +84,29 @@ numbered c = along-line _ _ _ _ _ (along (c .before)) (c .loop-test .taken)
 cast-number : tie.Need-cast-number Inv-loop μ-loop
 cast-number c = omega (arith, numbered c, few (entry (c .before)))
 
+cast-later : tie.Need-cast-later Inv-loop μ-loop
+cast-later c = omega (arith, numbered c, few (entry (c .before)))
+
+mul-later : tie.Need-mul-later Inv-loop μ-loop
+mul-later c = omega (arith, numbered c, few (entry (c .before)))
+
+shared-slice-read-later : tie.Need-shared-slice-read-later Inv-loop μ-loop
+shared-slice-read-later c = let i = c .before in omega (arith, numbered i, entry (i .before) .pre .linked .long)
+
 key-in-order-requires : tie.Need-key-in-order-requires Inv-loop μ-loop
 key-in-order-requires c κs =
-    let s = entry (c .before) in
+    let i = c .before in
+    let s = entry (i .before) in
     let u = s .pre .usable in
-    let l = c .before .loop .l in
+    let l = i .before .loop .l in
+    let g = edge-in u l (numbered i) in
     record {
-      numbered = omega (arith, numbered c, few s);
-      figure = table-accepted (tableOf s) (u .accepted) .each l (numbered c) .1 .own;
-      edge = edge-in u l (numbered c);
-      light = s .pre .light;
+      numbered = omega (arith, numbered i, few s);
+      own = g .own;
+      figure = table-accepted (tableOf s) (u .accepted) .each l (numbered i) .1 .own;
+      placed = g .placed;
+      tail = passable g (s .pre .light);
     }
-
-cast-l : tie.Need-cast-l Inv-loop μ-loop
-cast-l c = let i = c .before .before in omega (arith, numbered i, few (entry (i .before)))
-
-mul-l-2 : tie.Need-mul-l-2 Inv-loop μ-loop
-mul-l-2 c = let i = c .before .before in omega (arith, numbered i, few (entry (i .before)))
-
-shared-slice-read-l-2 : tie.Need-shared-slice-read-l-2 Inv-loop μ-loop
-shared-slice-read-l-2 c = let i = c .before .before .before in omega (arith, numbered i, entry (i .before) .pre .linked .long)
 
 loop-less : tie.Need-loop-less Inv-loop μ-loop
 loop-less c =
@@ -112,15 +116,14 @@ loop-less c =
 
 loop-again : tie.Need-loop-again Inv-loop μ-loop
 loop-again c =
-    let e = c .before in
-    let o = e .before in
-    let i = o .before in
+    let o = c .before in
+    let i = o .before .before in
     let s = entry (i .before) in
     let a = s .args in
     let w = cell (a .weights .now) in
     let d = cell (a .depths .now) in
     λ v h q. subst (Along (a .measure) (tableOf s) w d v (cell (a .next .now) (i .before .loop .l)))
-    (sym (e .lesser .ensures ∙ ap (min (i .before .loop .best)) (o .key-in-order .ensures)))
+    (sym (c .lesser .ensures ∙ ap (min (i .before .loop .best)) (o .key-in-order .ensures)))
     (along-next (a .measure) (tableOf s) w d v (i .before .loop .inv v h q) (s .pre .linked) (i .loop-test .taken) (fits s))
 
 -- at the end of the list its key tells what is offered
@@ -150,11 +153,11 @@ visit-spec =
     shared-slice-read-l
     loop-holds
     cast-number
+    cast-later
+    mul-later
+    shared-slice-read-later
     key-in-order-requires
     (λ c κs. search needs)
-    cast-l
-    mul-l-2
-    shared-slice-read-l-2
     loop-less
     loop-again
     returns

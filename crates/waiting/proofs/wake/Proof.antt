@@ -65,7 +65,6 @@ wake-spec =
     mul-if1
     shared-slice-read-if1
     returns
-    (λ c. search needs)
     slice-read-place
     cast-place
     (λ c. search needs)
