@@ -34,9 +34,9 @@
  *
  * THE STACK. tozbierdu_bill goes as deep as the bill does and needs under 256 KiB: with this version
  * 210 KB for 1024 levels, however many parts each needs. tozbierdu_append needs under 256 KiB too: with
- * this version 229 KB. The calls that settle or check answers, which are tozbierdu_settle, _reprice,
- * _strike, _restore, _check_answers and _replay, need under 96 KiB: with this version 82 KB, of which
- * local arrays take 75,776 bytes, and for a replay 96 KB. The others need under 32 KiB. What is said of
+ * this version 225 KB. The calls that settle or check answers, which are tozbierdu_settle, _reprice,
+ * _strike, _restore, _check_answers and _replay, need under 96 KiB: with this version 78 KB, of which
+ * local arrays take 71,680 bytes, and for a replay 96 KB. The others need under 32 KiB. What is said of
  * settle, reprice and bill holds of libcounter.a too.
  */
 #ifndef TOZBIERDU_H

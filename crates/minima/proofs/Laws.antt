@@ -442,7 +442,7 @@ rising-none q v {q′} t e =
     sym (ap (againUp (t .steps) q′) e ∙ again-none (t .steps) q′) ∙ t .left
     ∙ ap (λ (z : ℕ). againUp z (set q (leaves q + v) none) ((leaves q + v) / 4)) (length-set q (leaves q + v) none)
 
--- the same, with what place i is to get carried and not stored yet
+-- a way up as in `Rising`, with what place i is to get carried and not stored yet
 pub record Climbing (q : List ℕ) (i₀ : ℕ) (q′ : List ℕ) (i least : ℕ) : Type 0 where
   pub some : 0 < i
   pub inside : i < length q′
@@ -464,7 +464,7 @@ climbing-first q v g h y =
     let l = under-low (set q (leaves q + v) none) ((leaves q + v) / 4) (mending-first q v g h .low _) in
     record { some = o; inside = omega (arith, s, g .sized); sized = refl; low = subst (λ (z : ℕ). z ≤ none) (sym y) l; rising = rising-up (rising-all q v g h) o y }
 
--- the least of four is that of one of them and of what it is with none in its place
+-- the least of four is the lesser of one of them and of their least with none in its place
 least-of-others : (q : List ℕ) (i x : ℕ) → i < length q → x ≤ none → leastUnder (set q i x) (i / 4) ≡ min (leastUnder (set q i none) (i / 4)) x
 least-of-others q i x h n =
     let e : min (getD (set q i none) i 0) x ≡ x = ap (λ (z : ℕ). min z x) (getD-set-same q i none 0 h) ∙ lesser in

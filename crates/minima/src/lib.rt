@@ -50,7 +50,7 @@ pub fn lower(q: &mut [u64], v: usize, x: u64)
 }
 
 // Key v is taken out. The least of four is carried up to the place above them, which is none for as
-// long as the least of the other three is looked for: what was stored last is not read again.
+// long as the least of the other three is looked for: so no read waits for a least to be stored.
 pub fn raise(q: &mut [u64], v: usize)
     requires { ⌜ (Grouped (now q)) × (v < leaves (now q)) ⌝ }
     ensures { λ r. ⌜ now (q .exit) ≡ raised (now (q .entry)) v ⌝ }

@@ -1,4 +1,4 @@
--- The lists of the lines of each head, and what the functions of the walk ask of their callers. Assumes nothing: these are definitions.
+-- The lists of the lines of each head that are not struck, and what the functions of the walk ask of their callers. Assumes nothing: these are definitions.
 use mathlib.Core.Path.{_≡_}
 use mathlib.Core.Bool.{false}
 use mathlib.Core.List.{List, List·Memᴰ}
@@ -40,7 +40,7 @@ pub record Linked (heads strikes first next : List ℕ) (k : ℕ) : Type 0 where
   pub firsts : (v : ℕ) → v < mostVertices → Least heads strikes v k (cell first v)
   pub nexts : (e : ℕ) → k ≤ e → e < length heads → isStruckMark (cell strikes e) ≡ false → Least heads strikes (cell heads e) (e + 1) (cell next e)
 
--- no line is linked yet, and each has a place
+-- no line is linked yet, and each has a mark and a place
 pub record Linkable (heads strikes first next : List ℕ) : Type 0 where
   pub few : length heads ≤ mostEdges
   pub marked : length heads ≤ length strikes

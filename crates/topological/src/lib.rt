@@ -2,7 +2,6 @@
 // their settling by one walk up the vertices, which needs no queue: when a vertex is visited, all that
 // its hyperedges list has its label.
 use offers::deeper;
-use offers::finishing;
 use offers::joining;
 use refusal::Acceptance;
 use refusal::Refusal;
@@ -15,9 +14,8 @@ use weights::Vertex;
 use weights::Weight;
 ghost use mathlib.Core.Path.{_≡_};
 ghost use mathlib.Core.Bool.{true};
-ghost use Prim.Native.Nat.{_*_, _≤_, _<_, min};
+ghost use Prim.Native.Nat.{_*_, _<_, min};
 ghost use lib.ListN.{length};
-ghost use Rattle.weights.specs.Figures.{greatest};
 ghost use Rattle.weights.specs.Measures.{algebra};
 ghost use Rattle.provenance.specs.Labelling.{offerOf};
 ghost use Rattle.provenance.specs.InOrder.{in-order};
@@ -214,7 +212,7 @@ fn lesser(a: u64, b: u64) -> u64
 }
 
 // The key of what hyperedge e of this own weight and tail gives from the labels in the columns; none
-// where a vertex of its tail is unmade. The weights are the walk's own, so a sum of at most 17 of them
+// where a vertex of its tail is unmade. The weights are the walk's own, so a sum of at most 16 of them
 // does not wrap, and it is capped once, at the end. The loop is that of `offers::candidate`, which with
 // a second caller would be inlined in neither.
 fn candidate(
@@ -225,7 +223,7 @@ fn candidate(
     weights: &[u64],
     depths: &[u64],
 ) -> u64
-    requires { ⌜ (Passable (now tail) (now weights) (now depths)) × (own .0 ≤ greatest) × (e .0 < mostEdges) ⌝ }
+    requires { ⌜ (Passable (now tail) (now weights) (now depths)) × (e .0 < mostEdges) ⌝ }
     ensures { λ r.
         let o = offerOf (algebra measure) true (own .0) (now (tail .entry)) (cell (now (weights .entry))) (cell (now (depths .entry))) (e .0) in
         ⌜ r ≡ keyOf measure o ⌝ }
@@ -245,18 +243,18 @@ fn candidate(
         deepest = deeper(deepest, depth);
         i += 1;
     }
-    let weight = finishing(measure, own.0, joined);
+    let weight = own.finish(measure, Weight(joined));
     let depth = deepest + 1;
     let l = Label {
-        weight: Weight(weight),
+        weight,
         depth,
         edge: e,
     };
     queue::pack(measure, l)
 }
 
-// The key of what hyperedge e of a table offers, which is not struck. With an empty tail that is its own
-// weight in every measure, so nothing is joined.
+// The key of what hyperedge e of a table offers where it is not struck. With an empty tail that is its
+// own weight in every measure, so nothing is joined.
 fn key_in_order(
     measure: Measure,
     e: Hyperedge,
