@@ -9,6 +9,7 @@ use Rattle.weights.specs.declared.Measure.{Measure}
 use Rattle.weights.specs.declared.Measure.the-variants.{Cost, Days, Grade}
 use Rattle.weights.specs.declared.Label.{Label}
 use Rattle.weights.specs.Measures.{algebra}
+use Rattle.weights.specs.Figures.{capped}
 use Rattle.weights.specs.Labels.{unmade}
 use Rattle.weights.proofs.Laws.{lawful}
 use Rattle.refusal.specs.declared.Acceptance.the-variants.{Accepted}
@@ -19,22 +20,27 @@ use Rattle.columns.specs.Right.{RightTable, RightLent}
 use Rattle.columns.specs.Gaps.{Gapped, withTails}
 use Rattle.columns.proofs.Accepted.{columns-accept}
 use Rattle.columns.proofs.Exactly.{accepted-exactly, lent-exactly}
+use Rattle.semiring.specs.Semiring.{finite}
+use Rattle.semiring.specs.Chain.{present}
+use Rattle.semiring.specs.Datalog.{Provenance, BestWeight}
 use Rattle.provenance.specs.Labelling.{Made}
 use Rattle.provenance.specs.Means.{Means, underivable, derivable}
 use Rattle.provenance.specs.BestFirst.{labels}
+use Rattle.provenance.specs.Semirings.{valuation}
+use Rattle.provenance.specs.Program.{part, program}
+use Rattle.provenance.specs.BestWeight.{weighted}
 use Rattle.provenance.specs.Support.{ChosenDerivation, Supports}
 use Rattle.provenance.proofs.Meaning.{means-unique}
 use Rattle.tables.specs.Table.{hypergraph}
 use Rattle.settle.specs.Settling.{entriesOf, settled}
 use Rattle.settle.specs.Checking.{checked}
-use Rattle.settle.specs.Demands.{Worth}
 use Rattle.settle.specs.Defined.{AllMean}
 use Rattle.settle.specs.States.{StateMeans}
-use Rattle.settle.specs.Worth.{CostMeans, DaysMeans, GradeMeans}
+use Rattle.settle.specs.Worth.{Worth}
 use Rattle.settle.proofs.Demands.{entries-mean, entries-sized, settled-left, settled-result, demand-2, yes-only}
 use Rattle.settle.proofs.Exactly.{demand-entry, yes-exactly, no-exactly}
 use Rattle.settle.proofs.States.{made-deep, settled-state}
-use Rattle.settle.proofs.Worth.{cost-provenance, days-best-weight, grade-provenance}
+use Rattle.settle.proofs.Worth.{grade-provenance}
 use Rattle.settle.proofs.Gaps.{gaps-settled, gaps-checked}
 
 -- What settling leaves -----------------------------------------------------------------------------------------------------------------------------------------------
@@ -95,16 +101,20 @@ module _ (m : Measure) (c : Columns) (a : Entries) (h : settled m c a .result �
   pub entry-worth : (v : ℕ) → Worth m c (labels (settled m c a .left .labels) v) v
   entry-worth v = demand-2 m c a h v .worth
 
--- of cost in the tropical semiring, of days in the bottleneck semiring (document 003, Semiring 5)
-pub cost-worth : (c : Columns) (a : Entries) → settled Cost c a .result ≡ Accepted → (v : ℕ) → CostMeans c (labels (settled Cost c a .left .labels) v) v
-cost-worth = cost-provenance
+-- in plain numbers: in cost the provenance, in the tropical semiring, is a number x, and in days the best weight, on the bottleneck semiring (document 003, Semiring 5);
+-- the figure is x up to the ceiling, else over. In grade the provenance, in the semiring of grades, is the figure
+module _ (c : Columns) (a : Entries) (v : ℕ) where
+  pub cost-worth : settled Cost c a .result ≡ Accepted → let l = labels (settled Cost c a .left .labels) v in Made l
+      → (x : ℕ) × Provenance (program (valuation Cost) (hypergraph c) (ownAt c)) (part v) (finite x) × (l .weight .0 ≡ capped x)
+  cost-worth h = demand-2 Cost c a h v .worth .made
 
-pub days-worth : (c : Columns) (a : Entries) → settled Days c a .result ≡ Accepted → (v : ℕ) → DaysMeans c (labels (settled Days c a .left .labels) v) v
-days-worth = days-best-weight
+  pub days-worth : settled Days c a .result ≡ Accepted → let l = labels (settled Days c a .left .labels) v in Made l
+      → (x : ℕ) × BestWeight (weighted (valuation Days) (hypergraph c) (ownAt c)) v (finite x) × (l .weight .0 ≡ capped x)
+  days-worth h = demand-2 Days c a h v .worth .made
 
--- of grade in the semiring of grades
-pub grade-worth : (c : Columns) (a : Entries) → settled Grade c a .result ≡ Accepted → (v : ℕ) → GradeMeans c (labels (settled Grade c a .left .labels) v) v
-grade-worth = grade-provenance
+  pub grade-worth : settled Grade c a .result ≡ Accepted → let l = labels (settled Grade c a .left .labels) v in Made l
+      → Provenance (program (valuation Grade) (hypergraph c) (ownAt c)) (part v) (present (finite (l .weight .0)))
+  grade-worth h = grade-provenance c a h v
 
 -- The answer check ---------------------------------------------------------------------------------------------------------------------------------------------------
 

@@ -30,8 +30,11 @@ use Rattle.columns.specs.Right.{RightTable, WrongTable, RightLent}
 use Rattle.columns.proofs.Accepted.{both-accepted}
 use Rattle.columns.proofs.Exactly.{accepted-exactly, refused-exactly}
 use Rattle.columns.proofs.Gaps.{gaps-accepted}
-use Rattle.semiring.specs.Semiring.{Semiring}
+use Rattle.semiring.specs.Semiring.{Operations, Semiring, tropical}
+use Rattle.semiring.specs.Chain.{bottleneck, grades}
 use Rattle.semiring.specs.Datalog.{Program, Provenance, BestWeight, representation}
+use Rattle.semiring.proofs.Semiring.{tropical-semiring}
+use Rattle.semiring.proofs.Chain.{bottleneck-semiring, grades-semiring}
 use Rattle.semiring.proofs.Datalog.{theorem-13}
 use Rattle.provenance.specs.Hypergraph.{Hypergraph, Stands, Derivation, Derivations, node, none, more, weight, depth, deepest, root, listing}
 use Rattle.provenance.specs.Counting.{total}
@@ -77,8 +80,12 @@ use Rattle.examples.proofs.Paper.{every-case-holds}
 
 -- "Source document 000 gives the meaning (Definitions 5, 7 and 8 …)": by its Theorem 13 the provenance of a program (Definition 5) is the best weight (Definition 10) in the
 -- weighted hypergraph (Definition 7) that represents it (Definition 8). Demand2 has the program that a table is, and its provenance
-pub best-weight : {S : Semiring} (q : Program S) (t : q .Atom) (x : S .Carrier) → Provenance q t x ↔ BestWeight (representation q) t x
+pub best-weight : {S : Operations} → Semiring S → (q : Program S) (t : q .Atom) (x : S .Carrier) → Provenance q t x ↔ BestWeight (representation q) t x
 best-weight = theorem-13
+
+-- and what cost, days and grade compute in are such semirings (Definition 1; "source document 003 gives the min-max measure (its Semiring 5)")
+pub semirings : Semiring tropical × Semiring bottleneck × Semiring grades
+semirings = (tropical-semiring, bottleneck-semiring, grades-semiring)
 
 -- The table ----------------------------------------------------------------------------------------------------------------------------------------------------------
 

@@ -15,15 +15,17 @@ use Rattle.columns.specs.Worked.{worked}
 use Rattle.columns.specs.Right.{RightTable}
 use Rattle.columns.proofs.Exactly.{accepted-exactly}
 use Rattle.semiring.specs.Semiring.{Extended, finite, extend, product}
-use Rattle.semiring.proofs.Chain.{bottleneck}
+use Rattle.semiring.specs.Chain.{bottleneck}
+use Rattle.semiring.specs.Datalog.{BestWeight}
 use Rattle.provenance.specs.Hypergraph.{Hypergraph, Stands, Derivation, Derivations, node, weight, weights}
 use Rattle.provenance.specs.Labelling.{greatestDepth as greatestOf}
 use Rattle.provenance.specs.Means.{Follows}
 use Rattle.provenance.specs.BestFirst.{labels}
 use Rattle.provenance.specs.Counting.{count}
-use Rattle.provenance.specs.BestWeight.{HasBestWeight}
+use Rattle.provenance.specs.Semirings.{valuation, Valued}
+use Rattle.provenance.specs.BestWeight.{weighted}
 use Rattle.provenance.specs.Paths.{Path, Greatest}
-use Rattle.provenance.proofs.Semirings.{days-weighs, weighs}
+use Rattle.provenance.proofs.Semirings.{weighs}
 use Rattle.provenance.proofs.BestWeight.{best-weight}
 use Rattle.provenance.proofs.Paths.{line-once, fold-greatest}
 use Rattle.provenance.proofs.Sensitivity.{days-along}
@@ -51,14 +53,14 @@ module _ {H : Hypergraph} (own : ℕ → ℕ) {v : ℕ} where
 
 -- "The meaning of days, in demand 2 too, now rests on Definition 7's weight function": a line's is its own figure added to the product, which is the greatest, of the weights
 -- of its parts in the bottleneck semiring; and a part's figure is its best weight, up to the ceiling, in every measure; in days that is what demand 2 says
-pub days-weight-function : (own : ℕ) (xs : List Extended) → days-weighs .function own xs ≡ extend _+_ (finite own) (product bottleneck xs)
+pub days-weight-function : (own : ℕ) (xs : List Extended) → valuation Days .function own xs ≡ extend _+_ (finite own) (product bottleneck xs)
 days-weight-function own xs = refl
 
-pub figures-mean : (m : Measure) (c : Columns) → RightTable c → (v : ℕ) → HasBestWeight (weighs m) (hypergraph c) (ownAt c) (labels (answersOf m c) v) v
+pub figures-mean : (m : Measure) (c : Columns) → RightTable c → (v : ℕ) → Valued (valuation m) (BestWeight (weighted (valuation m) (hypergraph c) (ownAt c)) v) (labels (answersOf m c) v)
 figures-mean m c r = let p = accepted-exactly c .1 r in best-weight (weighs m) (hypergraph c) (ownAt c) (lawful m) (well-formed c p) (answers-fixpoint m c p)
 
 pub days-mean : (c : Columns) (a : Entries) → settled Days c a .result ≡ Accepted → (v : ℕ)
-    → HasBestWeight days-weighs (hypergraph c) (ownAt c) (labels (settled Days c a .left .labels) v) v
+    → Valued (valuation Days) (BestWeight (weighted (valuation Days) (hypergraph c) (ownAt c)) v) (labels (settled Days c a .left .labels) v)
 days-mean c a h v = demand-2 Days c a h v .worth
 
 -- "Example P4 becomes 1700 for parts 2 and 3"

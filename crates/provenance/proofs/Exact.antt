@@ -3,6 +3,7 @@
 use mathlib.Core.Path.{_≡_, refl, sym, _∙_, ap, ap₂}
 use mathlib.Core.List.{List, _∷_, map}
 use Prim.Native.Nat.{ℕ}
+use native.Mathlib.Omega.{arith}
 use Rattle.weights.specs.declared.Label.{Label}
 use Rattle.weights.specs.Measures.{Algebra, weigh}
 use Rattle.weights.specs.Laws.{NoWorse, Lawful}
@@ -14,16 +15,17 @@ use Rattle.provenance.specs.Support.{ChosenDerivation}
 use Rattle.provenance.proofs.Support.{chosen, supports}
 use Rattle.provenance.specs.BestFirst.{labels, best-first}
 use Rattle.provenance.proofs.Existence.{exists}
-use Rattle.provenance.specs.Semirings.{Weighs}
+use Rattle.provenance.specs.Semirings.{Valuation, Valued}
+use Rattle.provenance.proofs.Semirings.{Weighs}
 
-module _ {A : Algebra} (W : Weighs A) (H : Hypergraph) (own : ℕ → ℕ) where
+module _ {A : Algebra} {U : Valuation} (W : Weighs A U) (H : Hypergraph) (own : ℕ → ℕ) where
   mutual
     unfolding weight
 
-    pub weight-capped : {v : ℕ} (d : Derivation H v) → weight A own d ≡ W .cap (weight (W .exact) own d)
+    pub weight-capped : {v : ℕ} (d : Derivation H v) → weight A own d ≡ U .cap (weight (W .exact) own d)
     weight-capped (node e s h ds) = ap (weigh A (own e)) (weights-capped ds) ∙ W .caps (own e) (weights (W .exact) own ds)
 
-    weights-capped : {vs : List ℕ} (ds : Derivations H vs) → weights A own ds ≡ map (W .cap) (weights (W .exact) own ds)
+    weights-capped : {vs : List ℕ} (ds : Derivations H vs) → weights A own ds ≡ map (U .cap) (weights (W .exact) own ds)
     weights-capped none = refl
     weights-capped (more d ds) = ap₂ (λ (x : ℕ) (xs : List ℕ). x ∷ xs) (weight-capped d) (weights-capped ds)
 
@@ -31,7 +33,7 @@ module _ {A : Algebra} (W : Weighs A) (H : Hypergraph) (own : ℕ → ℕ) where
   pub record Attained (l : Label) (v : ℕ) : Type 0 where
     pub tree : Derivation H v
     pub low : (d : Derivation H v) → NoWorse (W .exact .leq) (weight (W .exact) own tree) (weight (W .exact) own d)
-    pub figure : l .weight .0 ≡ W .cap (weight (W .exact) own tree)
+    pub figure : l .weight .0 ≡ U .cap (weight (W .exact) own tree)
 
   module _ (L : Lawful A) (wf : WellFormed H) {ls : ℕ → Label} (fix : Fixpoint A H own ls) where
     exact-fix : Fixpoint (W .exact) H own (labels (best-first (W .exact) H own))
@@ -47,7 +49,7 @@ module _ {A : Algebra} (W : Weighs A) (H : Hypergraph) (own : ℕ → ℕ) where
     attains v a =
         let t = chosen L fix v a in
         let u = chosen (W .lawful) exact-fix v (bound (W .lawful) exact-fix (t .tree) .made) in
-        let p : ls v .weight .0 ≡ W .cap (weight (W .exact) own (t .tree)) = sym (supports L fix (t .tree) (t .follows) .weighs) ∙ weight-capped (t .tree) in
+        let p : ls v .weight .0 ≡ U .cap (weight (W .exact) own (t .tree)) = sym (supports L fix (t .tree) (t .follows) .weighs) ∙ weight-capped (t .tree) in
         record {
           tree = u .tree;
           low = exact-least u;
@@ -55,3 +57,12 @@ module _ {A : Algebra} (W : Weighs A) (H : Hypergraph) (own : ℕ → ℕ) where
               (L .ordered .transitive (bound L fix (u .tree) .low) (no-worse-eq L (weight-capped (u .tree))))
               (L .ordered .transitive (W .cap-mono (exact-least u (t .tree))) (no-worse-eq L (sym p)));
         }
+
+    -- what is said of an exact weight that no derivation betters, and of no derivation at all, is what the label has
+    pub valued : (Says : U .semiring .Carrier → Type 0) (v : ℕ)
+        → ((d : Derivation H v) → ((d′ : Derivation H v) → NoWorse (W .exact .leq) (weight (W .exact) own d) (weight (W .exact) own d′)) → Says (U .element (weight (W .exact) own d)))
+        → (¬ Derivation H v → Says (U .semiring .nought)) → Valued U Says (ls v)
+    valued Says v attained vacant = record {
+      made = λ k. let t = attains v k in (weight (W .exact) own (t .tree), attained (t .tree) (t .low), t .figure);
+      unmade = λ z. vacant (λ d. absurd (omega (arith, z, bound L fix d .made .deep)));
+    }

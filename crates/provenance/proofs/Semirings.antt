@@ -1,38 +1,58 @@
 -- The semiring in which a measure weighs: cost in the tropical semiring and grade in that of grades, where their weight functions are the product, and days in the
 -- bottleneck semiring; cost and days up to the ceiling. Assumes nothing.
 use mathlib.Core.Path.{_≡_, refl, sym, _∙_, ap}
+use mathlib.Core.Bool.{true}
 use mathlib.Core.List.{List, [], _∷_, map}
 use Prim.Native.Nat.{ℕ, _+_, min, max}
 use native.Mathlib.Omega.{arith}
 use lib.Dec.{leb}
 use borrow.Author.Tests.{le-leb}
-use Rattle.semiring.specs.Semiring.{Semiring, Below, product, finite, extend}
-use Rattle.semiring.specs.Chain.{present}
-use Rattle.semiring.proofs.Semiring.{tropical}
-use Rattle.semiring.proofs.Chain.{backwards, better-first, bottleneck, bottleneck-plus, bottleneck-times, graded, grades, grades-times}
+use Rattle.semiring.specs.Semiring.{Operations, Semiring, Below, product, finite, extend, tropical}
+use Rattle.semiring.specs.Chain.{present, bottleneck, grades}
+use Rattle.semiring.proofs.Semiring.{tropical-semiring}
+use Rattle.semiring.proofs.Chain.{backwards, better-first, bottleneck-semiring, bottleneck-plus, bottleneck-times, graded, grades-semiring, grades-times}
 use Rattle.weights.specs.declared.Measure.{Measure}
 use Rattle.weights.specs.declared.Measure.the-variants.{Cost, Days, Grade}
 use Rattle.weights.specs.Figures.{greatest, capped}
-use Rattle.weights.specs.Measures.{cost, days, grade, algebra, fold, weigh}
+use Rattle.weights.specs.Measures.{Algebra, cost, days, grade, algebra, fold, weigh}
 use Rattle.weights.specs.Laws.{NoWorse, Lawful}
 use Rattle.weights.proofs.Laws.{least, at-most, unturn, upward, grade-lawful}
 use Rattle.weights.proofs.Weighing.{fold-least}
-use Rattle.provenance.specs.Semirings.{long-cost, long-days, gradeOf, Weighs, Computes}
+use Rattle.provenance.specs.Semirings.{long-days, gradeOf, Valuation, valuation}
+
+-- cost without a ceiling
+abbrev pub long-cost : Algebra
+long-cost = record { unit = 0; join = _+_; finish = _+_; leq = leb; within = λ a. true }
+
+-- A weighs by U: a weight of A is the capped weight of an exact algebra, which has no ceiling, and that is U's weight function
+pub record Weighs (A : Algebra) (U : Valuation) : Type 0 where
+  pub exact : Algebra
+  pub lawful : Lawful exact
+  pub cap-mono : {a b : ℕ} → NoWorse (exact .leq) a b → NoWorse (A .leq) (U .cap a) (U .cap b)
+  pub caps : (own : ℕ) (ws : List ℕ) → weigh A own (map (U .cap) ws) ≡ U .cap (weigh exact own ws)
+  pub laws : Semiring (U .semiring)
+  pub element-below : {a b : ℕ} → NoWorse (exact .leq) a b → Below (U .semiring) (U .element a) (U .element b)
+  pub weighs : (own : ℕ) (ws : List ℕ) → U .element (weigh exact own ws) ≡ U .function own (map (U .element) ws)
+
+-- A computes in the semiring: the weight function is the product
+pub record Computes (A : Algebra) (U : Valuation) : Type 0 where
+  pub base : Weighs A U
+  pub times : (own : ℕ) (xs : List (U .semiring .Carrier)) → U .function own xs ≡ U .semiring .times (U .element own) (product (U .semiring) xs)
 
 -- where the element of f a b is the product of the elements, joining a list by f is the product of the list
-module _ (S : Semiring) (element : ℕ → S .Carrier) (f : ℕ → ℕ → ℕ) (joins : (a b : ℕ) → element (f a b) ≡ S .times (element a) (element b)) where
+module _ {S : Operations} (L : Semiring S) (element : ℕ → S .Carrier) (f : ℕ → ℕ → ℕ) (joins : (a b : ℕ) → element (f a b) ≡ S .times (element a) (element b)) where
   fold-product : (a : ℕ) (ws : List ℕ) → element (fold f a ws) ≡ S .times (element a) (product S (map element ws))
   unfolding fold product
-  fold-product a [] = sym (S .times-one (element a))
+  fold-product a [] = sym (L .times-one (element a))
   fold-product a (w ∷ ws) =
       let p = product S (map element ws) in
-      fold-product (f a w) ws ∙ ap (λ x. S .times x p) (joins a w) ∙ S .times-assoc (element a) (element w) p
+      fold-product (f a w) ws ∙ ap (λ x. S .times x p) (joins a w) ∙ L .times-assoc (element a) (element w) p
 
   -- from what is the product of nothing on
   unit-product : (u : ℕ) → element u ≡ S .one → (ws : List ℕ) → element (fold f u ws) ≡ product S (map element ws)
   unit-product u e ws =
       let p = product S (map element ws) in
-      fold-product u ws ∙ ap (λ x. S .times x p) e ∙ S .times-comm (S .one) p ∙ S .times-one p
+      fold-product u ws ∙ ap (λ x. S .times x p) e ∙ L .times-comm (S .one) p ∙ L .times-one p
 
 pub finite-below : {a b : ℕ} → NoWorse leb a b → finite (min a b) ≡ finite a
 finite-below p = ap finite (omega (arith, at-most p))
@@ -75,45 +95,39 @@ days-caps own ws = omega (arith, fold-caps max max (λ a b. omega arith) 0 ws)
 
 pub cost-function : (own : ℕ) (ws : List ℕ) → finite (weigh long-cost own ws) ≡ extend _+_ (finite own) (product tropical (map finite ws))
 unfolding weigh
-cost-function own ws = ap (extend _+_ (finite own)) (unit-product tropical finite _+_ (λ a b. refl) 0 refl ws)
+cost-function own ws = ap (extend _+_ (finite own)) (unit-product tropical-semiring finite _+_ (λ a b. refl) 0 refl ws)
 
 pub days-function : (own : ℕ) (ws : List ℕ) → finite (weigh long-days own ws) ≡ extend _+_ (finite own) (product bottleneck (map finite ws))
 unfolding weigh
-days-function own ws = ap (extend _+_ (finite own)) (unit-product bottleneck finite max (λ a b. sym (bottleneck-times (finite a) (finite b))) 0 refl ws)
+days-function own ws = ap (extend _+_ (finite own)) (unit-product bottleneck-semiring finite max (λ a b. sym (bottleneck-times (finite a) (finite b))) 0 refl ws)
 
 pub days-below : {a b : ℕ} → NoWorse leb a b → Below bottleneck (finite a) (finite b)
 days-below {a} {b} p = bottleneck-plus (finite a) (finite b) ∙ finite-below p
 
 -- costs are sums, capped
-abbrev pub cost-weighs : Weighs cost
+abbrev pub cost-weighs : Weighs cost (valuation Cost)
 cost-weighs = record {
   exact = long-cost;
   lawful = long-cost-lawful;
-  cap = capped;
   cap-mono = λ p. least (omega (arith, at-most p));
   caps = cost-caps;
-  semiring = tropical;
-  element = finite;
+  laws = tropical-semiring;
   element-below = finite-below;
-  function = λ own xs. extend _+_ (finite own) (product tropical xs);
   weighs = cost-function;
 }
 
-abbrev pub cost-computes : Computes cost
+abbrev pub cost-computes : Computes cost (valuation Cost)
 cost-computes = record { base = cost-weighs; times = λ own xs. refl }
 
 -- days are the own figure plus the greatest of the tail's, which is the product of the bottleneck semiring, capped
-abbrev pub days-weighs : Weighs days
+abbrev pub days-weighs : Weighs days (valuation Days)
 days-weighs = record {
   exact = long-days;
   lawful = long-days-lawful;
-  cap = capped;
   cap-mono = λ p. least (omega (arith, at-most p));
   caps = days-caps;
-  semiring = bottleneck;
-  element = finite;
+  laws = bottleneck-semiring;
   element-below = days-below;
-  function = λ own xs. extend _+_ (finite own) (product bottleneck xs);
   weighs = days-function;
 }
 
@@ -132,7 +146,7 @@ pub grade-function : (own : ℕ) (ws : List ℕ) → gradeOf (weigh grade own ws
 unfolding weigh
 grade-function own ws =
     ap gradeOf (fold-least own greatest ws)
-    ∙ fold-product grades gradeOf min grade-joins (min own greatest) ws
+    ∙ fold-product grades-semiring gradeOf min grade-joins (min own greatest) ws
     ∙ ap (λ x. grades .times x (product grades (map gradeOf ws))) (cut-twice own)
 
 pub grade-below : {a b : ℕ} → NoWorse (grade .leq) a b → Below grades (gradeOf a) (gradeOf b)
@@ -149,24 +163,21 @@ pub grade-caps : (own : ℕ) (ws : List ℕ) → weigh grade own (map (λ (a : �
 grade-caps own ws = ap (weigh grade own) (map-same ws)
 
 -- grades are the least of the own figure and the tail's, and nothing is capped
-abbrev pub grade-weighs : Weighs grade
+abbrev pub grade-weighs : Weighs grade (valuation Grade)
 grade-weighs = record {
   exact = grade;
   lawful = grade-lawful;
-  cap = λ a. a;
   cap-mono = λ p. p;
   caps = grade-caps;
-  semiring = grades;
-  element = gradeOf;
+  laws = grades-semiring;
   element-below = grade-below;
-  function = λ own xs. grades .times (gradeOf own) (product grades xs);
   weighs = grade-function;
 }
 
-abbrev pub grade-computes : Computes grade
+abbrev pub grade-computes : Computes grade (valuation Grade)
 grade-computes = record { base = grade-weighs; times = λ own xs. refl }
 
-abbrev pub weighs : (m : Measure) → Weighs (algebra m)
+abbrev pub weighs : (m : Measure) → Weighs (algebra m) (valuation m)
 weighs Cost = cost-weighs
 weighs Days = days-weighs
 weighs Grade = grade-weighs

@@ -20,8 +20,8 @@ use Rattle.provenance.specs.Labelling.{Made, Fixpoint}
 use Rattle.provenance.specs.Means.{Follows}
 use Rattle.provenance.proofs.LowerBound.{bound}
 use Rattle.provenance.proofs.Support.{chosen, supports}
-use Rattle.provenance.specs.Semirings.{long-cost, long-days}
-use Rattle.provenance.proofs.Semirings.{cost-weighs, days-weighs}
+use Rattle.provenance.specs.Semirings.{long-days}
+use Rattle.provenance.proofs.Semirings.{long-cost, cost-weighs, days-weighs}
 use Rattle.provenance.proofs.Exact.{weight-capped}
 use Rattle.provenance.specs.Paths.{Greatest}
 use Rattle.provenance.proofs.Paths.{line-once, days-path}

@@ -6,7 +6,6 @@ pub mod BestFirst
 pub mod InOrder
 pub mod Semirings
 pub mod Program
-pub mod Provenance
 pub mod BestWeight
 pub mod Counting
 pub mod Pieces

@@ -1,12 +1,11 @@
 -- The annotated Datalog program that a table is (document 000, before Definition 5): each line is a rule, from its own figure and the parts that it lists. The
 -- paper's "There, facts carry the weight; here a line's own figure stands for one more fact that only this line uses". Its trees are the make-ups, with the
 -- own figures along the listing at their leaves (proofs). Assumes nothing: these are definitions.
-use mathlib.Core.List.{List, _∷_, map}
+use mathlib.Core.List.{_∷_, map}
 use Prim.Native.Nat.{ℕ, _<_}
 use Rattle.semiring.specs.Datalog.{Program}
-use Rattle.weights.specs.Measures.{Algebra}
 use Rattle.provenance.specs.Hypergraph.{Hypergraph, Stands}
-use Rattle.provenance.specs.Semirings.{Computes}
+use Rattle.provenance.specs.Semirings.{Valuation}
 
 -- an atom for each part, and one for the own figure of each line
 pub data Atom : Type 0 where
@@ -23,22 +22,14 @@ pub record Rule (H : Hypergraph) : Type 0 where
   pub edge : ℕ
   pub numbered : edge < H .edges
 
-module _ {A : Algebra} (C : Computes A) (H : Hypergraph) (own : ℕ → ℕ) where
-  -- the program that a table is
-  abbrev pub program : Program (C .base .semiring)
-  program = record {
-    Atom = Atom;
-    Fact = Fact H;
-    states = λ f. figure (f .edge);
-    annotation = λ f. C .base .element (own (f .edge));
-    Rule = Rule H;
-    head = λ r. part (H .head (r .edge));
-    body = λ r. figure (r .edge) ∷ map part (H .tail (r .edge));
-  }
-
-  -- the annotations of the leaves, and the own weights of a listing
-  abbrev pub Annotations : List (Fact H) → List (C .base .semiring .Carrier)
-  Annotations fs = map (λ (f : Fact H). C .base .element (own (f .edge))) fs
-
-  abbrev pub Owns : List ℕ → List (C .base .semiring .Carrier)
-  Owns es = map (λ (e : ℕ). C .base .element (own e)) es
+-- the program that a table is
+abbrev pub program : (U : Valuation) (H : Hypergraph) (own : ℕ → ℕ) → Program (U .semiring)
+program U H own = record {
+  Atom = Atom;
+  Fact = Fact H;
+  states = λ f. figure (f .edge);
+  annotation = λ f. U .element (own (f .edge));
+  Rule = Rule H;
+  head = λ r. part (H .head (r .edge));
+  body = λ r. figure (r .edge) ∷ map part (H .tail (r .edge));
+}

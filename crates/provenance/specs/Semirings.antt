@@ -1,20 +1,20 @@
--- The semiring in which a measure weighs: cost in the tropical semiring and days in the bottleneck semiring, both up to the ceiling, and grade in the semiring of
--- grades. A measure's exact algebra is the one without a ceiling; grade needs none. Assumes nothing: these are definitions.
+-- How a measure's figures stand in a semiring: cost in the tropical semiring and days in the bottleneck semiring, both up to the ceiling, and grade in the semiring of
+-- grades. Assumes nothing: these are definitions.
 use mathlib.Core.Path.{_≡_}
 use mathlib.Core.Bool.{true}
-use mathlib.Core.List.{List, map}
+use mathlib.Core.List.{List}
 use Prim.Native.Nat.{ℕ, _+_, min, max}
 use lib.Dec.{leb}
-use Rattle.semiring.specs.Semiring.{Semiring, Below, product, finite}
-use Rattle.semiring.specs.Chain.{Graded, present}
-use Rattle.weights.specs.Figures.{greatest}
-use Rattle.weights.specs.Measures.{Algebra, weigh}
-use Rattle.weights.specs.Laws.{NoWorse, Lawful}
+use Rattle.semiring.specs.Semiring.{Operations, product, finite, extend, tropical}
+use Rattle.semiring.specs.Chain.{Graded, present, bottleneck, grades}
+use Rattle.weights.specs.declared.Measure.{Measure}
+use Rattle.weights.specs.declared.Measure.the-variants.{Cost, Days, Grade}
+use Rattle.weights.specs.declared.Label.{Label}
+use Rattle.weights.specs.Figures.{greatest, capped}
+use Rattle.weights.specs.Measures.{Algebra}
+use Rattle.provenance.specs.Labelling.{Made}
 
--- the exact algebras: cost and days without a ceiling
-abbrev pub long-cost : Algebra
-long-cost = record { unit = 0; join = _+_; finish = _+_; leq = leb; within = λ a. true }
-
+-- days without a ceiling
 abbrev pub long-days : Algebra
 long-days = record { unit = 0; join = max; finish = _+_; leq = leb; within = λ a. true }
 
@@ -22,20 +22,20 @@ long-days = record { unit = 0; join = max; finish = _+_; leq = leb; within = λ 
 unfoldable pub gradeOf : ℕ → Graded
 gradeOf a = present (finite (min a greatest))
 
--- how A weighs: a weight of A is the capped weight of the exact algebra, and that is, in a semiring, Definition 7's weight function of a line of this own weight
-pub record Weighs (A : Algebra) : Type 1 where
-  pub exact : Algebra
-  pub lawful : Lawful exact
-  pub cap : ℕ → ℕ
-  pub cap-mono : {a b : ℕ} → NoWorse (exact .leq) a b → NoWorse (A .leq) (cap a) (cap b)
-  pub caps : (own : ℕ) (ws : List ℕ) → weigh A own (map cap ws) ≡ cap (weigh exact own ws)
-  pub semiring : Semiring
+-- a number's element, Definition 7's weight function of a line by its own figure, and the figure that a number becomes
+pub record Valuation : Type 1 where
+  pub semiring : Operations
   pub element : ℕ → semiring .Carrier
-  pub element-below : {a b : ℕ} → NoWorse (exact .leq) a b → Below semiring (element a) (element b)
   pub function : ℕ → List (semiring .Carrier) → semiring .Carrier
-  pub weighs : (own : ℕ) (ws : List ℕ) → element (weigh exact own ws) ≡ function own (map element ws)
+  pub cap : ℕ → ℕ
 
--- A computes in the semiring: the weight function is the product
-pub record Computes (A : Algebra) : Type 1 where
-  pub base : Weighs A
-  pub times : (own : ℕ) (xs : List (base .semiring .Carrier)) → base .function own xs ≡ base .semiring .times (base .element own) (product (base .semiring) xs)
+-- a cost is the own figure plus those of the parts, days are the own figure plus the greatest of the parts', a grade is the least of all; only a grade has no ceiling
+abbrev pub valuation : Measure → Valuation
+valuation Cost = record { semiring = tropical; element = finite; function = λ own xs. tropical .times (finite own) (product tropical xs); cap = capped }
+valuation Days = record { semiring = bottleneck; element = finite; function = λ own xs. extend _+_ (finite own) (product bottleneck xs); cap = capped }
+valuation Grade = record { semiring = grades; element = gradeOf; function = λ own xs. grades .times (gradeOf own) (product grades xs); cap = λ a. a }
+
+-- the source says an element of a part whose label is l: that of a number whose figure the label has, or the empty sum where the part is unmade
+pub record Valued (U : Valuation) (Says : U .semiring .Carrier → Type 0) (l : Label) : Type 0 where
+  pub made : Made l → (x : ℕ) × Says (U .element x) × (l .weight .0 ≡ U .cap x)
+  pub unmade : l .depth ≡ 0 → Says (U .semiring .nought)

@@ -2,13 +2,36 @@
 -- passes through every sum. The order read backwards is such an order. Cases: the bottleneck semiring (document 003, Semiring 5), in which days weigh, and the
 -- semiring of grades. Assumes nothing.
 use mathlib.Core.Path.{_≡_, refl, sym, _∙_, ap}
-use mathlib.Core.Bool.{Bool, true, false}
+use mathlib.Core.Bool.{Bool, true, false, cond}
 use Prim.Native.Nat.{ℕ, min, max}
 use native.Mathlib.Omega.{arith}
 use lib.Dec.{leb}
 use borrow.Author.Tests.{leb-true, leb-false, le-leb}
-use Rattle.semiring.specs.Semiring.{Semiring, Below, Sum, Extended, finite, infinite, least, extend}
-use Rattle.semiring.specs.Chain.{Chain, choose, better, worse, atMost, Graded, absent, present, upTo}
+use Rattle.semiring.specs.Semiring.{Operations, Semiring, Below, Sum, Extended, finite, infinite, least, extend}
+use Rattle.semiring.specs.Chain.{ordered, atMost, bottleneck, Graded, absent, present, upTo, grades}
+
+-- a total order by its test, with a first and a last element
+pub record Chain : Type 1 where
+  pub Carrier : Type 0
+  pub leq : Carrier → Carrier → Bool
+  pub reflexive : (a : Carrier) → leq a a ≡ true
+  pub transitive : (a b c : Carrier) → leq a b ≡ true → leq b c ≡ true → leq a c ≡ true
+  pub antisymmetric : (a b : Carrier) → leq a b ≡ true → leq b a ≡ true → a ≡ b
+  pub total : (a b : Carrier) → leq a b ≡ false → leq b a ≡ true
+  pub first : Carrier
+  pub last : Carrier
+  pub first-is : (a : Carrier) → leq first a ≡ true
+  pub last-is : (a : Carrier) → leq a last ≡ true
+
+-- its semiring, and in it the better and the worse of two
+abbrev pub chain : Chain → Operations
+chain C = ordered (C .leq) (C .first) (C .last)
+
+abbrev better : (C : Chain) → C .Carrier → C .Carrier → C .Carrier
+better C = chain C .plus
+
+abbrev worse : (C : Chain) → C .Carrier → C .Carrier → C .Carrier
+worse C = chain C .times
 
 -- the order read backwards
 abbrev pub backwards : Chain → Chain
@@ -42,7 +65,7 @@ module _ (C : Chain) where
   which : (a b : X) → Which a b (better C a b)
   which a b = go (C .leq a b) refl
     where
-      go : (t : Bool) → C .leq a b ≡ t → Which a b (choose t a b)
+      go : (t : Bool) → C .leq a b ≡ t → Which a b (cond t a b)
       go true e = fst e
       go false e = snd (C .total a b e)
 
@@ -106,13 +129,8 @@ module _ (C : Chain) where
           ap (worse C a) (better-comm C b c ∙ better-first C c b h)
           ∙ sym (better-comm C (worse C a b) (worse C a c) ∙ better-first C _ _ (worse-mono a c b h))
 
-  abbrev pub chain-semiring : Semiring
+  pub chain-semiring : Semiring (chain C)
   chain-semiring = record {
-    Carrier = C .Carrier;
-    plus = better C;
-    times = worse C;
-    nought = C .last;
-    one = C .first;
     plus-assoc = better-assoc C;
     plus-comm = better-comm C;
     plus-nought = λ a. better-first C a (C .last) (C .last-is a);
@@ -124,12 +142,12 @@ module _ (C : Chain) where
     closed = λ a. better-first C (C .first) a (C .first-is a);
   }
 
-  module _ {I : Type 0} (g : I → C .Carrier) (a x : C .Carrier) (s : Sum chain-semiring g x) where
+  module _ {I : Type 0} (g : I → C .Carrier) (a x : C .Carrier) (s : Sum (chain C) g x) where
     -- what comes before the worse of a and b, and not before a, comes before b
     behind : (y b : C .Carrier) → C .leq y a ≡ false → C .leq y (worse C a b) ≡ true → C .leq y b ≡ true
     behind y b n = go (C .leq b a) refl
       where
-        go : (t : Bool) → C .leq b a ≡ t → C .leq y (choose t a b) ≡ true → C .leq y b ≡ true
+        go : (t : Bool) → C .leq b a ≡ t → C .leq y (cond t a b) ≡ true → C .leq y b ≡ true
         go true e h = never (sym n ∙ h)
         go false e h = h
 
@@ -143,7 +161,7 @@ module _ (C : Chain) where
             C .transitive y x _ (better-ahead C y x k) (better-right (backwards C) a x)
 
     -- multiplication passes through every sum
-    pub chain-times-sum : Sum chain-semiring (λ i. worse C a (g i)) (worse C a x)
+    pub chain-times-sum : Sum (chain C) (λ i. worse C a (g i)) (worse C a x)
     chain-times-sum = record {
       lower = λ i. better-first C _ _ (worse-mono a x (g i) (better-ahead C x (g i) (s .lower i)));
       greatest = λ y h. better-first C y _ (high y (λ i. better-ahead C y _ (h i)));
@@ -196,14 +214,13 @@ extended = record {
   last-is = last-most;
 }
 
--- (ℕ ∪ {∞}, min, max, ∞, 0)
-abbrev pub bottleneck : Semiring
-bottleneck = chain-semiring extended
+pub bottleneck-semiring : Semiring bottleneck
+bottleneck-semiring = chain-semiring extended
 
 pub bottleneck-plus : (a b : Extended) → bottleneck .plus a b ≡ least a b
 bottleneck-plus (finite a) (finite b) = go (leb a b) refl
   where
-    go : (t : Bool) → leb a b ≡ t → choose t (finite a) (finite b) ≡ finite (min a b)
+    go : (t : Bool) → leb a b ≡ t → cond t (finite a) (finite b) ≡ finite (min a b)
     go true e = ap finite (omega (arith, leb-true a b e))
     go false e = ap finite (omega (arith, leb-false a b e))
 bottleneck-plus (finite a) infinite = refl
@@ -213,7 +230,7 @@ bottleneck-plus infinite infinite = refl
 pub bottleneck-times : (a b : Extended) → bottleneck .times a b ≡ extend max a b
 bottleneck-times (finite a) (finite b) = go (leb b a) refl
   where
-    go : (t : Bool) → leb b a ≡ t → choose t (finite a) (finite b) ≡ finite (max a b)
+    go : (t : Bool) → leb b a ≡ t → cond t (finite a) (finite b) ≡ finite (max a b)
     go true e = ap finite (omega (arith, leb-true b a e))
     go false e = ap finite (omega (arith, leb-false b a e))
 bottleneck-times (finite a) infinite = refl
@@ -261,21 +278,20 @@ graded = record {
   last-is = last-up;
 }
 
--- (ℕ between absent and ∞, max, min, absent, ∞): the greater is the better
-abbrev pub grades : Semiring
-grades = chain-semiring (backwards graded)
+pub grades-semiring : Semiring grades
+grades-semiring = chain-semiring (backwards graded)
 
 pub grades-times : (a b : ℕ) → grades .times (present (finite a)) (present (finite b)) ≡ present (finite (min a b))
 grades-times a b = go (leb a b) refl
   where
-    go : (t : Bool) → leb a b ≡ t → choose t (present (finite a)) (present (finite b)) ≡ present (finite (min a b))
+    go : (t : Bool) → leb a b ≡ t → cond t (present (finite a)) (present (finite b)) ≡ present (finite (min a b))
     go true e = ap (λ (x : ℕ). present (finite x)) (omega (arith, leb-true a b e))
     go false e = ap (λ (x : ℕ). present (finite x)) (omega (arith, leb-false a b e))
 
 pub grades-plus : (a b : ℕ) → grades .plus (present (finite a)) (present (finite b)) ≡ present (finite (max a b))
 grades-plus a b = go (leb b a) refl
   where
-    go : (t : Bool) → leb b a ≡ t → choose t (present (finite a)) (present (finite b)) ≡ present (finite (max a b))
+    go : (t : Bool) → leb b a ≡ t → cond t (present (finite a)) (present (finite b)) ≡ present (finite (max a b))
     go true e = ap (λ (x : ℕ). present (finite x)) (omega (arith, leb-true b a e))
     go false e = ap (λ (x : ℕ). present (finite x)) (omega (arith, leb-false b a e))
 

@@ -2,7 +2,7 @@
 use mathlib.Core.Path.{_≡_, refl, sym, _∙_, ap, ap₂}
 use mathlib.Core.Logic.{inl, inr, _↔_}
 use mathlib.Core.List.{List, _++_, map, map-append}
-use Rattle.semiring.specs.Semiring.{Semiring, product}
+use Rattle.semiring.specs.Semiring.{Operations, Semiring, product}
 use Rattle.semiring.proofs.Semiring.{sum-same, product-append}
 use Rattle.semiring.specs.Datalog.{
   Program,
@@ -26,7 +26,7 @@ use Rattle.semiring.specs.Datalog.{
   proofs,
 }
 
-module _ {S : Semiring} {q : Program S} where
+module _ {S : Operations} {q : Program S} where
   mutual
     unfolding proof derivation
 
@@ -51,13 +51,13 @@ module _ {S : Semiring} {q : Program S} where
     derivations-proofs Trees.none = refl
     derivations-proofs (Trees.more t ts) = ap₂ Trees.more (derivation-proof t) (derivations-proofs ts)
 
-module _ {S : Semiring} (q : Program S) where
+module _ {S : Operations} (L : Semiring S) (q : Program S) where
   -- the product of the annotations of fs
   abbrev annotations : List (q .Fact) → S .Carrier
   annotations fs = product S (map (q .annotation) fs)
 
   annotations-append : (fs gs : List (q .Fact)) → annotations (fs ++ gs) ≡ S .times (annotations fs) (annotations gs)
-  annotations-append fs gs = ap (product S) (map-append (q .annotation) fs gs) ∙ product-append S (map (q .annotation) fs) (map (q .annotation) gs)
+  annotations-append fs gs = ap (product S) (map-append (q .annotation) fs gs) ∙ product-append L (map (q .annotation) fs) (map (q .annotation) gs)
 
   mutual
     unfolding weight leaves product proof
@@ -65,7 +65,7 @@ module _ {S : Semiring} (q : Program S) where
     -- Lemma 12: the weight of a derivation is the product over the leaves of its tree
     pub lemma-12 : {t : q .Atom} (τ : Tree (representation q) t) → weight τ ≡ product S (map (q .annotation) (leaves (proof τ)))
     lemma-12 (node (inl r) h ts) = subtrees ts
-    lemma-12 (node (inr f) h ts) = sym (S .times-one (q .annotation f))
+    lemma-12 (node (inr f) h ts) = sym (L .times-one (q .annotation f))
 
     subtrees : {ts : List (q .Atom)} (τs : Trees (representation q) ts) → product S (weights τs) ≡ annotations (all-leaves (proofs τs))
     subtrees Trees.none = refl

@@ -5,147 +5,123 @@ use mathlib.Core.Logic.{_↔_}
 use mathlib.Core.List.{List, [], _∷_, _++_}
 use Prim.Native.Nat.{ℕ, zero, suc, _+_}
 use native.Mathlib.Omega.{arith}
-use Rattle.semiring.specs.Semiring.{Semiring, Below, Sum, product, partial, Extended, finite, infinite, least, extend, Joining}
+use Rattle.semiring.specs.Semiring.{Operations, Semiring, Below, Sum, product, partial, Extended, finite, infinite, least, extend, tropical}
 
 -- a sum is unique
-pub sum-unique : (S : Semiring) {I : Type 0} (f : I → S .Carrier) (x y : S .Carrier) → Sum S f x → Sum S f y → x ≡ y
-sum-unique S f x y a b = sym (b .greatest x (a .lower)) ∙ S .plus-comm x y ∙ a .greatest y (b .lower)
+pub sum-unique : {S : Operations} (L : Semiring S) {I : Type 0} (f : I → S .Carrier) (x y : S .Carrier) → Sum S f x → Sum S f y → x ≡ y
+sum-unique L f x y a b = sym (b .greatest x (a .lower)) ∙ L .plus-comm x y ∙ a .greatest y (b .lower)
 
 -- y is below every member of f
-abbrev Bounds : (S : Semiring) {I : Type 0} → (I → S .Carrier) → S .Carrier → Type 0
+abbrev Bounds : (S : Operations) {I : Type 0} → (I → S .Carrier) → S .Carrier → Type 0
 Bounds S {I} f y = (i : I) → Below S y (f i)
 
 -- families with the same bounds have the same sum
-sum-bounds : (S : Semiring) {I J : Type 0} (f : I → S .Carrier) (g : J → S .Carrier)
+sum-bounds : (S : Operations) {I J : Type 0} (f : I → S .Carrier) (g : J → S .Carrier)
     → ((y : S .Carrier) → Bounds S f y ↔ Bounds S g y) → (x : S .Carrier) → Sum S f x → Sum S g x
 sum-bounds S f g same x s = record { lower = same x .0 (s .lower); greatest = λ y h. s .greatest y (same y .1 h) }
 
 -- families of the same members have the same sum
-pub sum-same : (S : Semiring) {I J : Type 0} (f : I → S .Carrier) (g : J → S .Carrier) → ((i : I) → (j : J) × (f i ≡ g j)) → ((j : J) → (i : I) × (f i ≡ g j))
+pub sum-same : (S : Operations) {I J : Type 0} (f : I → S .Carrier) (g : J → S .Carrier) → ((i : I) → (j : J) × (f i ≡ g j)) → ((j : J) → (i : I) × (f i ≡ g j))
     → (x : S .Carrier) → Sum S f x → Sum S g x
 sum-same S f g to back =
     sum-bounds S f g (λ y. (λ h j. subst (Below S y) (back j .1) (h (back j .0)), λ h i. subst (Below S y) (sym (to i .1)) (h (to i .0))))
 
 -- laws of the natural order
-module _ (S : Semiring) where
+module _ {S : Operations} (L : Semiring S) where
   pub below-refl : (a : S .Carrier) → Below S a a
-  below-refl a = rw (← S .times-one a, ← S .distributes a S.one S.one, S .closed S.one)
+  below-refl a = rw (← L .times-one a, ← L .distributes a S.one S.one, L .closed S.one)
 
   pub below-trans : (a b c : S .Carrier) → Below S a b → Below S b c → Below S a c
-  below-trans a b c h k = ap (λ x. S .plus x c) (sym h) ∙ S .plus-assoc a b c ∙ ap (S .plus a) k ∙ h
+  below-trans a b c h k = ap (λ x. S .plus x c) (sym h) ∙ L .plus-assoc a b c ∙ ap (S .plus a) k ∙ h
 
   pub plus-right : (a b : S .Carrier) → Below S (S .plus a b) b
-  plus-right a b = S .plus-assoc a b b ∙ ap (S .plus a) (below-refl b)
+  plus-right a b = L .plus-assoc a b b ∙ ap (S .plus a) (below-refl b)
 
   pub below-plus : (y a b : S .Carrier) → Below S y a → Below S y b → Below S y (S .plus a b)
-  below-plus y a b h k = sym (S .plus-assoc y a b) ∙ ap (λ c. S .plus c b) h ∙ k
+  below-plus y a b h k = sym (L .plus-assoc y a b) ∙ ap (λ c. S .plus c b) h ∙ k
 
-module _ (S : Semiring) (a : ℕ → S .Carrier) where
-  partial-member : (n : ℕ) → Below S (partial S a n) (a n)
-  unfolding partial
-  partial-member zero = below-refl S (a zero)
-  partial-member (suc n) = plus-right S (partial S a n) (a (suc n))
+  module _ (a : ℕ → S .Carrier) where
+    partial-member : (n : ℕ) → Below S (partial S a n) (a n)
+    unfolding partial
+    partial-member zero = below-refl (a zero)
+    partial-member (suc n) = plus-right (partial S a n) (a (suc n))
 
-  bounds-members : (y : S .Carrier) → Bounds S (partial S a) y → Bounds S a y
-  bounds-members y h n = below-trans S y (partial S a n) (a n) (h n) (partial-member n)
+    bounds-members : (y : S .Carrier) → Bounds S (partial S a) y → Bounds S a y
+    bounds-members y h n = below-trans y (partial S a n) (a n) (h n) (partial-member n)
 
-  bounds-partial : (y : S .Carrier) → Bounds S a y → Bounds S (partial S a) y
-  unfolding partial
-  bounds-partial y h zero = h zero
-  bounds-partial y h (suc n) = below-plus S y (partial S a n) (a (suc n)) (bounds-partial y h n) (h (suc n))
+    bounds-partial : (y : S .Carrier) → Bounds S a y → Bounds S (partial S a) y
+    unfolding partial
+    bounds-partial y h zero = h zero
+    bounds-partial y h (suc n) = below-plus y (partial S a n) (a (suc n)) (bounds-partial y h n) (h (suc n))
 
-pub sum-partial : (S : Semiring) (a : ℕ → S .Carrier) (x : S .Carrier) → Sum S (partial S a) x ↔ Sum S a x
-sum-partial S a x = (
-  sum-bounds S (partial S a) a (λ y. (bounds-members S a y, bounds-partial S a y)) x,
-  sum-bounds S a (partial S a) (λ y. (bounds-partial S a y, bounds-members S a y)) x,
-)
+    pub sum-partial : (x : S .Carrier) → Sum S (partial S a) x ↔ Sum S a x
+    sum-partial x = (
+      sum-bounds S (partial S a) a (λ y. (bounds-members y, bounds-partial y)) x,
+      sum-bounds S a (partial S a) (λ y. (bounds-partial y, bounds-members y)) x,
+    )
 
-pub product-append : (S : Semiring) (xs ys : List (S .Carrier)) → product S (xs ++ ys) ≡ S .times (product S xs) (product S ys)
-unfolding product
-product-append S [] ys = sym (S .times-comm S.one (product S ys) ∙ S .times-one (product S ys))
-product-append S (x ∷ xs) ys = ap (S .times x) (product-append S xs ys) ∙ sym (S .times-assoc x (product S xs) (product S ys))
+  pub product-append : (xs ys : List (S .Carrier)) → product S (xs ++ ys) ≡ S .times (product S xs) (product S ys)
+  unfolding product
+  product-append [] ys = sym (L .times-comm S.one (product S ys) ∙ L .times-one (product S ys))
+  product-append (x ∷ xs) ys = ap (S .times x) (product-append xs ys) ∙ sym (L .times-assoc x (product S xs) (product S ys))
 
-pub least-assoc : (a b c : Extended) → least (least a b) c ≡ least a (least b c)
+-- The tropical semiring ---------------------------------------------------------------------------------------------------------------------------
+
+least-assoc : (a b c : Extended) → least (least a b) c ≡ least a (least b c)
 least-assoc (finite a) (finite b) (finite c) = ap finite (omega arith)
 least-assoc (finite a) (finite b) infinite = refl
-least-assoc (finite a) infinite (finite c) = refl
-least-assoc (finite a) infinite infinite = refl
-least-assoc infinite (finite b) (finite c) = refl
-least-assoc infinite (finite b) infinite = refl
-least-assoc infinite infinite (finite c) = refl
-least-assoc infinite infinite infinite = refl
+least-assoc (finite a) infinite c = refl
+least-assoc infinite b c = refl
 
-pub least-comm : (a b : Extended) → least a b ≡ least b a
+least-comm : (a b : Extended) → least a b ≡ least b a
 least-comm (finite a) (finite b) = ap finite (omega arith)
 least-comm (finite a) infinite = refl
 least-comm infinite (finite b) = refl
 least-comm infinite infinite = refl
 
-pub least-infinite : (a : Extended) → least a infinite ≡ a
+least-infinite : (a : Extended) → least a infinite ≡ a
 least-infinite (finite a) = refl
 least-infinite infinite = refl
 
-pub least-closed : (a : Extended) → least (finite 0) a ≡ finite 0
+least-closed : (a : Extended) → least (finite 0) a ≡ finite 0
 least-closed (finite a) = ap finite (omega arith)
 least-closed infinite = refl
 
-pub extend-infinite : (f : ℕ → ℕ → ℕ) (a : Extended) → extend f a infinite ≡ infinite
-extend-infinite f (finite a) = refl
-extend-infinite f infinite = refl
+plus-infinite : (a : Extended) → extend _+_ a infinite ≡ infinite
+plus-infinite (finite a) = refl
+plus-infinite infinite = refl
 
-module _ {f : ℕ → ℕ → ℕ} (j : Joining f) where
-  pub extend-assoc : (a b c : Extended) → extend f (extend f a b) c ≡ extend f a (extend f b c)
-  extend-assoc (finite a) (finite b) (finite c) = ap finite (j .assoc a b c)
-  extend-assoc (finite a) (finite b) infinite = refl
-  extend-assoc (finite a) infinite (finite c) = refl
-  extend-assoc (finite a) infinite infinite = refl
-  extend-assoc infinite (finite b) (finite c) = refl
-  extend-assoc infinite (finite b) infinite = refl
-  extend-assoc infinite infinite (finite c) = refl
-  extend-assoc infinite infinite infinite = refl
+plus-assoc : (a b c : Extended) → extend _+_ (extend _+_ a b) c ≡ extend _+_ a (extend _+_ b c)
+plus-assoc (finite a) (finite b) (finite c) = ap finite (omega arith)
+plus-assoc (finite a) (finite b) infinite = refl
+plus-assoc (finite a) infinite c = refl
+plus-assoc infinite b c = refl
 
-  pub extend-comm : (a b : Extended) → extend f a b ≡ extend f b a
-  extend-comm (finite a) (finite b) = ap finite (j .comm a b)
-  extend-comm (finite a) infinite = refl
-  extend-comm infinite (finite b) = refl
-  extend-comm infinite infinite = refl
+plus-comm : (a b : Extended) → extend _+_ a b ≡ extend _+_ b a
+plus-comm (finite a) (finite b) = ap finite (omega arith)
+plus-comm (finite a) infinite = refl
+plus-comm infinite (finite b) = refl
+plus-comm infinite infinite = refl
 
-  pub extend-one : (a : Extended) → extend f a (finite 0) ≡ a
-  extend-one (finite a) = ap finite (j .unit a)
-  extend-one infinite = refl
+plus-nought : (a : Extended) → extend _+_ a (finite 0) ≡ a
+plus-nought (finite a) = ap finite (omega arith)
+plus-nought infinite = refl
 
-  pub extend-least : (a b c : Extended) → extend f a (least b c) ≡ least (extend f a b) (extend f a c)
-  extend-least (finite a) (finite b) (finite c) = ap finite (j .min-right a b c)
-  extend-least (finite a) (finite b) infinite = refl
-  extend-least (finite a) infinite (finite c) = refl
-  extend-least (finite a) infinite infinite = refl
-  extend-least infinite (finite b) (finite c) = refl
-  extend-least infinite (finite b) infinite = refl
-  extend-least infinite infinite (finite c) = refl
-  extend-least infinite infinite infinite = refl
+plus-least : (a b c : Extended) → extend _+_ a (least b c) ≡ least (extend _+_ a b) (extend _+_ a c)
+plus-least (finite a) (finite b) (finite c) = ap finite (omega arith)
+plus-least (finite a) (finite b) infinite = refl
+plus-least (finite a) infinite c = refl
+plus-least infinite b c = refl
 
--- (ℕ ∪ {∞}, min, f, ∞, 0)
-abbrev pub least-semiring : (f : ℕ → ℕ → ℕ) → Joining f → Semiring
-least-semiring f j = record {
-  Carrier = Extended;
-  plus = least;
-  times = extend f;
-  nought = infinite;
-  one = finite 0;
+pub tropical-semiring : Semiring tropical
+tropical-semiring = record {
   plus-assoc = least-assoc;
   plus-comm = least-comm;
   plus-nought = least-infinite;
-  times-assoc = extend-assoc j;
-  times-comm = extend-comm j;
-  times-one = extend-one j;
-  distributes = extend-least j;
-  annihilates = extend-infinite f;
+  times-assoc = plus-assoc;
+  times-comm = plus-comm;
+  times-one = plus-nought;
+  distributes = plus-least;
+  annihilates = plus-infinite;
   closed = least-closed;
 }
-
-pub +-joining : Joining _+_
-+-joining = omega arith
-
--- (ℕ ∪ {∞}, min, +, ∞, 0)
-abbrev pub tropical : Semiring
-tropical = least-semiring _+_ +-joining

@@ -4,10 +4,10 @@
 use mathlib.Core.Path.{_≡_}
 use mathlib.Core.Logic.{_⊎_, inl, inr}
 use mathlib.Core.List.{List, [], _∷_, _++_, map}
-use Rattle.semiring.specs.Semiring.{Semiring, Sum, product}
+use Rattle.semiring.specs.Semiring.{Operations, Sum, product}
 
 -- an annotated Datalog program, instantiated: its extensional facts with their annotations, and its rules
-pub record Program (S : Semiring) : Type 1 where
+pub record Program (S : Operations) : Type 1 where
   pub Atom : Type 0
   pub Fact : Type 0
   pub states : Fact → Atom
@@ -18,15 +18,15 @@ pub record Program (S : Semiring) : Type 1 where
 
 -- a derivation tree that yields an atom: a fact that states it, or a rule for it with a tree that yields each atom of its body
 mutual
-  pub data Proof {S : Semiring} (q : Program S) : q .Atom → Type 0 where
+  pub data Proof {S : Operations} (q : Program S) : q .Atom → Type 0 where
     fact : {t : q .Atom} (f : q .Fact) → q .states f ≡ t → Proof q t
     rule : {t : q .Atom} (r : q .Rule) → q .head r ≡ t → Proofs q (q .body r) → Proof q t
 
-  pub data Proofs {S : Semiring} (q : Program S) : List (q .Atom) → Type 0 where
+  pub data Proofs {S : Operations} (q : Program S) : List (q .Atom) → Type 0 where
     none : Proofs q []
     more : {t : q .Atom} {ts : List (q .Atom)} → Proof q t → Proofs q ts → Proofs q (t ∷ ts)
 
-module _ {S : Semiring} {q : Program S} where
+module _ {S : Operations} {q : Program S} where
   -- the facts at the leaves, in order
   unfoldable mutual
     pub leaves : {t : q .Atom} → Proof q t → List (q .Fact)
@@ -38,11 +38,11 @@ module _ {S : Semiring} {q : Program S} where
     all-leaves (more p ps) = leaves p ++ all-leaves ps
 
 -- Definition 5: the sum, over the trees that yield t, of the product of their leaves' annotations
-abbrev pub Provenance : {S : Semiring} (q : Program S) → q .Atom → S .Carrier → Type 0
+abbrev pub Provenance : {S : Operations} (q : Program S) → q .Atom → S .Carrier → Type 0
 Provenance {S} q t = Sum S {I = Proof q t} (λ τ. product S (map (q .annotation) (leaves τ)))
 
 -- Definition 7
-pub record Weighted (S : Semiring) : Type 1 where
+pub record Weighted (S : Operations) : Type 1 where
   pub Vertex : Type 0
   pub Edge : Type 0
   pub head : Edge → Vertex
@@ -50,7 +50,7 @@ pub record Weighted (S : Semiring) : Type 1 where
   pub function : Edge → List (S .Carrier) → S .Carrier
 
 -- Definition 8: an edge for each rule, whose function is the product, and a nullary edge for each fact
-abbrev pub representation : {S : Semiring} → Program S → Weighted S
+abbrev pub representation : {S : Operations} → Program S → Weighted S
 representation {S} q = record {
   Vertex = q .Atom;
   Edge = q .Rule ⊎ q .Fact;
@@ -61,14 +61,14 @@ representation {S} q = record {
 
 -- Definition 9
 mutual
-  pub data Tree {S : Semiring} (G : Weighted S) : G .Vertex → Type 0 where
+  pub data Tree {S : Operations} (G : Weighted S) : G .Vertex → Type 0 where
     node : {v : G .Vertex} (e : G .Edge) → G .head e ≡ v → Trees G (G .tail e) → Tree G v
 
-  pub data Trees {S : Semiring} (G : Weighted S) : List (G .Vertex) → Type 0 where
+  pub data Trees {S : Operations} (G : Weighted S) : List (G .Vertex) → Type 0 where
     none : Trees G []
     more : {v : G .Vertex} {vs : List (G .Vertex)} → Tree G v → Trees G vs → Trees G (v ∷ vs)
 
-module _ {S : Semiring} {G : Weighted S} where
+module _ {S : Operations} {G : Weighted S} where
   -- Definition 9: the weight of a derivation, its root's function of its subtrees' weights
   unfoldable mutual
     pub weight : {v : G .Vertex} → Tree G v → S .Carrier
@@ -79,10 +79,10 @@ module _ {S : Semiring} {G : Weighted S} where
     weights (Trees.more t ts) = weight t ∷ weights ts
 
 -- Definition 10: the sum of the weights of all derivations of v
-abbrev pub BestWeight : {S : Semiring} (G : Weighted S) → G .Vertex → S .Carrier → Type 0
+abbrev pub BestWeight : {S : Operations} (G : Weighted S) → G .Vertex → S .Carrier → Type 0
 BestWeight {S} G v = Sum S {I = Tree G v} weight
 
-module _ {S : Semiring} {q : Program S} where
+module _ {S : Operations} {q : Program S} where
   -- Lemma 11's two maps: the derivation of a tree, and the tree of a derivation
   unfoldable mutual
     pub derivation : {t : q .Atom} → Proof q t → Tree (representation q) t

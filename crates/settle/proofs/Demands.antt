@@ -33,7 +33,8 @@ use Rattle.columns.specs.Same.{sameEntries}
 use Rattle.columns.proofs.Same.{entries-refl, entries-true}
 use Rattle.settle.specs.Settling.{answersOf, entriesOf, outcome, settled}
 use Rattle.settle.specs.Checking.{verdict, checked}
-use Rattle.settle.specs.Demands.{Worth, Demand2}
+use Rattle.settle.specs.Demands.{Demand2}
+use Rattle.settle.specs.Worth.{Worth}
 
 module _ (m : Measure) (c : Columns) (p : acceptance c ≡ Accepted) where
   pub answers-fixpoint : Fixpoint (algebra m) (hypergraph c) (ownAt c) (labels (answersOf m c))
