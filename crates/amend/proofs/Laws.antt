@@ -148,7 +148,7 @@ module _ (m : Measure) (c : Columns) (room : List ℕ) (large : mostInput ≤ le
 module _ (m : Measure) (c : Columns) (a : Entries) (e w : ℕ) (x : Acceptance) (own : List ℕ) (b : Entries) (q : record { result = x; own = own; left = b } ≡ repriced m c a e w) where
   repriced-by : repricedSaid m c a e w ≡ onAcceptance x (textSaid m (withFigures c own))
   unfolding repricedSaid
-  repriced-by = ap (λ (o : ChangeOutcome). onAcceptance (o .result) (textSaid m (withFigures c (o .own)))) (sym q)
+  repriced-by = ap (λ (o : ChangeOutcome Acceptance). onAcceptance (o .result) (textSaid m (withFigures c (o .own)))) (sym q)
 
   pub repriced-refused : (r : Refusal) → x ≡ answer.Refused r → repricedSaid m c a e w ≡ refusedBy r
   unfolding onAcceptance
@@ -162,7 +162,7 @@ module _ (m : Measure) (c : Columns) (a : Entries) (e : ℕ) (x : Acceptance) (m
   module _ (q : record { result = x; strikes = marks; left = b } ≡ stricken m c a e) where
     stricken-by : strickenSaid m c a e ≡ onAcceptance x (textSaid m (withStrikes c marks))
     unfolding strickenSaid
-    stricken-by = ap (λ (o : MarkOutcome). onAcceptance (o .result) (textSaid m (withStrikes c (o .strikes)))) (sym q)
+    stricken-by = ap (λ (o : MarkOutcome Acceptance). onAcceptance (o .result) (textSaid m (withStrikes c (o .strikes)))) (sym q)
 
     pub stricken-refused : (r : Refusal) → x ≡ answer.Refused r → strickenSaid m c a e ≡ refusedBy r
     unfolding onAcceptance
@@ -175,7 +175,7 @@ module _ (m : Measure) (c : Columns) (a : Entries) (e : ℕ) (x : Acceptance) (m
   module _ (q : record { result = x; strikes = marks; left = b } ≡ restored m c a e) where
     restored-by : restoredSaid m c a e ≡ onAcceptance x (textSaid m (withStrikes c marks))
     unfolding restoredSaid
-    restored-by = ap (λ (o : MarkOutcome). onAcceptance (o .result) (textSaid m (withStrikes c (o .strikes)))) (sym q)
+    restored-by = ap (λ (o : MarkOutcome Acceptance). onAcceptance (o .result) (textSaid m (withStrikes c (o .strikes)))) (sym q)
 
     pub restored-refused : (r : Refusal) → x ≡ answer.Refused r → restoredSaid m c a e ≡ refusedBy r
     unfolding onAcceptance

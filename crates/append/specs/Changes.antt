@@ -7,6 +7,7 @@ use lib.ListN.{length}
 use Rattle.weights.specs.declared.Measure.{Measure}
 use Rattle.refusal.specs.declared.Refusal.the-variants.{NoSuchEdge}
 use Rattle.refusal.specs.declared.Counts.{Counts}
+use Rattle.refusal.specs.declared.Acceptance.{Acceptance}
 use Rattle.refusal.specs.declared.Acceptance.the-variants.{Accepted, Refused}
 use Rattle.refusal.specs.declared.Appending.the-variants as appending
 use Rattle.columns.specs.Columns.{Entries, Columns, columns, ownAt, strikeAt}
@@ -30,10 +31,10 @@ withFigures c own = columns (c .vertices) (c .heads) own (c .strikes) (c .spans)
 
 -- what the calls leave of them: repricing writes the own figures, striking and restoring the strike marks; of what appending leaves the counts that it returned are in
 -- use
-abbrev pub afterFigure : Columns → ChangeOutcome → Priced
+abbrev pub afterFigure : Columns → ChangeOutcome Acceptance → Priced
 afterFigure c o = priced (withFigures c (o .own)) (o .left)
 
-abbrev pub afterMark : Columns → MarkOutcome → Priced
+abbrev pub afterMark : Columns → MarkOutcome Acceptance → Priced
 afterMark c o = priced (withStrikes c (o .strikes)) (o .left)
 
 abbrev pub afterLine : Counts → Grown → Priced

@@ -6,14 +6,15 @@ use lib.ListN.{length, drop}
 use Rattle.weights.specs.declared.Measure.{Measure}
 use Rattle.refusal.specs.declared.Refusal.{Refusal}
 use Rattle.refusal.specs.declared.Refusal.the-variants.{NoSuchVertex, WrongAnswers, Underivable, BillRoom}
+use Rattle.refusal.specs.declared.Extent.{Extent}
 use Rattle.refusal.specs.declared.Extent.the-variants.{Length, Refused}
 use Rattle.provenance.specs.Hypergraph.{Derivation}
 use Rattle.columns.specs.Columns.{Entries, Columns}
 use Rattle.tables.specs.Table.{hypergraph}
-use Rattle.columns.specs.Owed.{Owed}
+use Rattle.columns.specs.Owed.{Outcome, Owed}
 use Rattle.columns.specs.Right.{RightLent, WrongLent}
 use Rattle.settle.specs.Defined.{AllMean}
-use Rattle.bill.specs.Billing.{billOf, BillOutcome}
+use Rattle.bill.specs.Billing.{billOf}
 
 -- v is a part, it has a make-up, the answers are the table's, and the room holds the bill
 pub record RightBill (m : Measure) (c : Columns) (a : Entries) (v places : ℕ) : Type 0 where
@@ -31,7 +32,7 @@ pub data WrongBill (m : Measure) (c : Columns) (a : Entries) (v places : ℕ) : 
   room : RightLent c a → v < c .vertices → AllMean m c a → Derivation (hypergraph c) v → ¬ (length (billOf c (a .labels) v) ≤ places) → WrongBill m c a v places BillRoom
 
 -- demand 1 of a bill of v that had this outcome: "A bill returns its length; the room behind it keeps its bytes"
-abbrev pub BillOwes : Measure → Columns → Entries → (v : ℕ) (entry : List ℕ) → BillOutcome → Type 0
+abbrev pub BillOwes : Measure → Columns → Entries → (v : ℕ) (entry : List ℕ) → Outcome Extent (List ℕ) → Type 0
 BillOwes m c a v entry o =
     let es = billOf c (a .labels) v in
     let n = length entry in

@@ -15,6 +15,7 @@ use Rattle.provenance.specs.BestFirst.{labels}
 use Rattle.provenance.specs.Support.{bill}
 use Rattle.tables.specs.Table.{hypergraph}
 use Rattle.columns.specs.Acceptance.{test, andThen, lentAcceptance}
+use Rattle.columns.specs.Owed.{Outcome}
 use Rattle.columns.specs.Same.{sameEntries}
 use Rattle.settle.specs.Settling.{entriesOf}
 
@@ -39,20 +40,15 @@ roomAcceptance bill places = test (leb (length bill) places) BillRoom answer.Acc
 unfoldable pub billAcceptance : Measure → Columns → Entries → (v places : ℕ) → Acceptance
 billAcceptance m c a v places = andThen (partAcceptance m c a v) (roomAcceptance (billOf c (a .labels) v) places)
 
--- what the call returns, and the room as it leaves it
-pub record BillOutcome : Type 0 where
-  pub result : Extent
-  pub left : List ℕ
-
 -- on acceptance the bill's length, and the bill with the room's old content behind it; on a refusal the room as it came
-abbrev pub outcome : Acceptance → (bill room : List ℕ) → BillOutcome
+abbrev pub outcome : Acceptance → (bill room : List ℕ) → Outcome Extent (List ℕ)
 outcome answer.Accepted bill room = record { result = Length (length bill); left = bill ++ drop (length bill) room }
 outcome (answer.Refused r) bill room = record { result = Refused r; left = room }
 
 -- printing a bill into the room at entry
-abbrev pub printed : (bill room : List ℕ) → BillOutcome
+abbrev pub printed : (bill room : List ℕ) → Outcome Extent (List ℕ)
 printed bill room = outcome (roomAcceptance bill (length room)) bill room
 
 -- printing the bill of v, from the columns, the answers and the room at entry
-unfoldable pub billed : Measure → Columns → Entries → (v : ℕ) → List ℕ → BillOutcome
+unfoldable pub billed : Measure → Columns → Entries → (v : ℕ) → List ℕ → Outcome Extent (List ℕ)
 billed m c a v room = outcome (billAcceptance m c a v (length room)) (billOf c (a .labels) v) room

@@ -64,16 +64,16 @@ offsetAt c e = getD (c .spans) (2 * e) 0
 abbrev pub lengthAt : Columns → ℕ → ℕ
 lengthAt c e = getD (c .spans) (2 * e + 1) 0
 
+abbrev pub tailAt : Columns → ℕ → List ℕ
+tailAt c e = take (lengthAt c e) (drop (offsetAt c e) (c .tails))
+
 -- `size` places of a column, from `offset` on
 abbrev pub part : (offset size : ℕ) → List ℕ → List ℕ
 part offset size xs = take size (drop offset xs)
 
--- the parts that line e lists, by the two columns that say so
+-- `tailAt` by the two columns that it looks at
 abbrev pub tailOf : (spans tails : List ℕ) → ℕ → List ℕ
 tailOf spans tails e = part (getD spans (2 * e) 0) (getD spans (2 * e + 1) 0) tails
-
-abbrev pub tailAt : Columns → ℕ → List ℕ
-tailAt c = tailOf (c .spans) (c .tails)
 
 -- the same columns with the own figure w at line e
 abbrev pub withOwn : Columns → (e w : ℕ) → Columns

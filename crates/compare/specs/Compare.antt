@@ -9,10 +9,12 @@ use Rattle.weights.specs.declared.State.the-variants.{Made, Over, Unmade}
 use Rattle.weights.specs.declared.Entry.{Entry}
 use Rattle.weights.specs.Choice.{pick}
 use Rattle.refusal.specs.declared.Refusal.the-variants.{InputLength}
+use Rattle.refusal.specs.declared.Acceptance.{Acceptance}
 use Rattle.refusal.specs.declared.Reading.{Reading}
 use Rattle.refusal.specs.declared.Reading.the-variants as reading
 use Rattle.columns.specs.Columns.{Entries}
-use Rattle.settle.specs.Settling.{SettleOutcome, entryAt, settled}
+use Rattle.columns.specs.Owed.{Outcome}
+use Rattle.settle.specs.Settling.{entryAt, settled}
 use Rattle.text.specs.Render.{digits}
 use Rattle.readtable.specs.Read.{ReadOutcome, columnsRead}
 use Rattle.report.specs.Report.{mostInput, stateWord, blankEntries, readInput}
@@ -51,7 +53,7 @@ differences a b zero = []
 differences a b (suc k) = differences a b k ++ rowIf k (entryAt a k) (entryAt b k)
 
 -- by what settling the second table, of k parts, returned; a part that a table does not have is unmade there
-abbrev pub comparedAs : (n k : ℕ) → Entries → SettleOutcome → Said
+abbrev pub comparedAs : (n k : ℕ) → Entries → Outcome Acceptance Entries → Said
 comparedAs n k a o = onSecond (o .result) (answered (differences a (o .left) (max n k)))
 
 -- by what reading the second text returned

@@ -25,7 +25,7 @@ use Rattle.reprice.proofs.Changes.{repriced-result}
 use Rattle.bill.specs.Billing.{billOf, partAcceptance, billAcceptance, outcome, billed}
 use Rattle.counter.specs.Results.{settledResult, repricedResult, mostRoom, billedResult}
 use Rattle.counter.proofs.Places.{lent-place, reprice-place, bill-place, measure-place}
-use Rattle.counter.specs.Decoded.{Names, Decoded, extentOf, settledExtent, repricedExtent, billedExtent}
+use Rattle.counter.specs.Decoded.{Names, Decoded, extentOf, measured}
 
 -- the length of an answer, or the place of its refusal
 abbrev pub reach : Extent → ℕ
@@ -52,17 +52,17 @@ answer-decoded : (x : Acceptance) → ((s : Refusal) → x ≡ answer.Refused s 
 answer-decoded answer.Accepted h = decoded (Length 0) (omega arith)
 answer-decoded (answer.Refused r) h = decoded (Refused r) (h r refl)
 
-pub settled-decoded : (k : ℕ) (c : Columns) (a : Entries) → Decoded (settledExtent (measureOf k) c a) (settledResult (measureOf k) c a .result)
+pub settled-decoded : (k : ℕ) (c : Columns) (a : Entries) → Decoded (measured (measureOf k) (λ m. extentOf (settled m c a .result))) (settledResult (measureOf k) c a .result)
 settled-decoded k c a = go (measureOf k) (λ r. measure-place k)
   where
-    go : (o : MeasureChoice) → ((r : Refusal) → o ≡ choice.Refused r → placeOf r ≤ lastPlace) → Decoded (settledExtent o c a) (settledResult o c a .result)
+    go : (o : MeasureChoice) → ((r : Refusal) → o ≡ choice.Refused r → placeOf r ≤ lastPlace) → Decoded (measured o (λ m. extentOf (settled m c a .result))) (settledResult o c a .result)
     go (choice.Refused r) h = decoded (Refused r) (h r refl)
     go (choice.Measure m) h = answer-decoded (settled m c a .result) (λ s e. lent-place c a (sym (settled-result m c a) ∙ e))
 
-pub repriced-decoded : (k : ℕ) (c : Columns) (a : Entries) (e w : ℕ) → Decoded (repricedExtent (measureOf k) c a e w) (repricedResult (measureOf k) c a e w .result)
+pub repriced-decoded : (k : ℕ) (c : Columns) (a : Entries) (e w : ℕ) → Decoded (measured (measureOf k) (λ m. extentOf (repriced m c a e w .result))) (repricedResult (measureOf k) c a e w .result)
 repriced-decoded k c a e w = go (measureOf k) (λ r. measure-place k)
   where
-    go : (o : MeasureChoice) → ((r : Refusal) → o ≡ choice.Refused r → placeOf r ≤ lastPlace) → Decoded (repricedExtent o c a e w) (repricedResult o c a e w .result)
+    go : (o : MeasureChoice) → ((r : Refusal) → o ≡ choice.Refused r → placeOf r ≤ lastPlace) → Decoded (measured o (λ m. extentOf (repriced m c a e w .result))) (repricedResult o c a e w .result)
     go (choice.Refused r) h = decoded (Refused r) (h r refl)
     go (choice.Measure m) h = answer-decoded (repriced m c a e w .result) (λ s q. reprice-place m c a e w (sym (repriced-result m c a e w) ∙ q))
 
@@ -75,9 +75,9 @@ billed-reach m c a v room h = go (billAcceptance m c a v (length room)) refl
     go answer.Accepted p = let t = both-accepted (partAcceptance m c a v) _ p in omega (arith, leb-true (length (billOf c (a .labels) v)) (length room) (test-passed _ _ _ (t .1) .0))
     go (answer.Refused r) p = bill-place m c a v (length room) p
 
-pub billed-decoded : (k : ℕ) (c : Columns) (a : Entries) (v : ℕ) (room : List ℕ) → Decoded (billedExtent (measureOf k) c a v room) (billedResult (measureOf k) c a v room .result)
+pub billed-decoded : (k : ℕ) (c : Columns) (a : Entries) (v : ℕ) (room : List ℕ) → Decoded (measured (measureOf k) (λ m. billed m c a v (take mostRoom room) .result)) (billedResult (measureOf k) c a v room .result)
 billed-decoded k c a v room = go (measureOf k) (λ r. measure-place k)
   where
-    go : (o : MeasureChoice) → ((r : Refusal) → o ≡ choice.Refused r → placeOf r ≤ lastPlace) → Decoded (billedExtent o c a v room) (billedResult o c a v room .result)
+    go : (o : MeasureChoice) → ((r : Refusal) → o ≡ choice.Refused r → placeOf r ≤ lastPlace) → Decoded (measured o (λ m. billed m c a v (take mostRoom room) .result)) (billedResult o c a v room .result)
     go (choice.Refused r) h = decoded (Refused r) (h r refl)
     go (choice.Measure m) h = decoded (billed m c a v (take mostRoom room) .result) (billed-reach m c a v (take mostRoom room) (omega (arith, length-take mostRoom room)))

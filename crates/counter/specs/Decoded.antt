@@ -1,9 +1,7 @@
 -- What a program in C can tell from the one number that a call gives it: below 2^32 it is an acceptance, and 0 or the bill's length; otherwise the quotient by 2^32 is the
 -- refusal's number and the remainder its place. The paper's "The calls": "on a refusal the refusal's number times 4,294,967,296, plus the place". Assumes nothing: these are definitions.
 use mathlib.Core.Path.{_≡_}
-use mathlib.Core.List.{List}
 use Prim.Native.Nat.{ℕ, _/_, _%_, _≤_, _<_}
-use lib.ListN.{take}
 use Rattle.weights.specs.declared.Measure.{Measure}
 use Rattle.refusal.specs.declared.Refusal.{Refusal}
 use Rattle.refusal.specs.declared.Acceptance.{Acceptance}
@@ -13,11 +11,6 @@ use Rattle.refusal.specs.declared.Extent.the-variants.{Length, Refused}
 use Rattle.refusal.specs.declared.MeasureChoice.{MeasureChoice}
 use Rattle.refusal.specs.declared.MeasureChoice.the-variants as choice
 use Rattle.refusal.specs.Refusals.{numberOf, placeOf}
-use Rattle.columns.specs.Columns.{Entries, Columns}
-use Rattle.settle.specs.Settling.{settled}
-use Rattle.reprice.specs.Repricing.{repriced}
-use Rattle.bill.specs.Billing.{billed}
-use Rattle.counter.specs.Results.{mostRoom}
 
 -- the number names refusal r
 pub record Names (r : Refusal) (n : ℕ) : Type 0 where
@@ -37,15 +30,7 @@ abbrev pub extentOf : Acceptance → Extent
 extentOf answer.Accepted = Length 0
 extentOf (answer.Refused r) = Refused r
 
--- what each call answers, before it is made one number
-abbrev pub settledExtent : MeasureChoice → Columns → Entries → Extent
-settledExtent (choice.Refused r) c a = Refused r
-settledExtent (choice.Measure m) c a = extentOf (settled m c a .result)
-
-abbrev pub repricedExtent : MeasureChoice → Columns → Entries → (e w : ℕ) → Extent
-repricedExtent (choice.Refused r) c a e w = Refused r
-repricedExtent (choice.Measure m) c a e w = extentOf (repriced m c a e w .result)
-
-abbrev pub billedExtent : MeasureChoice → Columns → Entries → (v : ℕ) → List ℕ → Extent
-billedExtent (choice.Refused r) c a v room = Refused r
-billedExtent (choice.Measure m) c a v room = billed m c a v (take mostRoom room) .result
+-- what a call answers, before it is made one number: a measure's number is tested before everything
+abbrev pub measured : MeasureChoice → (Measure → Extent) → Extent
+measured (choice.Refused r) f = Refused r
+measured (choice.Measure m) f = f m

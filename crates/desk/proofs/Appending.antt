@@ -15,7 +15,7 @@ use Rattle.refusal.specs.declared.Header.{Header}
 use Rattle.columns.specs.Columns.{Entries, Columns, entries}
 use Rattle.columns.specs.Acceptance.{mostVertices, mostListed}
 use Rattle.columns.specs.Longer.{NewLine}
-use Rattle.settle.specs.Settling.{SettleOutcome, settled}
+use Rattle.settle.specs.Settling.{settled}
 use Rattle.indextable.specs.Index.{IndexOutcome, tableIndexed}
 use Rattle.readtable.specs.Read.{ReadOutcome, columnsRead}
 use Rattle.writing.proofs.Written.{written-as}

@@ -22,7 +22,8 @@ use Rattle.columns.specs.Longer.{newLine}
 use Rattle.weights.specs.Figures.{standing}
 use Rattle.columns.specs.Acceptance.{mostVertices, acceptance, lentAcceptance}
 use Rattle.columns.proofs.Accepted.{table-accepted, columns-accepted}
-use Rattle.settle.specs.Settling.{SettleOutcome, settled, entriesOf}
+use Rattle.columns.specs.Owed.{Outcome}
+use Rattle.settle.specs.Settling.{settled, entriesOf}
 use Rattle.settle.proofs.Demands.{entries-sized, settled-result, settled-left}
 use Rattle.readtable.specs.Read.{ReadOutcome, readOutcome, columnsRead}
 use Rattle.report.specs.Report.{mostInput, mostOutput, list, blankEntries, readInput}
@@ -69,7 +70,7 @@ module _ (m : Measure) (c : Columns) (a : Entries) (x : Acceptance) (b : Entries
   -- what is said, by what settling returned
   told : (f : Entries → Said) → onAcceptance x (f b) ≡ settledSaid m c a f
   unfolding settledSaid
-  told f = ap (λ (o : SettleOutcome). onAcceptance (o .result) (f (o .left))) q
+  told f = ap (λ (o : Outcome Acceptance Entries). onAcceptance (o .result) (f (o .left))) q
 
   pub settled-refused : (f : Entries → Said) (r : Refusal) → x ≡ answer.Refused r → refusedBy r ≡ settledSaid m c a f
   unfolding onAcceptance
@@ -82,8 +83,8 @@ module _ (m : Measure) (c : Columns) (a : Entries) (x : Acceptance) (b : Entries
   -- the columns left are the table's answers
   pub settled-holds : (room : ℕ) → x ≡ answer.Accepted → mostReply ≤ room → Answered m c b room
   settled-holds room e h =
-      let p : lentAcceptance c a ≡ answer.Accepted = sym (settled-result m c a) ∙ sym (ap (λ (o : SettleOutcome). o .result) q) ∙ e in
-      record { table = columns-accepted c a p .table; answers = ap (λ (o : SettleOutcome). o .left) q ∙ settled-left m c a p; large = h }
+      let p : lentAcceptance c a ≡ answer.Accepted = sym (settled-result m c a) ∙ sym (ap (λ (o : Outcome Acceptance Entries). o .result) q) ∙ e in
+      record { table = columns-accepted c a p .table; answers = ap (λ (o : Outcome Acceptance Entries). o .left) q ∙ settled-left m c a p; large = h }
 
 -- the list of a table's answers has a row for each part, and fits the room
 module _ (m : Measure) (c : Columns) (a : Entries) (room : ℕ) (s : Answered m c a room) where

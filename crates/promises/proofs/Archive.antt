@@ -16,7 +16,7 @@ use Rattle.readtable.specs.Read.{readTable}
 use Rattle.writetable.specs.Write.{writeTable}
 use Rattle.statistics.specs.Summaries.{summaryOf}
 use Rattle.shuffle.specs.Shuffled.{shuffleOutcome, unshuffleOutcome}
-use Rattle.counter.specs.Decoded.{Decoded, extentOf}
+use Rattle.counter.specs.Decoded.{Decoded, extentOf, measured}
 use Rattle.tozbierdu.specs.Results.{
   checkedResult,
   strickenResult,
@@ -30,7 +30,7 @@ use Rattle.tozbierdu.specs.Results.{
   replayedResult,
   laidResult,
 }
-use Rattle.tozbierdu.specs.Decoded.{verdictExtent, readingExtent, appendingExtent, summaryExtent, measured}
+use Rattle.tozbierdu.specs.Decoded.{verdictExtent, readingExtent, appendingExtent, summaryExtent}
 use Rattle.tozbierdu.proofs.Decoded.{
   check-table-decoded,
   check-order-decoded,

@@ -7,8 +7,8 @@
 -- is lent. Assumes nothing.
 use mathlib.Core.Path.{_≡_, refl}
 use mathlib.Core.Logic.{_⊎_, inl, inr, _↔_}
-use mathlib.Core.List.{List, [], _∷_, _++_}
-use Prim.Native.Nat.{ℕ, _≤_, _<_}
+use mathlib.Core.List.{List, [], _∷_, _++_, List·Memᴰ}
+use Prim.Native.Nat.{ℕ, _/_, _≤_, _<_}
 use native.Mathlib.Omega.{arith}
 use lib.ListN.{length, set, take, drop}
 use borrow.Author.Tests.{ne-eqb}
@@ -23,7 +23,7 @@ use Rattle.refusal.specs.declared.Verdict.the-variants as verdict
 use Rattle.refusal.specs.declared.Extent.the-variants as extent
 use Rattle.refusal.specs.declared.Reading.the-variants as reading
 use Rattle.refusal.specs.declared.MeasureChoice.the-variants as choice
-use Rattle.refusal.specs.Refusals.{codeOf, numberOf, columnOf, resultOf, acceptanceResult, extentResult, measureOf}
+use Rattle.refusal.specs.Refusals.{codeOf, numberOf, resultOf, acceptanceResult, extentResult, measureOf}
 use Rattle.refusal.proofs.Codes.{codes-differ}
 use Rattle.columns.specs.Columns.{Entries, SizedEntries, Columns, withOwn, withStrike}
 use Rattle.columns.specs.Acceptance.{acceptance, lentAcceptance}
@@ -38,7 +38,7 @@ use Rattle.settle.specs.Checking.{checked}
 use Rattle.settle.specs.Defined.{AllMean}
 use Rattle.settle.proofs.Owed.{settle-owes, check-answers-owes, entry-owes, entry-beyond}
 use Rattle.reprice.specs.Repricing.{repriceAcceptance, strikeAcceptance, repriced, stricken}
-use Rattle.reprice.specs.Changes.{RightReprice, WrongReprice, RightStrike, WrongStrike, lentTo}
+use Rattle.reprice.specs.Changes.{RightReprice, WrongReprice, RightStrike, WrongStrike}
 use Rattle.reprice.proofs.Changes.{reprice-exactly, reprice-refused-exactly, reprice-owes, strike-exactly, strike-refused-exactly, strike-owes}
 use Rattle.bill.specs.Billing.{billOf, billAcceptance, billed}
 use Rattle.bill.specs.Asked.{RightBill, WrongBill}
@@ -47,14 +47,13 @@ use Rattle.text.specs.Tables.{closed}
 use Rattle.text.specs.Render.{render}
 use Rattle.readtable.specs.Read.{readTable}
 use Rattle.roundtrip.specs.RoundTrip.{headerFor}
-use Rattle.roundtrip.specs.Reads.{lent, RightRead, WrongRead}
+use Rattle.roundtrip.specs.Reads.{RightRead, WrongRead}
 use Rattle.roundtrip.proofs.Texts.{reads, read-or-refused, refused-once}
 use Rattle.writetable.specs.Write.{writeTable}
 use Rattle.writetable.specs.Asked.{RightWrite, WrongWrite}
 use Rattle.writetable.proofs.Asked.{write-owes}
 use Rattle.counter.specs.Results.{settledResult, repricedResult, billedResult}
-use Rattle.counter.specs.Decoded.{Decoded, settledExtent, repricedExtent, billedExtent}
-use Rattle.counter.specs.Numbers.{Among, SettleReturns, RepriceReturns, BillReturns}
+use Rattle.counter.specs.Decoded.{Decoded, extentOf, measured}
 use Rattle.counter.proofs.Decoded.{settled-decoded, repriced-decoded, billed-decoded}
 use Rattle.counter.proofs.Numbers.{settle-numbers, reprice-numbers, bill-numbers}
 use Rattle.promises.specs.Fixed.{Fixed}
@@ -96,8 +95,8 @@ module _ (a : Entries) (v : ℕ) where
 
 -- "Reprice an unstruck line to 0 to 1,000,000,000." 1 to 7, 9, 10, 8
 module _ (m : Measure) (c : Columns) (a : Entries) (e w : ℕ) where
-  pub reprice : Owed Refused (lentTo (c .own) a) (RightReprice m c a e w) (λ _. Accepted) (λ _. lentTo (set (c .own) e w) (entriesOf m (withOwn c e w)))
-      (WrongReprice m c a e w) (repriced m c a e w .result) (lentTo (repriced m c a e w .own) (repriced m c a e w .left))
+  pub reprice : Owed {L = List ℕ × Entries} Refused (c .own, a) (RightReprice m c a e w) (λ _. Accepted) (λ _. (set (c .own) e w, entriesOf m (withOwn c e w)))
+      (WrongReprice m c a e w) (repriced m c a e w .result) (repriced m c a e w .own, repriced m c a e w .left)
   reprice = reprice-owes m c a e w
 
   pub reprice-fixed : Fixed (RightReprice m c a e w) (WrongReprice m c a e w)
@@ -105,9 +104,9 @@ module _ (m : Measure) (c : Columns) (a : Entries) (e w : ℕ) where
 
 -- "and strike an unstruck line." 1 to 7, 9, 8. By document 02, 2026-02, in "a column of its own": the own figures are lent to be read alone
 module _ (m : Measure) (c : Columns) (a : Entries) (e : ℕ) where
-  pub strike : Owed Refused (lentTo (c .strikes) a) (RightStrike m c a e) (λ _. Accepted)
-      (λ _. lentTo (set (c .strikes) e struckMark) (entriesOf m (withStrike c e struckMark))) (WrongStrike m c a e) (stricken m c a e .result)
-      (lentTo (stricken m c a e .strikes) (stricken m c a e .left))
+  pub strike : Owed {L = List ℕ × Entries} Refused (c .strikes, a) (RightStrike m c a e) (λ _. Accepted)
+      (λ _. (set (c .strikes) e struckMark, entriesOf m (withStrike c e struckMark))) (WrongStrike m c a e) (stricken m c a e .result)
+      (stricken m c a e .strikes, stricken m c a e .left)
   strike = strike-owes m c a e
 
   pub strike-fixed : Fixed (RightStrike m c a e) (WrongStrike m c a e)
@@ -126,15 +125,15 @@ module _ (m : Measure) (c : Columns) (a : Entries) (v : ℕ) (room : List ℕ) w
 -- "Reading text: 14 at the first text line that breaks a rule …, then 15." "Reading returns n, the measure and the counts, and writes that many places of each column; the
 -- rest keep theirs. Spans are written from offset 0 without gaps"
 module _ (text h o ms s t : List ℕ) where
-  pub read-table : Owed reading.Refused (lent h o ms s t) (RightRead text (lent h o ms s t))
+  pub read-table : Owed {L = List ℕ × List ℕ × List ℕ × List ℕ × List ℕ} reading.Refused (h, o, ms, s, t) (RightRead text h o ms s t)
       (λ p. reading.Table (headerFor (p .permitted .measure) (closed (p .permitted .table))))
-      (λ p. let c = closed (p .permitted .table) in lent (filled (c .heads) h) (filled (c .own) o) (filled (c .strikes) ms) (filled (c .spans) s) (filled (c .tails) t))
-      (WrongRead text (lent h o ms s t)) (readTable text h o ms s t .answer)
-      (let x = readTable text h o ms s t in lent (x .heads) (x .own) (x .strikes) (x .spans) (x .tails))
+      (λ p. let c = closed (p .permitted .table) in (filled (c .heads) h, filled (c .own) o, filled (c .strikes) ms, filled (c .spans) s, filled (c .tails) t))
+      (WrongRead text h o ms s t) (readTable text h o ms s t .answer)
+      (let x = readTable text h o ms s t in (x .heads, x .own, x .strikes, x .spans, x .tails))
   read-table = reads text h o ms s t
 
-  pub read-table-fixed : Fixed (RightRead text (lent h o ms s t)) (WrongRead text (lent h o ms s t))
-  read-table-fixed = record { never = read-or-refused text (lent h o ms s t); once = refused-once text (lent h o ms s t) }
+  pub read-table-fixed : Fixed (RightRead text h o ms s t) (WrongRead text h o ms s t)
+  read-table-fixed = record { never = read-or-refused text h o ms s t; once = refused-once text h o ms s t }
 
 -- "Writing: 1 to 6, then 15." "Writing fills the text room from its start and returns the text's length; the room behind it keeps its bytes"
 module _ (m : Measure) (c : Columns) (room : List ℕ) where
@@ -157,7 +156,7 @@ module _ (m : Measure) (c : Columns) (room : List ℕ) where
 
 -- "A refusal returns its number and a place", and by document 02, 2026-06, the column of a text: from these the refusal can be told, but for 26, whose place is a part
 -- or an event (2026-12)
-pub codes : (r s : Refusal) → ¬ (numberOf r ≡ 26) → codeOf r ≡ codeOf s → columnOf r ≡ columnOf s → r ≡ s
+pub codes : (r s : Refusal) → ¬ (numberOf r ≡ 26) → codeOf r ≡ codeOf s → r ≡ s
 codes = codes-differ
 
 -- The counter programs in C: settle, reprice and bill ---------------------------------------------------------------------------------------------------------------
@@ -193,21 +192,25 @@ module _ (r : Refusal) (c : Columns) (a : Entries) where
 
 -- the number tells the answer: below 4,294,967,296 it is an acceptance and the bill's length, else quotient and remainder are the refusal's number and its place
 module _ (k : ℕ) (c : Columns) (a : Entries) where
-  pub c-settle-tells : Decoded (settledExtent (measureOf k) c a) (settledResult (measureOf k) c a .result)
+  pub c-settle-tells : Decoded (measured (measureOf k) (λ m. extentOf (settled m c a .result))) (settledResult (measureOf k) c a .result)
   c-settle-tells = settled-decoded k c a
 
-  pub c-reprice-tells : (e w : ℕ) → Decoded (repricedExtent (measureOf k) c a e w) (repricedResult (measureOf k) c a e w .result)
+  pub c-reprice-tells : (e w : ℕ) → Decoded (measured (measureOf k) (λ m. extentOf (repriced m c a e w .result))) (repricedResult (measureOf k) c a e w .result)
   c-reprice-tells = repriced-decoded k c a
 
-  pub c-bill-tells : (v : ℕ) (room : List ℕ) → Decoded (billedExtent (measureOf k) c a v room) (billedResult (measureOf k) c a v room .result)
+  pub c-bill-tells : (v : ℕ) (room : List ℕ)
+      → Decoded (measured (measureOf k) (λ m. billed m c a v (take 4_294_967_295 room) .result)) (billedResult (measureOf k) c a v room .result)
   c-bill-tells = billed-decoded k c a
 
--- the numbers that each call can return, and no others: some input is refused by each
-pub c-settle-numbers : (n : ℕ) → SettleReturns n ↔ Among n (16 ∷ 1 ∷ 2 ∷ 3 ∷ 4 ∷ 21 ∷ 5 ∷ 6 ∷ 7 ∷ [])
+-- the header's lists: the quotients by 4,294,967,296 of the numbers that each call can return, and no others (`List·Memᴰ`: n stands in the list); 0 is an acceptance
+pub c-settle-numbers : (n : ℕ) → ((k : ℕ) × (c : Columns) × (a : Entries) × (settledResult (measureOf k) c a .result / 4_294_967_296 ≡ n))
+    ↔ List·Memᴰ n (0 ∷ 16 ∷ 1 ∷ 2 ∷ 3 ∷ 4 ∷ 21 ∷ 5 ∷ 6 ∷ 7 ∷ [])
 c-settle-numbers = settle-numbers
 
-pub c-reprice-numbers : (n : ℕ) → RepriceReturns n ↔ Among n (16 ∷ 1 ∷ 2 ∷ 3 ∷ 4 ∷ 21 ∷ 5 ∷ 6 ∷ 7 ∷ 9 ∷ 10 ∷ 8 ∷ [])
+pub c-reprice-numbers : (n : ℕ) → ((k : ℕ) × (c : Columns) × (a : Entries) × (e : ℕ) × (w : ℕ) × (repricedResult (measureOf k) c a e w .result / 4_294_967_296 ≡ n))
+    ↔ List·Memᴰ n (0 ∷ 16 ∷ 1 ∷ 2 ∷ 3 ∷ 4 ∷ 21 ∷ 5 ∷ 6 ∷ 7 ∷ 9 ∷ 10 ∷ 8 ∷ [])
 c-reprice-numbers = reprice-numbers
 
-pub c-bill-numbers : (n : ℕ) → BillReturns n ↔ Among n (16 ∷ 1 ∷ 2 ∷ 3 ∷ 4 ∷ 21 ∷ 5 ∷ 6 ∷ 7 ∷ 11 ∷ 8 ∷ 12 ∷ 13 ∷ [])
+pub c-bill-numbers : (n : ℕ) → ((k : ℕ) × (c : Columns) × (a : Entries) × (v : ℕ) × (room : List ℕ) × (billedResult (measureOf k) c a v room .result / 4_294_967_296 ≡ n))
+    ↔ List·Memᴰ n (0 ∷ 16 ∷ 1 ∷ 2 ∷ 3 ∷ 4 ∷ 21 ∷ 5 ∷ 6 ∷ 7 ∷ 11 ∷ 8 ∷ 12 ∷ 13 ∷ [])
 c-bill-numbers = bill-numbers

@@ -1,5 +1,6 @@
 -- Document 02, change request 2026-02. Assumes nothing.
 use mathlib.Core.Path.{_≡_, ap}
+use mathlib.Core.List.{List}
 use Prim.Native.Nat.{ℕ}
 use lib.ListN.{set}
 use Rattle.weights.specs.declared.Measure.{Measure}
@@ -14,7 +15,7 @@ use Rattle.settle.specs.Settling.{entriesOf}
 use Rattle.settle.specs.Defined.{Defined}
 use Rattle.settle.proofs.Idle.{struck-idle-entries}
 use Rattle.reprice.specs.Repricing.{restoreAcceptance, restored}
-use Rattle.reprice.specs.Changes.{Named, Struck, RightRestore, WrongRestore, lentTo, Leaves}
+use Rattle.reprice.specs.Changes.{Named, Struck, RightRestore, WrongRestore, Leaves}
 use Rattle.reprice.specs.Restoring.{StrikeRestore, RestoreStrike, RestoredThen}
 use Rattle.reprice.proofs.Changes.{restore-exactly, restore-refused-exactly, restore-owes, restore-leaves}
 use Rattle.reprice.proofs.Restoring.{strike-restore, restore-strike, restored-then}
@@ -28,9 +29,9 @@ use Rattle.promises.proofs.Fixed.{fixed}
 -- "Turned away: 20 for restoring a line that isn't struck, tried directly after 9 (for this call 9 means only that the line does not exist)": 1 to 7 with 21, 9, 20, 8.
 -- On acceptance the strike mark is taken away and the answers are those of the table as it then is; every own figure keeps its bytes, since it is lent to be read alone
 module _ (m : Measure) (c : Columns) (a : Entries) (e : ℕ) where
-  pub restore : Owed answer.Refused (lentTo (c .strikes) a) (RightRestore m c a e) (λ _. Accepted)
-      (λ _. lentTo (set (c .strikes) e standing) (entriesOf m (withStrike c e standing))) (WrongRestore m c a e) (restored m c a e .result)
-      (lentTo (restored m c a e .strikes) (restored m c a e .left))
+  pub restore : Owed {L = List ℕ × Entries} answer.Refused (c .strikes, a) (RightRestore m c a e) (λ _. Accepted)
+      (λ _. (set (c .strikes) e standing, entriesOf m (withStrike c e standing))) (WrongRestore m c a e) (restored m c a e .result)
+      (restored m c a e .strikes, restored m c a e .left)
   restore = restore-owes m c a e
 
   pub restore-fixed : Fixed (RightRestore m c a e) (WrongRestore m c a e)

@@ -13,7 +13,8 @@ use Rattle.refusal.specs.declared.Extent.{Extent}
 use Rattle.refusal.specs.declared.Extent.the-variants.{Length, Refused}
 use Rattle.columns.specs.Columns.{Entries, Columns, columns}
 use Rattle.settle.specs.Settling.{entryAt}
-use Rattle.bill.specs.Billing.{BillOutcome, billOf, billAcceptance, outcome, billed}
+use Rattle.columns.specs.Owed.{Outcome}
+use Rattle.bill.specs.Billing.{billOf, billAcceptance, outcome, billed}
 use Rattle.bill.proofs.Bills.{bill-printed}
 use Rattle.bill.proofs.Asked.{bill-exactly}
 use Rattle.writing.specs.Written.{Written}
@@ -48,7 +49,7 @@ module _ (m : Measure) (c : Columns) (a : Entries) (v : ℕ) (x : Extent) (lines
   -- it has k lines
   module _ (k : ℕ) (e : x ≡ Length k) where
     result-is : billed m c a v (replicate mostLines 0) .result ≡ Length k
-    result-is = sym (ap (λ (o : BillOutcome). o .result) q) ∙ e
+    result-is = sym (ap (λ (o : Outcome Extent (List ℕ)). o .result) q) ∙ e
 
     pub lines-few : k ≤ mostLines
     lines-few = let h = size-within m c a v (replicate mostLines 0) k result-is in let l = length-replicate {A = ℕ} mostLines 0 in omega arith
@@ -56,7 +57,7 @@ module _ (m : Measure) (c : Columns) (a : Entries) (v : ℕ) (x : Extent) (lines
     pub lines-within : k ≤ length lines
     lines-within =
         let p = bill-printed m c a v (replicate mostLines 0) k result-is in
-        let g = ap length (ap (λ (o : BillOutcome). o .left) q ∙ p .holds) in
+        let g = ap length (ap (λ (o : Outcome Extent (List ℕ)). o .left) q ∙ p .holds) in
         let l = length-append (billOf c (a .labels) v) (drop k (replicate mostLines 0)) in
         let n = p .counted in
         omega arith

@@ -5,9 +5,11 @@ use lib.ListN.{replicate, take}
 use Rattle.weights.specs.declared.Measure.{Measure}
 use Rattle.weights.specs.declared.State.{State}
 use Rattle.weights.specs.declared.Entry.{Entry}
+use Rattle.refusal.specs.declared.Extent.{Extent}
 use Rattle.columns.specs.Columns.{Entries, Columns, headAt, ownAt}
+use Rattle.columns.specs.Owed.{Outcome}
 use Rattle.settle.specs.Settling.{entryAt}
-use Rattle.bill.specs.Billing.{BillOutcome, billed}
+use Rattle.bill.specs.Billing.{billed}
 use Rattle.text.specs.Render.{digits}
 use Rattle.report.specs.Report.{stateWord}
 use Rattle.reply.specs.Reply.{Said, answered, onExtent}
@@ -43,7 +45,7 @@ unfoldable pub sheet : Columns → Entries → (v : ℕ) → List ℕ → List �
 sheet c a v es = rows c es ++ last v (entryAt a v)
 
 -- by what printing the bill returned, and the room as it left it
-abbrev pub saidOf : Columns → Entries → (v : ℕ) → BillOutcome → Said
+abbrev pub saidOf : Columns → Entries → (v : ℕ) → Outcome Extent (List ℕ) → Said
 saidOf c a v o = onExtent (o .result) (λ k. answered (sheet c a v (take k (o .left))))
 
 unfoldable pub billSaid : Measure → Columns → Entries → (v : ℕ) → Said

@@ -11,7 +11,7 @@ use borrow.Author.Tests.{lt-ltb, le-leb, lt-leb, leb-true}
 use Rattle.columns.specs.Acceptance.{longestTail, allBelow}
 use Rattle.columns.proofs.Accepted.{below-at}
 use Rattle.text.specs.Tables.{Edge, Table, tableOf}
-use Rattle.text.specs.Render.{digits, header, ownText, tailText, edgeText, edgesText, tableText, Permitted}
+use Rattle.text.specs.Render.{digits, header, ownText, tailText, edgeText, edgesText, tableText, textOf, Permitted}
 use Rattle.text.specs.Machine.{digitOf}
 use Rattle.text.specs.Rows.{EdgeFits, All, none, one}
 use Rattle.text.proofs.Rows.{accepted-fits}
@@ -61,7 +61,7 @@ module _ (s : List ℕ) (n : ℕ) where
       let rec = lines-text r in
       (one (a .0) (rec .0), a .1 ∙ ap (λ (z : List ℕ). (edgeText e ++ 10 ∷ []) ++ z) (rec .1))
 
-pub walk-text : (s : List ℕ) (t : Table) → Walks s t → Formed t × (s ≡ tableText t)
+pub walk-text : (s : List ℕ) (t : Table) → Walks s t → Formed t × (s ≡ textOf t)
 unfolding tableText
 walk-text s t w =
     let a = first-text s (t .vertices) (w .start) (t .measure) (opened _ _ _ _ (sym (w .first))) in
@@ -129,7 +129,7 @@ module _ (s : List ℕ) (n : ℕ) where
       let r = line-found e f (edgesText es) at q in
       line (lt-leb (length s) at (within e f (edgesText es) at q)) (r .1) (lines-found es (r .0) a (r .2))
 
-pub text-walk : (t : Table) → Formed t → Walks (tableText t) t
+pub text-walk : (t : Table) → Formed t → Walks (textOf t) t
 unfolding tableText
 text-walk t f =
     let first = header (t .vertices) (t .measure) in

@@ -2,7 +2,7 @@
 -- The place of 26 is a part or an event, as document 02, 2026-12, has it, so the two refusals of that number are left out.
 -- The paper's "A refusal returns its number and a place", and document 02, 2026-06: "Refusal 14 then returns line and column".
 -- Assumes nothing.
-use mathlib.Core.Path.{_≡_, refl, sym, _∙_, ap, ap₂}
+use mathlib.Core.Path.{_≡_, refl, sym, _∙_, ap}
 use mathlib.Core.List.{List, [], _∷_}
 use Prim.Native.Nat.{ℕ}
 use lib.ListN.{getD}
@@ -38,7 +38,7 @@ use Rattle.refusal.specs.declared.Refusal.the-variants.{
   ByteRoom,
 }
 use Rattle.refusal.specs.declared.Code.{Code}
-use Rattle.refusal.specs.Refusals.{codeOf, numberOf, columnOf}
+use Rattle.refusal.specs.Refusals.{codeOf, numberOf}
 
 -- the refusals with place p and column c, by number, from 1 on
 abbrev numberedAt : (p c : ℕ) → List Refusal
@@ -48,10 +48,10 @@ numberedAt p c =
     ∷ InputLength ∷ ColumnRoom ∷ WrongIndex ∷ NotStruck ∷ StrikeMark (record { 0 = p }) ∷ SampleSize ∷ TooLarge (record { 0 = p })
     ∷ Order (record { 0 = p }) ∷ EventVertex (record { 0 = p }) ∷ OpeningCount (record { 0 = p }) ∷ ByteRoom ∷ []
 
-abbrev refusalOf : Code → (column : ℕ) → Refusal
-refusalOf c column = getD (numberedAt (c .place) column) (c .number) NotStruck
+abbrev refusalOf : Code → Refusal
+refusalOf c = getD (numberedAt (c .place) (c .column)) (c .number) NotStruck
 
-refusal-code : (r : Refusal) → ¬ (numberOf r ≡ 26) → refusalOf (codeOf r) (columnOf r) ≡ r
+refusal-code : (r : Refusal) → ¬ (numberOf r ≡ 26) → refusalOf (codeOf r) ≡ r
 refusal-code TooManyVertices n = refl
 refusal-code Lengths n = refl
 refusal-code (Head e) n = refl
@@ -81,5 +81,5 @@ refusal-code (OpeningCount v) n = refl
 refusal-code (ReceivedCount i) n = absurd (n refl)
 refusal-code ByteRoom n = refl
 
-pub codes-differ : (r s : Refusal) → ¬ (numberOf r ≡ 26) → codeOf r ≡ codeOf s → columnOf r ≡ columnOf s → r ≡ s
-codes-differ r s n e f = sym (refusal-code r n) ∙ ap₂ refusalOf e f ∙ refusal-code s (λ q. n (ap (λ (c : Code). c .number) e ∙ q))
+pub codes-differ : (r s : Refusal) → ¬ (numberOf r ≡ 26) → codeOf r ≡ codeOf s → r ≡ s
+codes-differ r s n e = sym (refusal-code r n) ∙ ap refusalOf e ∙ refusal-code s (λ q. n (ap (λ (c : Code). c .number) e ∙ q))

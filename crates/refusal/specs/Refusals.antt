@@ -47,11 +47,12 @@ use Rattle.refusal.specs.declared.Extent.the-variants as extent
 use Rattle.refusal.specs.declared.Reading.{Reading}
 use Rattle.refusal.specs.declared.Reading.the-variants as reading
 
--- a number and a place
+-- a number and a place, with no column
 abbrev pub code : (number place : ℕ) → Code
-code n p = record { number = n; place = p }
+code n p = record { number = n; place = p; column = 0 }
 
--- the paper's table: a table line as place for 3 to 6, 21 and 24, a text line for 14, a result's index for 23, an event for 25, a part or an event for 26, otherwise 0
+-- the paper's table: a table line as place for 3 to 6, 21 and 24, a text line for 14, a result's index for 23, an event for 25, a part or an event for 26, otherwise 0;
+-- and by document 02, 2026-06, "Refusal 14 then returns line and column, counted from 1"
 abbrev pub codeOf : Refusal → Code
 codeOf TooManyVertices = code 1 0
 codeOf Lengths = code 2 0
@@ -66,7 +67,7 @@ codeOf NewWeight = code 10 0
 codeOf NoSuchVertex = code 11 0
 codeOf Underivable = code 12 0
 codeOf BillRoom = code 13 0
-codeOf (Text line column) = code 14 (line .0)
+codeOf (Text line column) = record { number = 14; place = line .0; column = column .0 }
 codeOf TextRoom = code 15 0
 codeOf MeasureNumber = code 16 0
 codeOf InputLength = code 17 0
@@ -88,36 +89,8 @@ numberOf r = codeOf r .number
 abbrev pub placeOf : Refusal → ℕ
 placeOf r = codeOf r .place
 
--- document 02, 2026-06: "Refusal 14 then returns line and column, counted from 1"; no other refusal has a column
 abbrev pub columnOf : Refusal → ℕ
-columnOf TooManyVertices = 0
-columnOf Lengths = 0
-columnOf (Head e) = 0
-columnOf (Own e) = 0
-columnOf (Span e) = 0
-columnOf (Tail e) = 0
-columnOf AnswerLength = 0
-columnOf WrongAnswers = 0
-columnOf NoSuchEdge = 0
-columnOf NewWeight = 0
-columnOf NoSuchVertex = 0
-columnOf Underivable = 0
-columnOf BillRoom = 0
-columnOf (Text line column) = column .0
-columnOf TextRoom = 0
-columnOf MeasureNumber = 0
-columnOf InputLength = 0
-columnOf ColumnRoom = 0
-columnOf WrongIndex = 0
-columnOf NotStruck = 0
-columnOf (StrikeMark e) = 0
-columnOf SampleSize = 0
-columnOf (TooLarge i) = 0
-columnOf (Order e) = 0
-columnOf (EventVertex i) = 0
-columnOf (OpeningCount v) = 0
-columnOf (ReceivedCount i) = 0
-columnOf ByteRoom = 0
+columnOf r = codeOf r .column
 
 -- the greatest place that a result in C can hold
 abbrev pub lastPlace : ℕ

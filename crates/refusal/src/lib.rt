@@ -78,18 +78,33 @@ pub enum Refusal {
     ByteRoom,
 }
 
-// A refusal's number, and its place: the hyperedge, the text line, the result, the event or the vertex
-// that it names, else 0.
+// A refusal's number, its place: the hyperedge, the text line, the result, the event or the vertex that
+// it names, else 0; and the column of 14, else 0.
 pub struct Code {
     pub number: u64,
     pub place: u64,
+    pub column: u64,
 }
 
 impl Code {
     fn of(number: u64, place: u64) -> Code
         ensures { λ r. ⌜ r ≡ code number place ⌝ }
     {
-        Code { number, place }
+        Code {
+            number,
+            place,
+            column: 0,
+        }
+    }
+
+    fn of_text(place: u64, column: u64) -> Code
+        ensures { λ r. ⌜ r ≡ record { number = 14; place = place; column = column } ⌝ }
+    {
+        Code {
+            number: 14,
+            place,
+            column,
+        }
     }
 }
 
@@ -112,7 +127,7 @@ impl Refusal {
             Refusal::NoSuchVertex => Code::of(11, 0),
             Refusal::Underivable => Code::of(12, 0),
             Refusal::BillRoom => Code::of(13, 0),
-            Refusal::Text(l, _) => Code::of(14, l.0),
+            Refusal::Text(l, c) => Code::of_text(l.0, c.0),
             Refusal::TextRoom => Code::of(15, 0),
             Refusal::MeasureNumber => Code::of(16, 0),
             Refusal::InputLength => Code::of(17, 0),
@@ -146,10 +161,7 @@ impl Refusal {
     pub fn column(self) -> u64
         ensures { λ r. ⌜ r ≡ columnOf self ⌝ }
     {
-        match self {
-            Refusal::Text(_, c) => c.0,
-            _ => 0,
-        }
+        self.code().column
     }
 
     // The number and the place in one number, for C.

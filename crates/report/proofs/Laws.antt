@@ -16,7 +16,8 @@ use Rattle.refusal.specs.declared.Reading.the-variants as reading
 use Rattle.columns.specs.Columns.{Entries, Columns, entries}
 use Rattle.columns.specs.Acceptance.{mostVertices, lentAcceptance}
 use Rattle.columns.proofs.Accepted.{columns-accepted}
-use Rattle.settle.specs.Settling.{SettleOutcome, entryAt, settled}
+use Rattle.columns.specs.Owed.{Outcome}
+use Rattle.settle.specs.Settling.{entryAt, settled}
 use Rattle.settle.proofs.Demands.{entries-sized, settled-result, settled-left}
 use Rattle.columns.specs.Filled.{filled}
 use Rattle.readtable.specs.Read.{ReadOutcome, readOutcome}
@@ -89,8 +90,8 @@ module _ (m : Measure) (c : Columns) (a : Entries) (x : Acceptance) (b : Entries
   -- the columns left are as long as there are vertices
   left-sized : x ≡ answer.Accepted → length (b .labels .depths) ≡ c .vertices
   left-sized e =
-      let p : lentAcceptance c a ≡ answer.Accepted = sym (settled-result m c a) ∙ sym (ap (λ (o : SettleOutcome). o .result) q) ∙ e in
-      ap (λ (o : SettleOutcome). length (o .left .labels .depths)) q
+      let p : lentAcceptance c a ≡ answer.Accepted = sym (settled-result m c a) ∙ sym (ap (λ (o : Outcome Acceptance Entries). o .result) q) ∙ e in
+      ap (λ (o : Outcome Acceptance Entries). length (o .left .labels .depths)) q
       ∙ ap (λ (z : Entries). length (z .labels .depths)) (settled-left m c a p) ∙ entries-sized m c (columns-accepted c a p .table) .labels .depths
 
   pub priced-accepted : x ≡ answer.Accepted → priced (c .vertices) (settled m c a) ≡ list b (length (b .labels .depths))

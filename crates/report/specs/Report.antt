@@ -18,7 +18,8 @@ use Rattle.refusal.specs.Refusals.{numberOf, placeOf, columnOf}
 use Rattle.columns.specs.Columns.{Entries}
 use Rattle.provenance.specs.BestFirst.{blank}
 use Rattle.columns.specs.Acceptance.{mostEdges, mostListed}
-use Rattle.settle.specs.Settling.{SettleOutcome, entryAt, settled}
+use Rattle.columns.specs.Owed.{Outcome}
+use Rattle.settle.specs.Settling.{entryAt, settled}
 use Rattle.text.specs.Render.{digits, tailText}
 use Rattle.readtable.specs.Read.{ReadOutcome, columnsRead, readTable}
 
@@ -83,7 +84,7 @@ abbrev pub pricedAs : (n : ℕ) → Acceptance → Entries → List ℕ
 pricedAs n answer.Accepted a = list a n
 pricedAs n (answer.Refused r) a = refusedLine r
 
-abbrev pub priced : (n : ℕ) → SettleOutcome → List ℕ
+abbrev pub priced : (n : ℕ) → Outcome Acceptance Entries → List ℕ
 priced n o = pricedAs n (o .result) (o .left)
 
 -- answer columns of n zeros

@@ -142,15 +142,15 @@ module _ (c : Columns) (a : Entries) (e s : ℕ) (h : Markable c a e s) where
 
 module _ (m : Measure) (c : Columns) (a : Entries) (e : ℕ) where
   -- a change is made of its acceptance
-  pub reprice-by : (w : ℕ) {x : Acceptance} {r : ChangeOutcome} → r ≡ changed m c a e w x → x ≡ repriceAcceptance m c a e w → r ≡ repriced m c a e w
+  pub reprice-by : (w : ℕ) {x : Acceptance} {r : ChangeOutcome Acceptance} → r ≡ changed m c a e w x → x ≡ repriceAcceptance m c a e w → r ≡ repriced m c a e w
   unfolding repriced
   reprice-by w q p = q ∙ ap (changed m c a e w) p
 
-  pub strike-by : {x : Acceptance} {r : MarkOutcome} → r ≡ marked m c a e struckMark x → x ≡ strikeAcceptance m c a e → r ≡ stricken m c a e
+  pub strike-by : {x : Acceptance} {r : MarkOutcome Acceptance} → r ≡ marked m c a e struckMark x → x ≡ strikeAcceptance m c a e → r ≡ stricken m c a e
   unfolding stricken
   strike-by q p = q ∙ ap (marked m c a e struckMark) p
 
-  pub restore-by : {x : Acceptance} {r : MarkOutcome} → r ≡ marked m c a e standing x → x ≡ restoreAcceptance m c a e → r ≡ restored m c a e
+  pub restore-by : {x : Acceptance} {r : MarkOutcome Acceptance} → r ≡ marked m c a e standing x → x ≡ restoreAcceptance m c a e → r ≡ restored m c a e
   unfolding restored
   restore-by q p = q ∙ ap (marked m c a e standing) p
 

@@ -7,6 +7,7 @@ use lib.ListN.{length, set}
 use Rattle.weights.specs.declared.Measure.{Measure}
 use Rattle.weights.specs.Figures.{standing, struckMark}
 use Rattle.refusal.specs.declared.Refusal.the-variants.{NoSuchEdge}
+use Rattle.refusal.specs.declared.Acceptance.{Acceptance}
 use Rattle.refusal.specs.declared.Acceptance.the-variants.{Accepted, Refused}
 use Rattle.columns.specs.Columns.{Entries, Columns, strikeAt, withOwn, withStrike}
 use Rattle.columns.specs.Acceptance.{lentAcceptance}
@@ -53,7 +54,7 @@ module _ (m : Measure) (c : Columns) (a : Entries) where
 
     -- the mark that was, put back
     mark-back : (s s′ : ℕ) → Defined m c a → strikeAt c e ≡ s′
-        → _≡_ {A = MarkOutcome}
+        → _≡_ {A = MarkOutcome Acceptance}
         (record { result = Accepted; strikes = set (set (c .strikes) e s) e s′; left = entriesOf m (withStrike (withStrike c e s) e s′) })
         (record { result = Accepted; strikes = c .strikes; left = a })
     mark-back s s′ d p =
@@ -83,13 +84,13 @@ module _ (m : Measure) (c : Columns) (a : Entries) where
       stricken-defined n =
           let p = named-accepted n in
           let l = leaves-defined (strike-leaves m c a e (stricken-result m c a e ∙ p)) in
-          subst (λ (x : MarkOutcome). Defined m (withStrike c e struckMark) (x .left)) (stricken-is p) l
+          subst (λ (x : MarkOutcome Acceptance). Defined m (withStrike c e struckMark) (x .left)) (stricken-is p) l
 
       restored-defined : Struck c e → Defined m (withStrike c e standing) (entriesOf m (withStrike c e standing))
       restored-defined n =
           let p = struck-accepted n in
           let l = leaves-defined (restore-leaves m c a e (restored-result m c a e ∙ p)) in
-          subst (λ (x : MarkOutcome). Defined m (withStrike c e standing) (x .left)) (restored-is p) l
+          subst (λ (x : MarkOutcome Acceptance). Defined m (withStrike c e standing) (x .left)) (restored-is p) l
 
 module _ (m : Measure) (c : Columns) (a : Entries) (e : ℕ) (d : Defined m c a) where
   pub strike-restore : Named c e → StrikeRestore m c a e
@@ -101,7 +102,7 @@ module _ (m : Measure) (c : Columns) (a : Entries) (e : ℕ) (d : Defined m c a)
       record {
         first = stricken-result m c a e ∙ p;
         then =
-            ap (λ (x : MarkOutcome). restored m (withStrikes c (x .strikes)) (x .left) e) (stricken-is m c a e p)
+            ap (λ (x : MarkOutcome Acceptance). restored m (withStrikes c (x .strikes)) (x .left) e) (stricken-is m c a e p)
             ∙ restored-is m t (entriesOf m t) e q
             ∙ mark-back m c a e struckMark standing d (stands-so m c a e d (n .numbered) (n .unstruck));
       }
@@ -114,7 +115,7 @@ module _ (m : Measure) (c : Columns) (a : Entries) (e : ℕ) (d : Defined m c a)
       record {
         first = restored-result m c a e ∙ p;
         then =
-            ap (λ (x : MarkOutcome). stricken m (withStrikes c (x .strikes)) (x .left) e) (restored-is m c a e p)
+            ap (λ (x : MarkOutcome Acceptance). stricken m (withStrikes c (x .strikes)) (x .left) e) (restored-is m c a e p)
             ∙ stricken-is m t (entriesOf m t) e q
             ∙ mark-back m c a e standing struckMark d (n .struck);
       }
@@ -128,6 +129,6 @@ module _ (m : Measure) (c : Columns) (a : Entries) (e : ℕ) (d : Defined m c a)
         stands = stands-named m c a e d (n .numbered);
         own = λ x. refl;
         elsewhere = strike-elsewhere c e standing;
-        left = ap (λ (x : MarkOutcome). x .left) (restored-is m c a e p);
+        left = ap (λ (x : MarkOutcome Acceptance). x .left) (restored-is m c a e p);
         leaves = restore-leaves m c a e r;
       }

@@ -8,6 +8,7 @@ use Rattle.weights.specs.declared.Measure.{Measure}
 use Rattle.weights.specs.Figures.{greatest, struckMark}
 use Rattle.refusal.specs.declared.Refusal.{Refusal}
 use Rattle.refusal.specs.declared.Refusal.the-variants.{WrongAnswers, NoSuchEdge, NewWeight, NotStruck}
+use Rattle.refusal.specs.declared.Acceptance.{Acceptance}
 use Rattle.refusal.specs.declared.Acceptance.the-variants.{Accepted, Refused}
 use Rattle.refusal.specs.declared.Verdict.the-variants.{Yes}
 use Rattle.columns.specs.Columns.{Entries, Columns, strikeAt, withOwn, withStrike}
@@ -66,25 +67,17 @@ RightRestore m c a e = RightChange m c a (e < length (c .heads)) (strikeAt c e �
 abbrev pub WrongRestore : Measure → Columns → Entries → ℕ → Refusal → Type 0
 WrongRestore m c a e = WrongChange m c a (e < length (c .heads)) (strikeAt c e ≡ struckMark) NotStruck
 
--- what is lent to be written: the own figures, or the strike marks, and the answers
-pub record Lent : Type 0 where
-  pub column : List ℕ
-  pub answers : Entries
-
-abbrev pub lentTo : List ℕ → Entries → Lent
-lentTo column a = record { column = column; answers = a }
-
--- demand 1 of a change of line e's own figure to w that had this outcome
-abbrev pub ChangeOwes : Measure → Columns → Entries → (e w : ℕ) (Right : Type 0) (Wrong : Refusal → Type 0) → ChangeOutcome → Type 0
+-- demand 1 of a change of line e's own figure to w that had this outcome: the own figures and the answers are lent to be written
+abbrev pub ChangeOwes : Measure → Columns → Entries → (e w : ℕ) (Right : Type 0) (Wrong : Refusal → Type 0) → ChangeOutcome Acceptance → Type 0
 ChangeOwes m c a e w Right Wrong o =
-    Owed Refused (lentTo (c .own) a) Right (λ _. Accepted) (λ _. lentTo (set (c .own) e w) (entriesOf m (withOwn c e w))) Wrong
-    (o .result) (lentTo (o .own) (o .left))
+    Owed {L = List ℕ × Entries} Refused (c .own, a) Right (λ _. Accepted) (λ _. (set (c .own) e w, entriesOf m (withOwn c e w))) Wrong
+    (o .result) (o .own, o .left)
 
--- of a change of its strike mark to s
-abbrev pub MarkOwes : Measure → Columns → Entries → (e s : ℕ) (Right : Type 0) (Wrong : Refusal → Type 0) → MarkOutcome → Type 0
+-- of a change of its strike mark to s: the strike marks and the answers
+abbrev pub MarkOwes : Measure → Columns → Entries → (e s : ℕ) (Right : Type 0) (Wrong : Refusal → Type 0) → MarkOutcome Acceptance → Type 0
 MarkOwes m c a e s Right Wrong o =
-    Owed Refused (lentTo (c .strikes) a) Right (λ _. Accepted) (λ _. lentTo (set (c .strikes) e s) (entriesOf m (withStrike c e s))) Wrong
-    (o .result) (lentTo (o .strikes) (o .left))
+    Owed {L = List ℕ × Entries} Refused (c .strikes, a) Right (λ _. Accepted) (λ _. (set (c .strikes) e s, entriesOf m (withStrike c e s))) Wrong
+    (o .result) (o .strikes, o .left)
 
 -- "both change the own figure, and leave in the answer columns the answers of the table as it then is": by demand 2, and so that the next call's check says yes. Here c
 -- is the table as it then is, and `new` what the column must be that was lent to be written

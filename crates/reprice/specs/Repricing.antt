@@ -49,24 +49,24 @@ unfoldable pub restoreAcceptance : Measure → Columns → Entries → ℕ → A
 restoreAcceptance m c a e = andThen (struckAcceptance c a e) (answersAcceptance m c a)
 
 -- what a change returns, and the own figures and answers as it leaves them; all other columns are lent to be read alone
-pub record ChangeOutcome : Type 0 where
-  pub result : Acceptance
+pub record ChangeOutcome (R : Type 0) : Type 0 where
+  pub result : R
   pub own : List ℕ
   pub left : Entries
 
 -- on acceptance the own figure of line e is w, and the answers are those of the table as it then is; on a refusal nothing has changed
-abbrev pub changed : Measure → Columns → Entries → (e w : ℕ) → Acceptance → ChangeOutcome
+abbrev pub changed : Measure → Columns → Entries → (e w : ℕ) → Acceptance → ChangeOutcome Acceptance
 changed m c a e w Accepted = record { result = Accepted; own = set (c .own) e w; left = entriesOf m (withOwn c e w) }
 changed m c a e w (Refused r) = record { result = Refused r; own = c .own; left = a }
 
 -- the same of a change of the strike mark: the own figures too are lent to be read alone
-pub record MarkOutcome : Type 0 where
-  pub result : Acceptance
+pub record MarkOutcome (R : Type 0) : Type 0 where
+  pub result : R
   pub strikes : List ℕ
   pub left : Entries
 
 -- on acceptance the strike mark of line e is s, and the answers are those of the table as it then is; on a refusal nothing has changed
-abbrev pub marked : Measure → Columns → Entries → (e s : ℕ) → Acceptance → MarkOutcome
+abbrev pub marked : Measure → Columns → Entries → (e s : ℕ) → Acceptance → MarkOutcome Acceptance
 marked m c a e s Accepted = record { result = Accepted; strikes = set (c .strikes) e s; left = entriesOf m (withStrike c e s) }
 marked m c a e s (Refused r) = record { result = Refused r; strikes = c .strikes; left = a }
 
@@ -90,11 +90,11 @@ pub record Renewable (m : Measure) (c : Columns) (a : Entries) (e : ℕ) : Type 
   pub numbered : e < length (c .heads)
   pub stays : rests m c (a .labels) e ≡ true → a ≡ entriesOf m c
 
-unfoldable pub repriced : Measure → Columns → Entries → (e w : ℕ) → ChangeOutcome
+unfoldable pub repriced : Measure → Columns → Entries → (e w : ℕ) → ChangeOutcome Acceptance
 repriced m c a e w = changed m c a e w (repriceAcceptance m c a e w)
 
-unfoldable pub stricken : Measure → Columns → Entries → ℕ → MarkOutcome
+unfoldable pub stricken : Measure → Columns → Entries → ℕ → MarkOutcome Acceptance
 stricken m c a e = marked m c a e struckMark (strikeAcceptance m c a e)
 
-unfoldable pub restored : Measure → Columns → Entries → ℕ → MarkOutcome
+unfoldable pub restored : Measure → Columns → Entries → ℕ → MarkOutcome Acceptance
 restored m c a e = marked m c a e standing (restoreAcceptance m c a e)

@@ -20,7 +20,7 @@ use Rattle.refusal.specs.declared.Extent.the-variants as extent
 use Rattle.columns.specs.Columns.{Columns}
 use Rattle.columns.specs.Acceptance.{acceptance}
 use Rattle.text.specs.Tables.{Edge, Table, tableOf, listedInAll, headsOf, ownsOf, marksOf, spansFrom, tailsOf, columnsOf, closed}
-use Rattle.text.specs.Render.{tableText, render}
+use Rattle.text.specs.Render.{textOf, render}
 use Rattle.text.specs.Machine.{Parse, Whole, Wrong, parse}
 use Rattle.text.proofs.Rows.{edges-of-columns, accepted-fits, fits-accepted, length-heads, length-owns, length-marks, length-spans, length-tails}
 use Rattle.text.proofs.Sound.{sound}
@@ -151,7 +151,7 @@ module _ (text h o ms s t : List ℕ) (g : Header) (k : Held text h o ms s t g) 
   text-again : render (g .measure) (columnsRead g (readTable text h o ms s t)) ≡ text
   text-again =
       ap₂ render (ap (λ (z : Header). z .measure) (k .header-of)) columns-are
-      ∙ ap (λ (z : List Edge). tableText (record { vertices = k .table .vertices; measure = k .table .measure; edges = z })) (edges-of-columns (k .table .vertices) es)
+      ∙ ap (λ (z : List Edge). textOf (record { vertices = k .table .vertices; measure = k .table .measure; edges = z })) (edges-of-columns (k .table .vertices) es)
       ∙ sym (sound text (k .table) (k .whole) .1)
 
 -- what was read, written into room that holds the text, is the text again, byte for byte; and the room behind it is as it was

@@ -27,7 +27,7 @@ use Rattle.roundtrip.specs.RoundTrip.{Room}
 use Rattle.roundtrip.proofs.RoundTrip.{roomy}
 use Rattle.roundtrip.proofs.Refused.{permitted-is-read}
 use Rattle.roundtrip.specs.Refused.{refusedAt}
-use Rattle.roundtrip.specs.Reads.{Lent, lent, RightRead, WrongRead, ReadOwes}
+use Rattle.roundtrip.specs.Reads.{RightRead, WrongRead, ReadOwes}
 
 roomed : (u : Table) (h o ms s t : List ℕ) → roomFor (headerOf u) (length h) (length o) (length ms) (length s) (length t) ≡ true → Room (columnsOf (u .vertices) (u .edges)) h o ms s t
 unfolding roomFor
@@ -51,26 +51,26 @@ roomed u h o ms s t e =
 module _ (text h o ms s t : List ℕ) where
   -- a permitted text, by the test of its table's room
   of-table : (p : Permitted text) (b : Bool) → roomFor (headerOf (tableOf (p .measure) (p .table))) (length h) (length o) (length ms) (length s) (length t) ≡ b
-      → ReadOwes text (lent h o ms s t) (readTable text h o ms s t)
+      → ReadOwes text h o ms s t (readTable text h o ms s t)
   of-table p true e =
       let r = roomed (tableOf (p .measure) (p .table)) h o ms s t e in
-      subst (ReadOwes text (lent h o ms s t)) (sym (permitted-is-read text h o ms s t p r)) (Owed.accepted (record { permitted = p; room = r }))
+      subst (ReadOwes text h o ms s t) (sym (permitted-is-read text h o ms s t p r)) (Owed.accepted (record { permitted = p; room = r }))
   of-table p false e =
       let n : ¬ Room (closed (p .table)) h o ms s t = λ r. apart (sym e ∙ roomy (tableOf (p .measure) (p .table)) h o ms s t r) in
       let q : readTable text h o ms s t ≡ readOutcome (reading.Refused TextRoom) h o ms s t = unfold readInto in rw (permitted-read text p, e) in
-      subst (ReadOwes text (lent h o ms s t)) (sym q) (Owed.refused (WrongRead.room p n))
+      subst (ReadOwes text h o ms s t) (sym q) (Owed.refused (WrongRead.room p n))
 
-  pub reads : ReadOwes text (lent h o ms s t) (readTable text h o ms s t)
+  pub reads : ReadOwes text h o ms s t (readTable text h o ms s t)
   reads = go (parse text) refl
     where
-      go : (P : Parse) → parse text ≡ P → ReadOwes text (lent h o ms s t) (readTable text h o ms s t)
+      go : (P : Parse) → parse text ≡ P → ReadOwes text h o ms s t (readTable text h o ms s t)
       go (Whole u) e =
           let p = read-permitted text u e in
           of-table p (roomFor (headerOf (tableOf (p .measure) (p .table))) (length h) (length o) (length ms) (length s) (length t)) refl
       go (Wrong k) e =
           let q : readTable text h o ms s t ≡ refusedAt k (columnOf text) h o ms s t = unfold readInto in rw e in
           let w = WrongRead.form k (columnOf text) (wrong-unpermitted text k e) (wrong-place text k e) (wrong-byte text k e) in
-          subst (ReadOwes text (lent h o ms s t)) (sym q) (Owed.refused w)
+          subst (ReadOwes text h o ms s t) (sym q) (Owed.refused w)
 
 -- No two of the three --------------------------------------------------------------------------------------------------------------------------
 
@@ -81,12 +81,12 @@ same-table e = cc
 pub permitted-same : (text : List ℕ) (p q : Permitted text) → closed (p .table) ≡ closed (q .table)
 permitted-same text p q = ap (λ (u : Table). columnsOf (u .vertices) (u .edges)) (same-table (sym (permitted-read text p) ∙ permitted-read text q))
 
-module _ (text : List ℕ) (l : Lent) where
-  pub read-or-refused : {r : Refusal} → RightRead text l → ¬ WrongRead text l r
+module _ (text h o ms s t : List ℕ) where
+  pub read-or-refused : {r : Refusal} → RightRead text h o ms s t → ¬ WrongRead text h o ms s t r
   read-or-refused g (WrongRead.form k c n f b) = n (g .permitted)
-  read-or-refused g (WrongRead.room p n) = n (subst (λ (c : Columns). Room c (l .heads) (l .own) (l .strikes) (l .spans) (l .tails)) (permitted-same text (g .permitted) p) (g .room))
+  read-or-refused g (WrongRead.room p n) = n (subst (λ (c : Columns). Room c h o ms s t) (permitted-same text (g .permitted) p) (g .room))
 
-  pub refused-once : {r s : Refusal} → WrongRead text l r → WrongRead text l s → r ≡ s
+  pub refused-once : {r q : Refusal} → WrongRead text h o ms s t r → WrongRead text h o ms s t q → r ≡ q
   refused-once (WrongRead.form j c n f a) (WrongRead.form k d m g b) =
       let u = first-byte-unique text a b in ap₂ (λ (x y : ℕ). Text (record { 0 = x }) (record { 0 = y })) (u .0) (u .1)
   refused-once (WrongRead.form j c n f a) (WrongRead.room p m) = absurd (n p)

@@ -2,11 +2,12 @@
 -- them". Assumes nothing: these are definitions.
 use mathlib.Core.Path.{_≡_}
 use Prim.Native.Nat.{ℕ, _<_}
+use lib.ListN.{getD}
 use Rattle.weights.specs.declared.Measure.{Measure}
 use Rattle.weights.specs.Measures.{algebra}
 use Rattle.refusal.specs.declared.Acceptance.the-variants.{Accepted}
 use Rattle.provenance.specs.Means.{Means}
-use Rattle.columns.specs.Columns.{Entries, Columns, cell, ownAt}
+use Rattle.columns.specs.Columns.{Entries, Columns, ownAt}
 use Rattle.provenance.specs.BestFirst.{labels}
 use Rattle.provenance.specs.Pieces.{HasPieces}
 use Rattle.tables.specs.Table.{hypergraph}
@@ -15,7 +16,7 @@ use Rattle.columns.specs.Acceptance.{lentAcceptance}
 -- the entry of part v is the one that the paper defines: its label, and its piece count (document 02, 2026-09)
 pub record EntryMeans (m : Measure) (c : Columns) (a : Entries) (v : ℕ) : Type 0 where
   pub means : Means (algebra m) (hypergraph c) (ownAt c) (labels (a .labels) v) v
-  pub pieces : HasPieces (hypergraph c) (labels (a .labels)) v (cell (a .pieces) v)
+  pub pieces : HasPieces (hypergraph c) (labels (a .labels)) v (getD (a .pieces) v 0)
 
 -- so is every part's
 abbrev pub AllMean : Measure → Columns → Entries → Type 0

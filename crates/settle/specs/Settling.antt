@@ -11,6 +11,7 @@ use Rattle.provenance.specs.BestFirst.{labels, best-first}
 use Rattle.provenance.specs.Pieces.{pieceColumn}
 use Rattle.tables.specs.Table.{hypergraph}
 use Rattle.columns.specs.Acceptance.{lentAcceptance}
+use Rattle.columns.specs.Owed.{Outcome}
 
 -- the answers of a table: the labels that best-first gives its vertices
 unfoldable pub answersOf : Measure → Columns → Answers
@@ -24,16 +25,11 @@ entriesOf m c = record { labels = answersOf m c; pieces = pieceColumn (hypergrap
 abbrev pub entryAt : Entries → ℕ → Entry
 entryAt a v = entryOf (labels (a .labels) v) (cell (a .pieces) v)
 
--- what a call returns, and the answer columns as it leaves them
-pub record SettleOutcome : Type 0 where
-  pub result : Acceptance
-  pub left : Entries
-
 -- on acceptance the columns are b, on a refusal as they came
-abbrev pub outcome : Acceptance → (b a : Entries) → SettleOutcome
+abbrev pub outcome : Acceptance → (b a : Entries) → Outcome Acceptance Entries
 outcome Accepted b a = record { result = Accepted; left = b }
 outcome (Refused r) b a = record { result = Refused r; left = a }
 
 -- settling, from the columns and answers at entry
-unfoldable pub settled : Measure → Columns → Entries → SettleOutcome
+unfoldable pub settled : Measure → Columns → Entries → Outcome Acceptance Entries
 settled m c a = outcome (lentAcceptance c a) (entriesOf m c) a

@@ -14,7 +14,7 @@ use Rattle.weights.specs.Choice.{pick}
 use Rattle.columns.specs.Acceptance.{mostVertices, mostEdges, mostListed, allBelow}
 use Rattle.columns.proofs.Accepted.{below-at}
 use Rattle.text.specs.Tables.{Edge, edge, Table, listedInAll}
-use Rattle.text.specs.Render.{digits, word, firstWord, measureText, header, markText, ownText, tailText, edgeText, edgesText, tableText}
+use Rattle.text.specs.Render.{digits, word, firstWord, measureText, header, markText, ownText, tailText, edgeText, edgesText, tableText, textOf}
 use Rattle.text.specs.Machine.{
   Place,
   Vertices,
@@ -175,13 +175,13 @@ run-header n m h =
     measured Days = unfold run step measureText word digitOf ended in refl
     measured Grade = unfold run step spell named measureText word digitOf ended in refl
 
-pub run-text : (t : Table) → WithinLimits t → run begin (tableText t) ≡ First (Head t)
+pub run-text : (t : Table) → WithinLimits t → run begin (textOf t) ≡ First (Head t)
 unfolding tableText
 run-text t f =
     run-append begin (header (t .vertices) (t .measure)) (edgesText (t .edges))
     ∙ ap (λ (σ : State). run σ (edgesText (t .edges))) (run-header (t .vertices) (t .measure) (f .vertices))
     ∙ run-edges (t .vertices) (t .measure) (t .edges) [] (f .edges) (f .listed) (f .each)
 
-pub complete : (t : Table) → WithinLimits t → parse (tableText t) ≡ Whole t
+pub complete : (t : Table) → WithinLimits t → parse (textOf t) ≡ Whole t
 unfolding parse finish
 complete t f = ap finish (run-text t f)

@@ -4,7 +4,7 @@ use Prim.Native.Nat.{ℕ}
 use mathlib.Core.Path.{_≡_, refl, sym, _∙_, ap}
 use mathlib.Core.List.{List}
 use Rattle.text.specs.Tables.{Edge, Table, tableOf, columnsOf}
-use Rattle.text.specs.Render.{tableText, Permitted}
+use Rattle.text.specs.Render.{textOf, Permitted}
 use Rattle.text.specs.Machine.{Parse, Whole, Wrong, parse}
 use Rattle.text.specs.Rows.{WithinLimits}
 use Rattle.text.proofs.Rows.{edges-of-columns, accepted-fits, fits-accepted}
@@ -14,12 +14,12 @@ use Rattle.text.specs.Places.{firstLines}
 use Rattle.text.proofs.Places.{first-unread}
 use Rattle.text.specs.Permitted.{FirstWrong}
 
-pub table-permitted : (s : List ℕ) (t : Table) → WithinLimits t → s ≡ tableText t → Permitted s
+pub table-permitted : (s : List ℕ) (t : Table) → WithinLimits t → s ≡ textOf t → Permitted s
 table-permitted s t f e = record {
   measure = t .measure;
   table = columnsOf (t .vertices) (t .edges);
   accepted = fits-accepted t f;
-  same = e ∙ ap (λ (es : List Edge). tableText (record { vertices = t .vertices; measure = t .measure; edges = es })) (sym (edges-of-columns (t .vertices) (t .edges)));
+  same = e ∙ ap (λ (es : List Edge). textOf (record { vertices = t .vertices; measure = t .measure; edges = es })) (sym (edges-of-columns (t .vertices) (t .edges)));
 }
 
 pub permitted-read : (s : List ℕ) (p : Permitted s) → parse s ≡ Whole (tableOf (p .measure) (p .table))

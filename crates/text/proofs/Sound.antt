@@ -14,7 +14,7 @@ use Rattle.weights.specs.declared.Measure.the-variants.{Cost, Days, Grade}
 use Rattle.weights.specs.Figures.{greatest, standing, struckMark}
 use Rattle.columns.specs.Acceptance.{mostVertices, mostEdges, mostListed, allBelow}
 use Rattle.text.specs.Tables.{Edge, edge, Table, listedInAll}
-use Rattle.text.specs.Render.{digits, letters, word, firstWord, measureText, header, markText, ownText, tailText, edgeText, edgesText, tableText}
+use Rattle.text.specs.Render.{digits, letters, word, firstWord, measureText, header, markText, ownText, tailText, edgeText, edgesText, tableText, textOf}
 use Rattle.text.specs.Machine.{
   Place,
   Vertices,
@@ -71,11 +71,11 @@ pub tail-text-snoc : (vs : List ℕ) (v : ℕ) → tailText (vs ++ v ∷ []) ≡
 unfolding tailText
 tail-text-snoc vs v = tail-text-append vs (v ∷ []) ∙ ap (λ (l : List ℕ). tailText vs ++ l) (append-nil (32 ∷ digits v))
 
-text-more : (t : Table) (e : Edge) → tableText (withEdge t e) ≡ (tableText t ++ edgeText e) ++ 10 ∷ []
+text-more : (t : Table) (e : Edge) → textOf (withEdge t e) ≡ (textOf t ++ edgeText e) ++ 10 ∷ []
 unfolding tableText
 text-more t e = rw (edges-text-snoc (t .edges) e) (simp append-assoc)
 
-pub text-begun : (n : ℕ) (m : Measure) → tableText (begun n m) ≡ (firstWord ++ digits n) ++ measureText m
+pub text-begun : (n : ℕ) (m : Measure) → textOf (begun n m) ≡ (firstWord ++ digits n) ++ measureText m
 unfolding tableText header edgesText
 text-begun n m = append-nil _
 
@@ -87,9 +87,9 @@ begun-fits n m h = record { vertices = h; edges = omega arith; listed = omega ar
 
 unfoldable pub before : Place → List ℕ
 before Vertices = firstWord
-before (Head t) = tableText t
-before (Own t h k) = ((tableText t ++ digits h) ++ 32 ∷ []) ++ markText k
-before (Listed t h o k xs) = (tableText t ++ edgeText (edge h o k xs)) ++ 32 ∷ []
+before (Head t) = textOf t
+before (Own t h k) = ((textOf t ++ digits h) ++ 32 ∷ []) ++ markText k
+before (Listed t h o k xs) = (textOf t ++ edgeText (edge h o k xs)) ++ 32 ∷ []
 
 -- a line that may end here
 pub record EdgeSits (t : Table) (h o k : ℕ) (xs : List ℕ) : Type 0 where
@@ -164,7 +164,7 @@ edge-done t h o k xs g = record {
 joined : {l s : List ℕ} (b c : ℕ) → l ≡ s → eqb b c ≡ true → l ++ c ∷ [] ≡ s ++ b ∷ []
 joined b c e f = ap₂ (λ (l : List ℕ) (x : ℕ). l ++ x ∷ []) e (sym (eqb-true b c f))
 
-after-reached : (t : Table) (h o k : ℕ) (xs : List ℕ) (b : ℕ) (s : List ℕ) → EdgeSits t h o k xs → tableText t ++ edgeText (edge h o k xs) ≡ s → Reached (after t h o k xs b) (s ++ b ∷ [])
+after-reached : (t : Table) (h o k : ℕ) (xs : List ℕ) (b : ℕ) (s : List ℕ) → EdgeSits t h o k xs → textOf t ++ edgeText (edge h o k xs) ≡ s → Reached (after t h o k xs b) (s ++ b ∷ [])
 unfolding after before
 after-reached t h o k xs b s g e =
     let P : State → Type 0 = λ σ. Reached σ (s ++ b ∷ []) in
@@ -196,11 +196,11 @@ listed-sits t h o k xs v g r l =
       listed = omega arith;
     }
 
-own-text : (t : Table) (h o k : ℕ) → tableText t ++ edgeText (edge h o k []) ≡ (((tableText t ++ digits h) ++ 32 ∷ []) ++ markText k) ++ digits o
+own-text : (t : Table) (h o k : ℕ) → textOf t ++ edgeText (edge h o k []) ≡ (((textOf t ++ digits h) ++ 32 ∷ []) ++ markText k) ++ digits o
 unfolding edgeText ownText tailText
 own-text t h o k = simp (append-assoc, append-nil)
 
-listed-text : (t : Table) (h o k : ℕ) (xs : List ℕ) (v : ℕ) → tableText t ++ edgeText (edge h o k (xs ++ v ∷ [])) ≡ ((tableText t ++ edgeText (edge h o k xs)) ++ 32 ∷ []) ++ digits v
+listed-text : (t : Table) (h o k : ℕ) (xs : List ℕ) (v : ℕ) → textOf t ++ edgeText (edge h o k (xs ++ v ∷ [])) ≡ ((textOf t ++ edgeText (edge h o k xs)) ++ 32 ∷ []) ++ digits v
 unfolding edgeText
 listed-text t h o k xs v = rw (tail-text-snoc xs v) (simp append-assoc)
 
@@ -242,8 +242,8 @@ ended-reached Vertices v b s h =
     (λ e. (text-begun v Days ∙ joined {l = firstWord ++ digits v} b 10 refl e, begun-fits v Days h))
     (λ _. pick-by (λ (σ : State). Reached σ ((firstWord ++ digits v) ++ b ∷ [])) (eqb b 32) (λ e. (sym (joined {l = firstWord ++ digits v} b 32 refl e), h)) (λ f. tt))
 ended-reached (Head t) v b s h =
-    pick-by (λ (σ : State). Reached σ ((tableText t ++ digits v) ++ b ∷ [])) (eqb b 32)
-    (λ e. (append-nil _ ∙ joined {l = tableText t ++ digits v} b 32 refl e, head-sits t v 0 standing s (h .1) (h .0) (omega arith) (omega arith))) (λ f. tt)
+    pick-by (λ (σ : State). Reached σ ((textOf t ++ digits v) ++ b ∷ [])) (eqb b 32)
+    (λ e. (append-nil _ ∙ joined {l = textOf t ++ digits v} b 32 refl e, head-sits t v 0 standing s (h .1) (h .0) (omega arith) (omega arith))) (λ f. tt)
 ended-reached (Own t g k) v b s h = after-reached t g v k [] b _ (own-sits t g 0 k v k s h (s .one-more .mark)) (own-text t g v k)
 ended-reached (Listed t g o k xs) v b s h = after-reached t g o k (xs ++ v ∷ []) b _ (listed-sits t g o k xs v (s .0) (s .1) h) (listed-text t g o k xs v)
 
@@ -253,7 +253,7 @@ instead-reached Vertices b s e h = tt
 instead-reached (Head t) b s e h = tt
 instead-reached (Own t g zero) b s e h =
     pick-by (λ (σ : State). Reached σ (s ++ b ∷ [])) (eqb b 45)
-    (λ f. (joined {l = (tableText t ++ digits g) ++ 32 ∷ []} b 45 (sym (append-nil _) ∙ e) f, own-sits t g 0 standing 0 struckMark h (omega arith) (omega arith))) (λ f. tt)
+    (λ f. (joined {l = (textOf t ++ digits g) ++ 32 ∷ []} b 45 (sym (append-nil _) ∙ e) f, own-sits t g 0 standing 0 struckMark h (omega arith) (omega arith))) (λ f. tt)
 instead-reached (Own t g (suc k)) b s e h = tt
 instead-reached (Listed t g o k xs) b s e h = tt
 
@@ -290,17 +290,17 @@ run-reached σ s (b ∷ bs) r = subst (λ (u : List ℕ). Reached (run (step σ 
 pub never : {l : ℕ} {t : Table} → Wrong l ≡ Whole t → ⊥
 never {l} {t} e = let z : _≡_ {A = ℕ} 0 1 = cc in omega arith
 
-finished : (σ : State) (s : List ℕ) (t : Table) → Reached σ s → finish σ ≡ Whole t → WithinLimits t × (s ≡ tableText t)
+finished : (σ : State) (s : List ℕ) (t : Table) → Reached σ s → finish σ ≡ Whole t → WithinLimits t × (s ≡ textOf t)
 unfolding finish before
 finished (Spelling ws p) s t r e = absurd (never e)
 finished (Naming n) s t r e = absurd (never e)
 finished (First Vertices) s t r e = absurd (never e)
-finished (First (Head u)) s t r e = let q : u ≡ t = cc in subst (λ (w : Table). WithinLimits w × (s ≡ tableText w)) q (r .1, sym (r .0))
+finished (First (Head u)) s t r e = let q : u ≡ t = cc in subst (λ (w : Table). WithinLimits w × (s ≡ textOf w)) q (r .1, sym (r .0))
 finished (First (Own u h k)) s t r e = absurd (never e)
 finished (First (Listed u h o k xs)) s t r e = absurd (never e)
 finished (Within p v) s t r e = absurd (never e)
 finished (Failed l) s t r e = absurd (never e)
 
-pub sound : (s : List ℕ) (t : Table) → parse s ≡ Whole t → WithinLimits t × (s ≡ tableText t)
+pub sound : (s : List ℕ) (t : Table) → parse s ≡ Whole t → WithinLimits t × (s ≡ textOf t)
 unfolding parse
 sound s t e = finished (run begin s) s t (run-reached begin [] s begin-reached) e

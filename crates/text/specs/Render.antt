@@ -10,7 +10,7 @@ use Rattle.weights.specs.Choice.{pick}
 use Rattle.refusal.specs.declared.Acceptance.the-variants.{Accepted}
 use Rattle.columns.specs.Columns.{Columns}
 use Rattle.columns.specs.Acceptance.{acceptance}
-use Rattle.text.specs.Tables.{Edge, Table, tableOf}
+use Rattle.text.specs.Tables.{Edge, Table, edgesOf}
 
 -- Numbers: decimal without leading zeros -------------------------------------------------------------------------------------------------
 
@@ -72,12 +72,16 @@ edgesText (e ∷ es) = (edgeText e ++ 10 ∷ []) ++ edgesText es
 
 -- The text ---------------------------------------------------------------------------------------------------------------------------------
 
-unfoldable pub tableText : Table → List ℕ
-tableText t = header (t .vertices) (t .measure) ++ edgesText (t .edges)
+unfoldable pub tableText : ℕ → Measure → List Edge → List ℕ
+tableText n m es = header n m ++ edgesText es
 
 -- the bytes of a table in columns: gaps are not seen
 abbrev pub render : Measure → Columns → List ℕ
-render m c = tableText (tableOf m c)
+render m c = tableText (c .vertices) m (edgesOf c)
+
+-- and of a table hyperedge by hyperedge, as reading holds it
+abbrev pub textOf : Table → List ℕ
+textOf t = tableText (t .vertices) (t .measure) (t .edges)
 
 -- a text is permitted if it is the rendering of an accepted table
 pub record Permitted (s : List ℕ) : Type 0 where

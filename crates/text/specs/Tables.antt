@@ -24,7 +24,7 @@ pub record Table : Type 0 where
 -- the hyperedges of columns: the `left` from e on, and all
 unfoldable pub edgesFrom : Columns → (left e : ℕ) → List Edge
 edgesFrom c zero e = []
-edgesFrom c (suc left) e = edge (headAt c e) (ownAt c e) (strikeAt c e) (tailAt c e) ∷ edgesFrom c left (e + 1)
+edgesFrom c (suc left) e = record { head = headAt c e; own = ownAt c e; mark = strikeAt c e; tail = tailAt c e } ∷ edgesFrom c left (e + 1)
 
 abbrev pub edgesOf : Columns → List Edge
 edgesOf c = edgesFrom c (length (c .heads)) 0
@@ -60,7 +60,7 @@ tailsOf [] = []
 tailsOf (e ∷ es) = e .tail ++ tailsOf es
 
 abbrev pub columnsOf : ℕ → List Edge → Columns
-columnsOf n es = columns n (headsOf es) (ownsOf es) (marksOf es) (spansFrom 0 es) (tailsOf es)
+columnsOf n es = columns n (eachOf (λ e. e .head) es) (eachOf (λ e. e .own) es) (eachOf (λ e. e .mark) es) (spansFrom 0 es) (tailsOf es)
 
 -- the same table with its gaps closed
 abbrev pub closed : Columns → Columns

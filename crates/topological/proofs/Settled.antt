@@ -14,6 +14,7 @@ use Rattle.refusal.specs.declared.Acceptance.{Acceptance}
 use Rattle.refusal.specs.declared.Acceptance.the-variants.{Accepted, Refused}
 use Rattle.columns.specs.Columns.{Answers, Sized, Entries, Columns, ownAt, cell}
 use Rattle.columns.specs.Acceptance.{test, lentAcceptance}
+use Rattle.columns.specs.Owed.{Outcome}
 use Rattle.columns.proofs.Accepted.{refused, test-passed, both-accepted, AcceptedColumns}
 use Rattle.columns.proofs.Usable.{same-table}
 use Rattle.provenance.specs.Labelling.{Fixpoint}
@@ -21,7 +22,7 @@ use Rattle.provenance.specs.BestFirst.{labels}
 use Rattle.provenance.proofs.InOrder.{in-order-best-first}
 use Rattle.tables.specs.Table.{hypergraph}
 use Rattle.tables.proofs.Formed.{well-formed}
-use Rattle.settle.specs.Settling.{answersOf, entriesOf, SettleOutcome, outcome, settled}
+use Rattle.settle.specs.Settling.{answersOf, entriesOf, outcome, settled}
 use Rattle.settle.specs.Demands.{Demand2}
 use Rattle.settle.proofs.Demands.{answers-fixpoint, demand-2}
 use Rattle.settle.proofs.Settled.{answers-countable, entered}
@@ -96,7 +97,7 @@ module _ (m : Measure) (c : Columns) where
     pub ordered-demand-2 : settledInOrder m c a .result ≡ Accepted → (v : ℕ) → Demand2 m c (settledInOrder m c a .left) v
     ordered-demand-2 p v =
         let s = same-columns (lent-accepted c a (result-accepted p) .0) in
-        subst (λ (o : SettleOutcome). Demand2 m c (o .left) v) (sym s) (demand-2 m c a (sym (ap (λ (o : SettleOutcome). o .result) s) ∙ p) v)
+        subst (λ (o : Outcome Acceptance Entries). Demand2 m c (o .left) v) (sym s) (demand-2 m c a (sym (ap (λ (o : Outcome Acceptance Entries). o .result) s) ∙ p) v)
 
 -- accepted columns tell the number of vertices, so `label` is not given it; and what it leaves can be counted
 module _ (m : Measure) (c : Columns) (a : Entries) (h : AcceptedColumns c a) {b : Answers} (e : b ≡ walked m (same-table c (length (a .labels .depths)))) where

@@ -16,7 +16,8 @@ use Rattle.provenance.specs.BestFirst.{labels}
 use Rattle.provenance.specs.InOrder.{in-order}
 use Rattle.provenance.specs.Pieces.{pieceColumn}
 use Rattle.tables.specs.Table.{hypergraph}
-use Rattle.settle.specs.Settling.{SettleOutcome, outcome}
+use Rattle.columns.specs.Owed.{Outcome}
+use Rattle.settle.specs.Settling.{outcome}
 
 -- refusals 3, 4, 21, 5 and 6 of one line, then 24: its listed parts must be below its head, struck or not
 unfoldable pub orderedEdge : (n : ℕ) → Hyperedge → (head own mark offset size end : ℕ) → List ℕ → Acceptance
@@ -53,5 +54,5 @@ abbrev pub walkedEntries : Measure → Columns → Entries
 walkedEntries m c = record { labels = walked m c; pieces = pieceColumn (hypergraph c) (labels (walked m c)) (c .vertices) }
 
 -- settling, from the columns and answers at entry
-unfoldable pub settledInOrder : Measure → Columns → Entries → SettleOutcome
+unfoldable pub settledInOrder : Measure → Columns → Entries → Outcome Acceptance Entries
 settledInOrder m c a = outcome (orderedLentAcceptance c a) (walkedEntries m c) a

@@ -34,7 +34,7 @@ use Rattle.statistics.specs.declared.Summary.{Summary}
 use Rattle.statistics.specs.declared.Summary.the-variants as summary
 use Rattle.statistics.specs.Summaries.{summaryNumber, summaryOf}
 use Rattle.shuffle.specs.Shuffled.{shuffleOutcome, unshuffleOutcome}
-use Rattle.counter.specs.Decoded.{Decoded, extentOf}
+use Rattle.counter.specs.Decoded.{Decoded, extentOf, measured}
 use Rattle.counter.proofs.Decoded.{reach, decoded}
 use Rattle.counter.proofs.Places.{measure-place}
 use Rattle.tozbierdu.specs.Results.{
@@ -51,7 +51,7 @@ use Rattle.tozbierdu.specs.Results.{
   replayedResult,
   laidResult,
 }
-use Rattle.tozbierdu.specs.Decoded.{verdictExtent, readingExtent, appendingExtent, summaryExtent, measured}
+use Rattle.tozbierdu.specs.Decoded.{verdictExtent, readingExtent, appendingExtent, summaryExtent}
 use Rattle.tozbierdu.proofs.Places.{
   accepted-reach,
   table-places,

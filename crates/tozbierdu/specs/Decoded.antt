@@ -1,6 +1,5 @@
 -- What a program in C can tell from the one number that a call of the archive gives it: the answers of all calls as `counter` has those of its three, a length or a refusal, so
 -- that its `Decoded` says it of each. The paper's "The calls". Assumes nothing: these are definitions.
-use Rattle.weights.specs.declared.Measure as measures
 use Rattle.refusal.specs.declared.Extent.{Extent}
 use Rattle.refusal.specs.declared.Extent.the-variants.{Length, Refused}
 use Rattle.refusal.specs.declared.Verdict.{Verdict}
@@ -9,8 +8,6 @@ use Rattle.refusal.specs.declared.Reading.{Reading}
 use Rattle.refusal.specs.declared.Reading.the-variants as reading
 use Rattle.refusal.specs.declared.Appending.{Appending}
 use Rattle.refusal.specs.declared.Appending.the-variants as appending
-use Rattle.refusal.specs.declared.MeasureChoice.{MeasureChoice}
-use Rattle.refusal.specs.declared.MeasureChoice.the-variants as choice
 use Rattle.statistics.specs.declared.Summary.{Summary}
 use Rattle.statistics.specs.declared.Summary.the-variants as summary
 
@@ -32,8 +29,3 @@ appendingExtent (appending.Refused r) = Refused r
 abbrev pub summaryExtent : Summary → Extent
 summaryExtent (summary.Moments m) = Length 0
 summaryExtent (summary.Refused r) = Refused r
-
--- a measure's number is tested before everything
-abbrev pub measured : MeasureChoice → (measures.Measure → Extent) → Extent
-measured (choice.Refused r) f = Refused r
-measured (choice.Measure m) f = f m

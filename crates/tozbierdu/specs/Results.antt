@@ -11,6 +11,7 @@ use Rattle.weights.specs.declared.State.the-variants.{Made, Over, Unmade}
 use Rattle.weights.specs.declared.Entry.{Entry}
 use Rattle.weights.specs.Choice.{pick}
 use Rattle.refusal.specs.declared.Counts.{Counts}
+use Rattle.refusal.specs.declared.Acceptance.{Acceptance}
 use Rattle.refusal.specs.declared.Appending.{Appending}
 use Rattle.refusal.specs.declared.Appending.the-variants as appending
 use Rattle.refusal.specs.declared.Header.{Header}
@@ -24,10 +25,11 @@ use Rattle.statistics.specs.declared.Summary.{Summary}
 use Rattle.statistics.specs.declared.Summary.the-variants as summary
 use Rattle.statistics.specs.Summaries.{summaryNumber, summaryValues}
 use Rattle.columns.specs.Columns.{Entries, Columns}
-use Rattle.shuffle.specs.Shuffled.{Outcome}
+use Rattle.columns.specs.Owed.{Outcome}
+use Rattle.shuffle.specs.Shuffled.{Outcome as ShuffleOutcome}
 use Rattle.settle.specs.Checking.{checked}
 use Rattle.reprice.specs.Repricing.{MarkOutcome, stricken, restored}
-use Rattle.counter.specs.Results.{Left, outcomeResult, LeftRoom}
+use Rattle.counter.specs.Results.{outcomeResult}
 use Rattle.topological.specs.Ordering.{settledInOrder}
 use Rattle.columns.specs.Longer.{NewLine}
 use Rattle.indextable.specs.Index.{IndexOutcome}
@@ -42,19 +44,14 @@ checkedResult (Refused r) c a = resultOf (codeOf r)
 checkedResult (Measure m) c a = verdictResult (checked m c a)
 
 -- a number, the strike marks, and the answer columns
-pub record LeftMarks : Type 0 where
-  pub result : ℕ
-  pub strikes : List ℕ
-  pub left : Entries
-
-abbrev pub markResult : MarkOutcome → LeftMarks
+abbrev pub markResult : MarkOutcome Acceptance → MarkOutcome ℕ
 markResult x = record { result = acceptanceResult (x .result); strikes = x .strikes; left = x .left }
 
-abbrev pub strickenResult : MeasureChoice → Columns → Entries → ℕ → LeftMarks
+abbrev pub strickenResult : MeasureChoice → Columns → Entries → ℕ → MarkOutcome ℕ
 strickenResult (Refused r) c a e = record { result = resultOf (codeOf r); strikes = c .strikes; left = a }
 strickenResult (Measure m) c a e = markResult (stricken m c a e)
 
-abbrev pub restoredResult : MeasureChoice → Columns → Entries → ℕ → LeftMarks
+abbrev pub restoredResult : MeasureChoice → Columns → Entries → ℕ → MarkOutcome ℕ
 restoredResult (Refused r) c a e = record { result = resultOf (codeOf r); strikes = c .strikes; left = a }
 restoredResult (Measure m) c a e = markResult (restored m c a e)
 
@@ -101,10 +98,10 @@ abbrev pub textColumn : Reading → ℕ
 textColumn (reading.Table h) = 0
 textColumn (reading.Refused r) = columnOf r
 
-abbrev pub writeResult : WriteOutcome → LeftRoom
+abbrev pub writeResult : WriteOutcome → Outcome ℕ (List ℕ)
 writeResult x = record { result = extentResult (x .answer); left = x .room }
 
-abbrev pub writtenResult : MeasureChoice → Columns → List ℕ → LeftRoom
+abbrev pub writtenResult : MeasureChoice → Columns → List ℕ → Outcome ℕ (List ℕ)
 writtenResult (Refused r) c room = record { result = resultOf (codeOf r); left = room }
 writtenResult (Measure m) c room = writeResult (writeTable m c room)
 
@@ -159,11 +156,11 @@ abbrev pub summaryWritten : Summary → List ℕ → List ℕ
 summaryWritten (summary.Moments m) room = momentsWritten m room
 summaryWritten (summary.Refused r) room = room
 
-abbrev pub summaryLeft : Summary → List ℕ → LeftRoom
+abbrev pub summaryLeft : Summary → List ℕ → Outcome ℕ (List ℕ)
 summaryLeft s room = record { result = summaryNumber s; left = summaryWritten s room }
 
 -- settling in order: a number, and the answer columns
-abbrev pub orderedResult : MeasureChoice → Columns → Entries → Left
+abbrev pub orderedResult : MeasureChoice → Columns → Entries → Outcome ℕ Entries
 orderedResult (Refused r) c a = record { result = resultOf (codeOf r); left = a }
 orderedResult (Measure m) c a = outcomeResult (settledInOrder m c a)
 
@@ -181,5 +178,5 @@ replayedResult (Refused r) c a parts received stock outcomes = record { result =
 replayedResult (Measure m) c a parts received stock outcomes = replayResult (replayed m c a parts received stock outcomes)
 
 -- a number, and the column that shuffling or unshuffling writes
-abbrev pub laidResult : Outcome → LeftRoom
+abbrev pub laidResult : ShuffleOutcome → Outcome ℕ (List ℕ)
 laidResult x = record { result = acceptanceResult (x .answer); left = x .left }

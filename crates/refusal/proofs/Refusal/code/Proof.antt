@@ -47,49 +47,49 @@ returns-13 : tie.Need-returns-13
 returns-13 c = c .of13 .ensures ∙ sym (ap codeOf (c .before .enum-told9 .given .1))
 
 returns-14 : tie.Need-returns-14
-returns-14 c = c .of14 .ensures ∙ sym (ap codeOf (c .before .before .self5 .given .1))
+returns-14 c = c .of-text .ensures ∙ sym (ap codeOf (c .before .before .self5 .given .1))
 
 returns-15 : tie.Need-returns-15
-returns-15 c = c .of15 .ensures ∙ sym (ap codeOf (c .before .enum-told10 .given .1))
+returns-15 c = c .of14 .ensures ∙ sym (ap codeOf (c .before .enum-told10 .given .1))
 
 returns-16 : tie.Need-returns-16
-returns-16 c = c .of16 .ensures ∙ sym (ap codeOf (c .before .enum-told11 .given .1))
+returns-16 c = c .of15 .ensures ∙ sym (ap codeOf (c .before .enum-told11 .given .1))
 
 returns-17 : tie.Need-returns-17
-returns-17 c = c .of17 .ensures ∙ sym (ap codeOf (c .before .enum-told12 .given .1))
+returns-17 c = c .of16 .ensures ∙ sym (ap codeOf (c .before .enum-told12 .given .1))
 
 returns-18 : tie.Need-returns-18
-returns-18 c = c .of18 .ensures ∙ sym (ap codeOf (c .before .enum-told13 .given .1))
+returns-18 c = c .of17 .ensures ∙ sym (ap codeOf (c .before .enum-told13 .given .1))
 
 returns-19 : tie.Need-returns-19
-returns-19 c = c .of19 .ensures ∙ sym (ap codeOf (c .before .enum-told14 .given .1))
+returns-19 c = c .of18 .ensures ∙ sym (ap codeOf (c .before .enum-told14 .given .1))
 
 returns-20 : tie.Need-returns-20
-returns-20 c = c .of20 .ensures ∙ sym (ap codeOf (c .before .enum-told15 .given .1))
+returns-20 c = c .of19 .ensures ∙ sym (ap codeOf (c .before .enum-told15 .given .1))
 
 returns-21 : tie.Need-returns-21
-returns-21 c = c .of21 .ensures ∙ sym (ap codeOf (c .before .before .self6 .given .1))
+returns-21 c = c .of20 .ensures ∙ sym (ap codeOf (c .before .before .self6 .given .1))
 
 returns-22 : tie.Need-returns-22
-returns-22 c = c .of22 .ensures ∙ sym (ap codeOf (c .before .enum-told16 .given .1))
+returns-22 c = c .of21 .ensures ∙ sym (ap codeOf (c .before .enum-told16 .given .1))
 
 returns-23 : tie.Need-returns-23
-returns-23 c = c .of23 .ensures ∙ sym (ap codeOf (c .before .before .self7 .given .1))
+returns-23 c = c .of22 .ensures ∙ sym (ap codeOf (c .before .before .self7 .given .1))
 
 returns-24 : tie.Need-returns-24
-returns-24 c = c .of24 .ensures ∙ sym (ap codeOf (c .before .before .self8 .given .1))
+returns-24 c = c .of23 .ensures ∙ sym (ap codeOf (c .before .before .self8 .given .1))
 
 returns-25 : tie.Need-returns-25
-returns-25 c = c .of25 .ensures ∙ sym (ap codeOf (c .before .before .self9 .given .1))
+returns-25 c = c .of24 .ensures ∙ sym (ap codeOf (c .before .before .self9 .given .1))
 
 returns-26 : tie.Need-returns-26
-returns-26 c = c .of26 .ensures ∙ sym (ap codeOf (c .before .before .self10 .given .1))
+returns-26 c = c .of25 .ensures ∙ sym (ap codeOf (c .before .before .self10 .given .1))
 
 returns-27 : tie.Need-returns-27
-returns-27 c = c .of27 .ensures ∙ sym (ap codeOf (c .before .before .self11 .given .1))
+returns-27 c = c .of26 .ensures ∙ sym (ap codeOf (c .before .before .self11 .given .1))
 
 returns-28 : tie.Need-returns-28
-returns-28 c = c .of28 .ensures ∙ sym (ap codeOf (c .before .enum-told17 .given .1))
+returns-28 c = c .of27 .ensures ∙ sym (ap codeOf (c .before .enum-told17 .given .1))
 
 pub code-spec : {M : Type 1} → statement M
 code-spec =
