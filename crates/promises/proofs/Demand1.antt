@@ -10,7 +10,7 @@ use mathlib.Core.Logic.{_⊎_, inl, inr, _↔_}
 use mathlib.Core.List.{List, [], _∷_, _++_, List·Memᴰ}
 use Prim.Native.Nat.{ℕ, _/_, _≤_, _<_}
 use native.Mathlib.Omega.{arith}
-use lib.ListN.{length, set, take, drop}
+use lib.ListN.{length, getD, set, take, drop}
 use borrow.Author.Tests.{ne-eqb}
 use Rattle.weights.specs.declared.Measure.{Measure}
 use Rattle.weights.specs.declared.Measure.the-variants.{Cost, Days, Grade}
@@ -32,7 +32,10 @@ use Rattle.columns.specs.Owed.{Owed}
 use Rattle.columns.specs.Right.{RightTable, WrongTable, RightLent, WrongLent}
 use Rattle.columns.proofs.Exactly.{accepted-exactly, refused-exactly, lent-exactly, lent-refused-exactly}
 use Rattle.columns.proofs.Owed.{check-table-owes, check-lent-owes}
+use Rattle.provenance.specs.Hypergraph.{Derivation, listing}
+use Rattle.provenance.specs.Means.{Follows}
 use Rattle.provenance.specs.BestFirst.{labels}
+use Rattle.tables.specs.Table.{hypergraph}
 use Rattle.settle.specs.Settling.{entriesOf, entryAt, settled}
 use Rattle.settle.specs.Checking.{checked}
 use Rattle.settle.specs.Defined.{AllMean}
@@ -58,6 +61,7 @@ use Rattle.counter.proofs.Decoded.{settled-decoded, repriced-decoded, billed-de
 use Rattle.counter.proofs.Numbers.{settle-numbers, reprice-numbers, bill-numbers}
 use Rattle.promises.specs.Fixed.{Fixed}
 use Rattle.promises.proofs.Fixed.{fixed}
+use Rattle.promises.proofs.Bills.{derived, right-bill}
 
 -- "Check a table." Refusals 1 to 6 -----------------------------------------------------------------------------------------------------------------------------
 module _ (c : Columns) where
@@ -67,33 +71,32 @@ module _ (c : Columns) where
   pub check-table-fixed : Fixed (RightTable c) (WrongTable c)
   check-table-fixed = fixed (acceptance c) (accepted-exactly c) (refused-exactly c)
 
--- the same with the answer columns: 1 to 7
 module _ (c : Columns) (a : Entries) where
+  -- the same with the answer columns: 1 to 7
   pub check-lent : Owed Refused (tt {0}) (RightLent c a) (λ _. Accepted) (λ _. tt {0}) (WrongLent c a) (lentAcceptance c a) (tt {0})
   check-lent = check-lent-owes c a
 
   pub check-lent-fixed : Fixed (RightLent c a) (WrongLent c a)
   check-lent-fixed = fixed (lentAcceptance c a) (lent-exactly c a) (lent-refused-exactly c a)
 
-module _ (m : Measure) (c : Columns) (a : Entries) where
   -- "Settle a table into the answer columns." 1 to 7. What `entriesOf` is, demand 2 says
-  pub settle : Owed Refused a (RightLent c a) (λ _. Accepted) (λ _. entriesOf m c) (WrongLent c a) (settled m c a .result) (settled m c a .left)
-  settle = settle-owes m c a
+  pub settle : (m : Measure) → Owed Refused a (RightLent c a) (λ _. Accepted) (λ _. entriesOf m c) (WrongLent c a) (settled m c a .result) (settled m c a .left)
+  settle m = settle-owes m c a
 
   -- "Check answers: yes exactly if they are the ones defined above, whoever wrote them." 1 to 7; "no, and not 8, for wrong ones"
-  pub check-answers : Owed verdict.Refused (tt {0}) ((RightLent c a × AllMean m c a) ⊎ (RightLent c a × ¬ AllMean m c a)) (elim [ inl _ ↦ verdict.Yes | inr _ ↦ verdict.No ]) (λ _. tt {0})
+  pub check-answers : (m : Measure) → Owed verdict.Refused (tt {0}) ((RightLent c a × AllMean m c a) ⊎ (RightLent c a × ¬ AllMean m c a)) (elim [ inl _ ↦ verdict.Yes | inr _ ↦ verdict.No ]) (λ _. tt {0})
       (WrongLent c a) (checked m c a) (tt {0})
-  check-answers = check-answers-owes m c a
+  check-answers m = check-answers-owes m c a
 
--- an entry is refused for no columns and no part; beyond the columns it is that of an unmade part
+-- an entry is what the columns hold, and refused for no columns and no part; beyond the columns it is that of an unmade part
 module _ (a : Entries) (v : ℕ) where
-  pub entry : Owed (λ _. entryOf unmade 0) (tt {0}) (Unit {0}) (λ _. entryAt a v) (λ _. tt {0}) (λ _. ⊥) (entryAt a v) (tt {0})
+  pub entry : Owed (λ _. entryOf unmade 0) (tt {0}) (Unit {0}) (λ _. entryOf (labels (a .labels) v) (getD (a .pieces) v 0)) (λ _. tt {0}) (λ _. ⊥) (entryAt a v) (tt {0})
   entry = entry-owes a v
 
   pub entry-behind : (n : ℕ) → SizedEntries n a → n ≤ v → entryAt a v ≡ entryOf unmade 0
   entry-behind n = entry-beyond a n v
 
--- "Reprice an unstruck line to 0 to 1,000,000,000." 1 to 7, 9, 10, 8
+-- "Reprice an unstruck line to 0 to 1,000,000,000." 1 to 7, 9, 10, 8. That the table as it then is has these answers, `reprice-checks` of Paper says
 module _ (m : Measure) (c : Columns) (a : Entries) (e w : ℕ) where
   pub reprice : Owed {L = List ℕ × Entries} Refused (c .own, a) (RightReprice m c a e w) (λ _. Accepted) (λ _. (set (c .own) e w, entriesOf m (withOwn c e w)))
       (WrongReprice m c a e w) (repriced m c a e w .result) (repriced m c a e w .own, repriced m c a e w .left)
@@ -112,7 +115,7 @@ module _ (m : Measure) (c : Columns) (a : Entries) (e : ℕ) where
   pub strike-fixed : Fixed (RightStrike m c a e) (WrongStrike m c a e)
   strike-fixed = fixed (strikeAcceptance m c a e) (strike-exactly m c a e) (strike-refused-exactly m c a e)
 
--- "Print a bill." 1 to 7, 11, 8, 12, 13. "A bill returns its length; the room behind it keeps its bytes." What `billOf` is, the bill's rule says
+-- "Print a bill." 1 to 7, 11, 8, 12, 13. "A bill returns its length; the room behind it keeps its bytes"
 module _ (m : Measure) (c : Columns) (a : Entries) (v : ℕ) (room : List ℕ) where
   pub bill : Owed extent.Refused room (RightBill m c a v (length room)) (λ _. extent.Length (length (billOf c (a .labels) v)))
       (λ _. billOf c (a .labels) v ++ drop (length (billOf c (a .labels) v)) room)
@@ -121,6 +124,11 @@ module _ (m : Measure) (c : Columns) (a : Entries) (v : ℕ) (room : List ℕ) w
 
   pub bill-fixed : Fixed (RightBill m c a v (length room)) (WrongBill m c a v (length room))
   bill-fixed = fixed (billAcceptance m c a v (length room)) (bill-exactly m c a v (length room)) (bill-refused-exactly m c a v (length room))
+
+-- "the line numbers of the chosen make-up, root first, then the bill of each listed part, in the order listed"
+pub bill-lists : (m : Measure) (c : Columns) (a : Entries) (v : ℕ) → RightLent c a → AllMean m c a → (t : Derivation (hypergraph c) v) → Follows (labels (a .labels)) t
+    → billOf c (a .labels) v ≡ listing t
+bill-lists m c a v l all t f = right-bill m c a v l (derived l t) all t .lists t f
 
 -- "Reading text: 14 at the first text line that breaks a rule …, then 15." "Reading returns n, the measure and the counts, and writes that many places of each column; the
 -- rest keep theirs. Spans are written from offset 0 without gaps"
@@ -167,42 +175,40 @@ pub measure-numbers : (measureOf 0 ≡ choice.Measure Cost) × (measureOf 1 ≡ 
 measure-numbers = (refl, refl, refl, λ k h. rw (ne-eqb k 0 (λ q. absurd (omega arith)), ne-eqb k 1 (λ q. absurd (omega arith)), ne-eqb k 2 (λ q. absurd (omega arith))) refl)
 
 -- "It gets one unsigned 64-bit number: on acceptance 0, for a bill its length; on a refusal the refusal's number times 4,294,967,296, plus the place"
-module _ (m : Measure) (c : Columns) (a : Entries) where
-  pub c-settle : settledResult (choice.Measure m) c a ≡ record { result = acceptanceResult (settled m c a .result); left = settled m c a .left }
-  c-settle = refl
+module _ (c : Columns) (a : Entries) where
+  pub c-settle : (m : Measure) → settledResult (choice.Measure m) c a ≡ record { result = acceptanceResult (settled m c a .result); left = settled m c a .left }
+  c-settle m = refl
 
-  pub c-reprice : (e w : ℕ) → let x = repriced m c a e w in repricedResult (choice.Measure m) c a e w ≡ record { result = acceptanceResult (x .result); own = x .own; left = x .left }
-  c-reprice e w = refl
+  pub c-reprice : (m : Measure) (e w : ℕ) → let x = repriced m c a e w in repricedResult (choice.Measure m) c a e w ≡ record { result = acceptanceResult (x .result); own = x .own; left = x .left }
+  c-reprice m e w = refl
 
   -- "A bill asked for from C counts room beyond 4,294,967,295 places as absent"
-  pub c-bill : (v : ℕ) (room : List ℕ) → let x = billed m c a v (take 4_294_967_295 room) in
+  pub c-bill : (m : Measure) (v : ℕ) (room : List ℕ) → let x = billed m c a v (take 4_294_967_295 room) in
       billedResult (choice.Measure m) c a v room ≡ record { result = extentResult (x .result); left = x .left ++ drop 4_294_967_295 room }
-  c-bill v room = refl
+  c-bill m v room = refl
 
--- a measure that is refused leaves everything as lent
-module _ (r : Refusal) (c : Columns) (a : Entries) where
-  pub c-settle-refused : settledResult (choice.Refused r) c a ≡ record { result = resultOf (codeOf r); left = a }
-  c-settle-refused = refl
+  -- a measure that is refused leaves everything as lent
+  pub c-settle-refused : (r : Refusal) → settledResult (choice.Refused r) c a ≡ record { result = resultOf (codeOf r); left = a }
+  c-settle-refused r = refl
 
-  pub c-reprice-refused : (e w : ℕ) → repricedResult (choice.Refused r) c a e w ≡ record { result = resultOf (codeOf r); own = c .own; left = a }
-  c-reprice-refused e w = refl
+  pub c-reprice-refused : (r : Refusal) (e w : ℕ) → repricedResult (choice.Refused r) c a e w ≡ record { result = resultOf (codeOf r); own = c .own; left = a }
+  c-reprice-refused r e w = refl
 
-  pub c-bill-refused : (v : ℕ) (room : List ℕ) → billedResult (choice.Refused r) c a v room ≡ record { result = resultOf (codeOf r); left = room }
-  c-bill-refused v room = refl
+  pub c-bill-refused : (r : Refusal) (v : ℕ) (room : List ℕ) → billedResult (choice.Refused r) c a v room ≡ record { result = resultOf (codeOf r); left = room }
+  c-bill-refused r v room = refl
 
--- the number tells the answer: below 4,294,967,296 it is an acceptance and the bill's length, else quotient and remainder are the refusal's number and its place
-module _ (k : ℕ) (c : Columns) (a : Entries) where
-  pub c-settle-tells : Decoded (measured (measureOf k) (λ m. extentOf (settled m c a .result))) (settledResult (measureOf k) c a .result)
-  c-settle-tells = settled-decoded k c a
+  -- the number tells the answer: below 4,294,967,296 it is an acceptance and the bill's length, else quotient and remainder are the refusal's number and its place
+  pub c-settle-tells : (k : ℕ) → Decoded (measured (measureOf k) (λ m. extentOf (settled m c a .result))) (settledResult (measureOf k) c a .result)
+  c-settle-tells k = settled-decoded k c a
 
-  pub c-reprice-tells : (e w : ℕ) → Decoded (measured (measureOf k) (λ m. extentOf (repriced m c a e w .result))) (repricedResult (measureOf k) c a e w .result)
-  c-reprice-tells = repriced-decoded k c a
+  pub c-reprice-tells : (k e w : ℕ) → Decoded (measured (measureOf k) (λ m. extentOf (repriced m c a e w .result))) (repricedResult (measureOf k) c a e w .result)
+  c-reprice-tells k = repriced-decoded k c a
 
-  pub c-bill-tells : (v : ℕ) (room : List ℕ)
+  pub c-bill-tells : (k v : ℕ) (room : List ℕ)
       → Decoded (measured (measureOf k) (λ m. billed m c a v (take 4_294_967_295 room) .result)) (billedResult (measureOf k) c a v room .result)
-  c-bill-tells = billed-decoded k c a
+  c-bill-tells k = billed-decoded k c a
 
--- the header's lists: the quotients by 4,294,967,296 of the numbers that each call can return, and no others (`List·Memᴰ`: n stands in the list); 0 is an acceptance
+-- the quotients by 4,294,967,296 of the numbers that each call can return, and no others (`List·Memᴰ`: n stands in the list): 0, an acceptance, and the header's list
 pub c-settle-numbers : (n : ℕ) → ((k : ℕ) × (c : Columns) × (a : Entries) × (settledResult (measureOf k) c a .result / 4_294_967_296 ≡ n))
     ↔ List·Memᴰ n (0 ∷ 16 ∷ 1 ∷ 2 ∷ 3 ∷ 4 ∷ 21 ∷ 5 ∷ 6 ∷ 7 ∷ [])
 c-settle-numbers = settle-numbers

@@ -1,6 +1,6 @@
 -- Demand 2. Every entry that settling leaves is the one that the paper defines by make-ups, and its figure is what document 000 says: in cost the provenance, in days the
 -- best weight. Assumes nothing.
-use mathlib.Core.Path.{_≡_, sym, _∙_, subst}
+use mathlib.Core.Path.{_≡_, refl, sym, _∙_, subst}
 use mathlib.Core.Logic.{_↔_}
 use mathlib.Core.List.{List}
 use Prim.Native.Nat.{ℕ, _≤_}
@@ -32,7 +32,7 @@ use Rattle.provenance.specs.BestWeight.{weighted}
 use Rattle.provenance.specs.Support.{ChosenDerivation, Supports}
 use Rattle.provenance.proofs.Meaning.{means-unique}
 use Rattle.tables.specs.Table.{hypergraph}
-use Rattle.settle.specs.Settling.{entriesOf, settled}
+use Rattle.settle.specs.Settling.{answersOf, entriesOf, settled}
 use Rattle.settle.specs.Checking.{checked}
 use Rattle.settle.specs.Defined.{AllMean}
 use Rattle.settle.specs.States.{StateMeans}
@@ -61,6 +61,11 @@ answers-exactly m c t a = (mean, same)
 
     same : SizedEntries (c .vertices) a × AllMean m c a → a ≡ entriesOf m c
     same (s, all) = yes-only m c a (yes-exactly m c a .1 (record { accepted = columns-accept c a p s; means = all }))
+
+-- three of their columns are what demand 3 compares
+pub answers-labels : (m : Measure) (c : Columns) → entriesOf m c .labels ≡ answersOf m c
+unfolding entriesOf
+answers-labels m c = refl
 
 module _ (m : Measure) (c : Columns) (a : Entries) (h : settled m c a .result ≡ Accepted) where
   pub settled-answers : settled m c a .left ≡ entriesOf m c
@@ -97,7 +102,7 @@ module _ (m : Measure) (c : Columns) (a : Entries) (h : settled m c a .result �
       go (derivable x) = absurd (omega (arith, made-deep (entry-means v) (x .shown)))
 
   -- The source: in cost and grade the figure is Definition 5's provenance, the sum over all derivations of the product over leaves; in days it is Definition 10's best
-  -- weight, the sum over all derivations of their weights; cost and days up to the ceiling, and unmade is the empty sum
+  -- weight, the sum over all derivations of their weights; cost and days up to the ceiling, and unmade is the empty sum. That these are semirings, Paper says
   pub entry-worth : (v : ℕ) → Worth m c (labels (settled m c a .left .labels) v) v
   entry-worth v = demand-2 m c a h v .worth
 

@@ -7,15 +7,14 @@ use Rattle.weights.specs.declared.Measure.{Measure}
 use Rattle.weights.specs.declared.Measure.the-variants.{Cost, Days, Grade}
 use Rattle.weights.specs.declared.State.the-variants.{Made, Unmade}
 use Rattle.refusal.specs.declared.Acceptance.the-variants.{Accepted}
-use Rattle.columns.specs.Columns.{Entries, Columns, ownAt, withOwn}
-use Rattle.columns.specs.Worked.{worked}
+use Rattle.columns.specs.Columns.{Entries, Columns, ownAt}
 use Rattle.settle.specs.Settling.{settled}
 use Rattle.reprice.specs.Repricing.{repriced}
-use Rattle.reprice.specs.Demand3.{labelsOf, stateIn, Pair, Demand3}
+use Rattle.reprice.specs.Demand3.{stateIn, Pair, Demand3}
 use Rattle.reprice.proofs.Demand3.{demand-3}
 use Rattle.bill.specs.Rises.{countIn, Demand3Billed}
 use Rattle.bill.proofs.Rises.{demand-3-billed}
-use Rattle.examples.proofs.Paper.{worked-pair}
+use Rattle.promises.specs.Figures.{figureIn}
 
 -- whole, with the counts taken in chosen make-ups, and in bills as they are printed
 pub of-make-ups : (m : Measure) (c c′ : Columns) (e d : ℕ) → Pair c c′ e d → Demand3 m c c′ e d
@@ -41,26 +40,16 @@ module _ (c c′ : Columns) (e d : ℕ) (p : Pair c c′ e d) where
 
   -- in cost, a part "made and within the ceiling" in both rises by at least d times the line's count in its new bill and at most d times that in its old bill; "this count
   -- and d times it are plain numbers without a ceiling"
-  pub cost-rises : (v : ℕ) → stateIn Cost c v ≡ Made → stateIn Cost c′ v ≡ Made →
-      let old = labelsOf Cost c v .weight .0 in
-      let new = labelsOf Cost c′ v .weight .0 in
-      (old + d * countIn Cost c′ e v ≤ new) × (new ≤ old + d * countIn Cost c e v)
+  pub cost-rises : (v : ℕ) → stateIn Cost c v ≡ Made → stateIn Cost c′ v ≡ Made
+      → (figureIn Cost c v + d * countIn Cost c′ e v ≤ figureIn Cost c′ v) × (figureIn Cost c′ v ≤ figureIn Cost c v + d * countIn Cost c e v)
   cost-rises v s s′ = let r = demand-3-billed Cost c c′ e d p .rises v s s′ in (r .least, r .most)
 
   -- in days by 0 to d
-  pub days-rises : (v : ℕ) → stateIn Days c v ≡ Made → stateIn Days c′ v ≡ Made →
-      let old = labelsOf Days c v .weight .0 in
-      let new = labelsOf Days c′ v .weight .0 in
-      (old ≤ new) × (new ≤ old + d)
+  pub days-rises : (v : ℕ) → stateIn Days c v ≡ Made → stateIn Days c′ v ≡ Made
+      → (figureIn Days c v ≤ figureIn Days c′ v) × (figureIn Days c′ v ≤ figureIn Days c v + d)
   days-rises v s s′ = let r = demand-3-billed Days c c′ e d p .rises v s s′ in (r .least, r .most)
 
   -- and in grade
-  pub grade-rises : (v : ℕ) → stateIn Grade c v ≡ Made → stateIn Grade c′ v ≡ Made →
-      let old = labelsOf Grade c v .weight .0 in
-      let new = labelsOf Grade c′ v .weight .0 in
-      (old ≤ new) × (new ≤ old + d)
+  pub grade-rises : (v : ℕ) → stateIn Grade c v ≡ Made → stateIn Grade c′ v ≡ Made
+      → (figureIn Grade c v ≤ figureIn Grade c′ v) × (figureIn Grade c′ v ≤ figureIn Grade c v + d)
   grade-rises v s s′ = let r = demand-3-billed Grade c c′ e d p .rises v s s′ in (r .least, r .most)
-
--- the worked table and that of P3 are such a pair
-pub worked-tables : Pair worked (withOwn worked 1 500) 1 200
-worked-tables = worked-pair

@@ -1,4 +1,5 @@
 pub mod Fixed
+pub mod Bills
 pub mod Demand1
 pub mod Demand2
 pub mod Demand3

@@ -27,7 +27,7 @@ use Rattle.columns.specs.Acceptance.{acceptance}
 use Rattle.columns.specs.Filled.{filled}
 use Rattle.columns.specs.Gaps.{Gapped, withTails}
 use Rattle.columns.specs.Right.{RightTable, WrongTable, RightLent}
-use Rattle.columns.proofs.Accepted.{both-accepted}
+use Rattle.columns.specs.Worked.{worked}
 use Rattle.columns.proofs.Exactly.{accepted-exactly, refused-exactly}
 use Rattle.columns.proofs.Gaps.{gaps-accepted}
 use Rattle.semiring.specs.Semiring.{Operations, Semiring, tropical}
@@ -47,12 +47,12 @@ use Rattle.settle.specs.Demands.{Demand2}
 use Rattle.settle.specs.Defined.{AllMean}
 use Rattle.settle.specs.States.{StateMeans}
 use Rattle.settle.proofs.States.{means-state}
+use Rattle.reprice.specs.Demand3.{Pair}
 use Rattle.reprice.specs.Repricing.{repriced, stricken}
 use Rattle.reprice.proofs.Changes.{reprice-leaves, strike-leaves}
-use Rattle.bill.specs.Billing.{billOf, partAcceptance, billAcceptance, billed}
+use Rattle.bill.specs.Billing.{billOf, billed}
 use Rattle.bill.specs.Bills.{IsBill, Printed}
-use Rattle.bill.proofs.Asked.{bill-exactly}
-use Rattle.bill.proofs.Bills.{part-accepted, is-bill, bill-printed}
+use Rattle.bill.proofs.Bills.{bill-printed}
 use Rattle.text.specs.Tables.{Table, closed}
 use Rattle.text.specs.Render.{Permitted}
 use Rattle.text.specs.Worked.{costText, daysText}
@@ -74,7 +74,8 @@ use Rattle.input.specs.Printed.{printed}
 use Rattle.input.proofs.Whole.{whole-reported}
 use Rattle.examples.specs.Case.{AllHold}
 use Rattle.examples.specs.Paper.{cases}
-use Rattle.examples.proofs.Paper.{every-case-holds}
+use Rattle.examples.proofs.Paper.{every-case-holds, worked-pair}
+use Rattle.promises.proofs.Bills.{right-bill}
 
 -- The source ---------------------------------------------------------------------------------------------------------------------------------------------------------
 
@@ -183,11 +184,7 @@ module _ (m : Measure) (c : Columns) (a : Entries) (e : ℕ) (h : stricken m c a
 module _ (m : Measure) (c : Columns) (a : Entries) (v : ℕ) where
   -- "Print a bill: the line numbers of the chosen make-up, root first, then the bill of each listed part, in the order listed", of every part that has a make-up
   pub bill-is : RightLent c a → v < c .vertices → AllMean m c a → Derivation (hypergraph c) v → IsBill m c (labels (a .labels)) v (billOf c (a .labels) v)
-  unfolding billAcceptance
-  bill-is l h all d =
-      let n = length (billOf c (a .labels) v) in
-      let p = bill-exactly m c a v n .1 (record { lent = l; part = h; answers = all; made = d; room = omega arith }) in
-      is-bill (part-accepted m c a v (both-accepted (partAcceptance m c a v) _ p .0))
+  bill-is = right-bill m c a v
 
   -- "A bill returns its length; the room behind it keeps its bytes"
   pub bill-returns : (room : List ℕ) (size : ℕ) → billed m c a v room .result ≡ extent.Length size → Printed m c a v room size (billed m c a v room .left)
@@ -245,6 +242,10 @@ worked-list = worked-cost
 
 pub worked-list-in-days : report daysText ≡ daysList
 worked-list-in-days = worked-days
+
+-- the worked table and that of P3 are a pair as demand 3 has it
+pub worked-tables : Pair worked (withOwn worked 1 500) 1 200
+worked-tables = worked-pair
 
 -- "Proved examples, gathered into one list that a single theorem about the definitions covers": P1 to P10
 pub examples : AllHold cases

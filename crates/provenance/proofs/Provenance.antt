@@ -1,6 +1,6 @@
--- Provenance: the cost of a part is Definition 5's provenance, the sum over derivations of the product over leaves, of the program that the table is, in the
--- tropical semiring (document 000, Definitions 5 and 8, Theorems 13 and 14). A provenance above the ceiling becomes "over". A part is unmade exactly if the sum is
--- empty. Assumes nothing.
+-- Provenance: where the weight function is the product, as in cost and grade, the figure of a part is Definition 5's provenance, the sum over derivations of the
+-- product over leaves, of the program that the table is (document 000, Definitions 5 and 8, Theorems 13 and 14), up to the ceiling; that of an unmade part is the
+-- empty sum. Assumes nothing.
 use mathlib.Core.Path.{_≡_, refl, sym, _∙_, ap, ap₂, subst}
 use mathlib.Core.List.{List, _∷_, map, map-append}
 use Prim.Native.Nat.{ℕ}

@@ -1,6 +1,5 @@
--- Total orders with a first and a last element, and the semiring of one: what the semirings of days and grade are made of. The two orders: ℕ with an element above
--- all, and that with one below all. Assumes nothing: these are definitions.
-use mathlib.Core.Path.{_≡_}
+-- The semiring of a total order with a first and a last element, by its test: those of days and grade. Their orders: ℕ with an element above all, and that with one
+-- below all. Assumes nothing: these are definitions.
 use mathlib.Core.Bool.{Bool, true, false, cond}
 use lib.Dec.{leb}
 use Rattle.semiring.specs.Semiring.{Operations, Extended, finite, infinite}

@@ -19,8 +19,8 @@ use Rattle.provenance.specs.BestWeight.{weighted}
 use Rattle.columns.specs.Columns.{Columns, ownAt}
 use Rattle.tables.specs.Table.{hypergraph}
 
--- of part v, whose label is l: in cost it is the provenance (Definition 5), in the tropical semiring; in days the best weight (Definition 10), on the bottleneck
--- semiring; in grade the provenance, in the semiring of grades
+-- what the source says of the figure of part v, whose label is l: in cost the provenance (Definition 5), in the tropical semiring; in days the best weight
+-- (Definition 10), on the bottleneck semiring; in grade the provenance, in the semiring of grades
 abbrev pub Worth : Measure → Columns → Label → ℕ → Type 0
 Worth Cost c l v = Valued (valuation Cost) (Provenance (program (valuation Cost) (hypergraph c) (ownAt c)) (part v)) l
 Worth Days c l v = Valued (valuation Days) (BestWeight (weighted (valuation Days) (hypergraph c) (ownAt c)) v) l
