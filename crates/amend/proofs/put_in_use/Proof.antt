@@ -23,6 +23,10 @@ slice-aggregate-put-text-4 c = sym (length-take-le _ _ (entry (c .before .before
 slice-aggregate-put-text-5 : tie.Need-slice-aggregate-put-text-5
 slice-aggregate-put-text-5 c = sym (length-take-le _ _ (entry (c .before .before .before .before) .pre .1 .tails))
 
+-- the place past the call, whose kept lengths are read off: a search would look for each of them
+abbrev past : tie.After-slice-known2 → tie.After-put-text
+past c = c .before .before
+
 pub put-in-use-spec : {M : Type 1} → statement M
 put-in-use-spec =
     tie.close
@@ -34,5 +38,5 @@ put-in-use-spec =
     slice-aggregate-put-text-4
     slice-aggregate-put-text-5
     (λ c κs. search needs)
-    (λ c. search needs)
+    (λ c. past c .put-text .kept .0)
     (λ c. search needs))

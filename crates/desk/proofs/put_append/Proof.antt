@@ -175,6 +175,10 @@ returns-2 c = let p = replied c in
     (ap (λ (z : Entries). indexedSaid (s .args .header) (lent s) z (replicate (2 * mostVertices) 0) (replicate mostListed 0) (line s)) (passed k) ∙ sym (accepted t))
     (p .put-indexed .ensures)
 
+-- the places past the calls, whose kept lengths are read off: a search would look for each of them
+abbrev past-put-refusal : tie.After-slice-known7 → tie.After-put-refusal
+past-put-refusal c = c .before .before
+
 pub put-append-spec : {M : Type 1} → statement M
 put-append-spec =
     tie.close
@@ -201,7 +205,7 @@ put-append-spec =
     (λ c κs. search needs)
     (λ c. search needs)
     (λ c κs. search needs)
-    (λ c. search needs)
+    (λ c. past-put-refusal c .put-refusal .kept .0)
     (λ c. search needs)
     (λ c. search needs)
     (λ c. search needs)

@@ -53,6 +53,13 @@ returns-4 c = let s = c .before .before .before .before .before .before .before 
     replied-as _ _ _ (mean-misused _ _ (s .args .count) (s .args .numbers .now) _ _ (c .enum-told2 .given .1))
     (record { status = refl; written = written-none _ })
 
+-- the places past the calls, whose kept lengths are read off: a search would look for each of them
+abbrev past-put-append : tie.After-slice-known12 → tie.After-put-append
+past-put-append c = c .before .before .before .before .before .before .before .before .before .before .before .before
+
+abbrev past-put-read : tie.After-slice-known15 → tie.After-put-read
+past-put-read c = c .before .before .before .before .before .before
+
 pub put-command-spec : {M : Type 1} → statement M
 put-command-spec =
     tie.close
@@ -66,17 +73,17 @@ put-command-spec =
     put-read-requires
     (λ c. search needs)
     (λ c. search needs)
-    (λ c. search needs)
-    (λ c. search needs)
-    (λ c. search needs)
-    (λ c. search needs)
-    (λ c. search needs)
-    (λ c. search needs)
+    (λ c. past-put-append c .put-append .kept .0)
+    (λ c. past-put-append c .put-append .kept .1 .1 .0)
+    (λ c. past-put-append c .put-append .kept .1 .1 .1 .0)
+    (λ c. past-put-append c .put-append .kept .1 .1 .1 .1 .0)
+    (λ c. past-put-append c .put-append .kept .1 .1 .1 .1 .1 .0)
+    (λ c. past-put-append c .put-append .kept .1 .1 .1 .1 .1 .1 .0)
     returns
+    (λ c. past-put-read c .put-read .kept .0)
     (λ c. search needs)
-    (λ c. search needs)
-    (λ c. search needs)
-    (λ c. search needs)
+    (λ c. past-put-read c .put-read .kept .1 .1 .1 .1 .0)
+    (λ c. past-put-read c .put-read .kept .1 .1 .1 .1 .1 .0)
     (λ c. search needs)
     (λ c. search needs)
     returns-2

@@ -121,6 +121,13 @@ returns-2 c = let p = appended c in
     (sym (made (p .before .before .before .before .before .before .before .before .before .before .before .before .before)))
     (p .put-appended .ensures)
 
+-- the places past the calls, whose kept lengths are read off: a search would look for each of them
+abbrev past-put-refusal : tie.After-slice-known15 → tie.After-put-refusal
+past-put-refusal c = c .before .before
+
+abbrev past-index-table : tie.After-slice-known15 → tie.After-index-table
+past-index-table c = c .before .before .before .before .before .before .before .before .before .before .before
+
 pub put-indexed-spec : {M : Type 1} → statement M
 put-indexed-spec =
     tie.close
@@ -139,14 +146,14 @@ put-indexed-spec =
     (λ c κs. search needs)
     (λ c. search needs)
     (λ c κs. search needs)
+    (λ c. past-put-refusal c .put-refusal .kept .0)
     (λ c. search needs)
     (λ c. search needs)
     (λ c. search needs)
     (λ c. search needs)
     (λ c. search needs)
-    (λ c. search needs)
-    (λ c. search needs)
-    (λ c. search needs)
+    (λ c. past-index-table c .index-table .kept .1 .1 .1 .1 .1 .1 .0)
+    (λ c. past-index-table c .index-table .kept .1 .1 .1 .1 .1 .1 .1 .0)
     returns
     (λ c. search needs)
     (λ c κs. search needs)

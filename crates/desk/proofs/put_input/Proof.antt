@@ -1,5 +1,4 @@
 -- `desk::put_input` meets its contract, by the length of the input and by what reading it returned. Assumes nothing.
-use mathlib.Core.Path.{_≡_}
 use Prim.Native.Nat.{_≤_}
 use native.Mathlib.Omega.{arith}
 use borrow.Author.Needs.{needs}
@@ -53,12 +52,22 @@ returns-3 c =
     (table-said (s .args .second .now) (s .args .command) (s .args .count) (s .args .numbers .now) (s .args .input .now) (short e) _ _ _ _ _ _ (r .read-table .ensures) _ (q .reading2 .given .1))
     (p .put-command .ensures)
 
+-- the places past the calls, whose kept lengths are read off: a search would look for each of them
+abbrev past-put-refusal : tie.After-slice-known2 → tie.After-put-refusal
+past-put-refusal c = c .before .before
+
+abbrev past-put-refusal2 : tie.After-slice-known3 → tie.After-put-refusal2
+past-put-refusal2 c = c .before .before
+
+abbrev past-put-command : tie.After-tails4 → tie.After-put-command
+past-put-command c = c .before .before .before .before .before .before .before
+
 pub put-input-spec : {M : Type 1} → statement M
 put-input-spec =
     tie.close
     (tie.spec
     (λ c κs. search needs)
-    (λ c. search needs)
+    (λ c. past-put-refusal c .put-refusal .kept .0)
     returns
     (λ c. search needs)
     (λ c. search needs)
@@ -75,7 +84,7 @@ put-input-spec =
     (λ c. search needs)
     (λ c. search needs)
     put-command-requires
-    (λ c. search needs)
+    (λ c. past-put-refusal2 c .put-refusal2 .kept .0)
     returns-2
-    (λ c. search needs)
+    (λ c. past-put-command c .put-command .kept .0)
     returns-3)
