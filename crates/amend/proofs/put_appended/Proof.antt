@@ -63,7 +63,8 @@ returns c =
     let k = past-append c in
     let s = entry k in
     replied-as (appended-refused (s .args .measure) (tableOf s) (s .args .in-use) (came s) (s .args .index .now) (s .args .list .now) (line s) (k .append .result) (grown k) (left k)
-    (k .append .last .1 .1 .1 .1 .1 .1 .1 .1 .1 .1 .1 .1 .0) (k .append .last .1 .1 .1 .1 .1 .1 .1 .1 .1 .1 .1 .1 .1 .0) (k .append .ensures) (x .answer .given .0 .0) (x .answer .given .1)) refl (p .put-refusal .ensures)
+    (k .append .last .1 .1 .1 .1 .1 .1 .1 .1 .1 .1 .1 .1 .0) (k .append .last .1 .1 .1 .1 .1 .1 .1 .1 .1 .1 .1 .1 .1 .0) (k .append .ensures)
+    (x .answer .given .0 .0) (x .answer .given .1)) refl (p .put-refusal .ensures)
 
 put-in-use-requires : tie.Need-put-in-use-requires
 put-in-use-requires c κs =
@@ -82,7 +83,8 @@ returns-2 c =
     let k = past-append-2 c in
     let s = entry k in
     replied-as (appended-counts (s .args .measure) (tableOf s) (s .args .in-use) (came s) (s .args .index .now) (s .args .list .now) (line s) (k .append .result) (grown k) (left k)
-    (k .append .last .1 .1 .1 .1 .1 .1 .1 .1 .1 .1 .1 .1 .0) (k .append .last .1 .1 .1 .1 .1 .1 .1 .1 .1 .1 .1 .1 .1 .0) (k .append .ensures) (x .answer2 .given .0 .0) (x .answer2 .given .1)) refl (p .put-in-use .ensures)
+    (k .append .last .1 .1 .1 .1 .1 .1 .1 .1 .1 .1 .1 .1 .0) (k .append .last .1 .1 .1 .1 .1 .1 .1 .1 .1 .1 .1 .1 .1 .0) (k .append .ensures)
+    (x .answer2 .given .0 .0) (x .answer2 .given .1)) refl (p .put-in-use .ensures)
 
 pub put-appended-spec : {M : Type 1} → statement M
 put-appended-spec =

@@ -41,7 +41,8 @@ returns c =
     let x = p .before .before .before in
     let k = past-strike c in
     let s = entry k in
-    replied-as (stricken-refused (s .args .measure) (tableOf s) (came s) (s .args .line .0) (k .strike .result) (k .strike .last .1 .1 .1 .1 .0) (left k) (k .strike .ensures) (x .answer .given .0 .0) (x .answer .given .1)) refl (p .put-refusal .ensures)
+    replied-as (stricken-refused (s .args .measure) (tableOf s) (came s) (s .args .line .0) (k .strike .result) (k .strike .last .1 .1 .1 .1 .0) (left k)
+    (k .strike .ensures) (x .answer .given .0 .0) (x .answer .given .1)) refl (p .put-refusal .ensures)
 
 returns-2 : tie.Need-returns-2
 returns-2 c =
@@ -49,7 +50,8 @@ returns-2 c =
     let x = p .before .before .before in
     let k = past-strike-2 c in
     let s = entry k in
-    replied-as (stricken-accepted (s .args .measure) (tableOf s) (came s) (s .args .line .0) (k .strike .result) (k .strike .last .1 .1 .1 .1 .0) (left k) (k .strike .ensures) (x .enum-told .given .1)) refl (p .put-text .ensures)
+    replied-as (stricken-accepted (s .args .measure) (tableOf s) (came s) (s .args .line .0) (k .strike .result) (k .strike .last .1 .1 .1 .1 .0) (left k)
+    (k .strike .ensures) (x .enum-told .given .1)) refl (p .put-text .ensures)
 
 pub put-stricken-spec : {M : Type 1} → statement M
 put-stricken-spec =

@@ -77,49 +77,56 @@ returns c =
     let p = past-put-entries c in
     let q = p .before .before .before .before .before .before in
     let s = q .before .before .before .before .before .before .before .before .before .before .before .before .before in
-    replied-as (s .args .room .now) _ (p .put-entries .last .0) (price-said (s .args .second .now) (s .args .question) (s .args .measure) (tableOf s) (came s) (length (s .args .room .now)) (q .enum-told .given .1) (s .pre)) (p .put-entries .ensures)
+    replied-as (s .args .room .now) _ (p .put-entries .last .0) (price-said (s .args .second .now) (s .args .question) (s .args .measure) (tableOf s) (came s)
+    (length (s .args .room .now)) (q .enum-told .given .1) (s .pre)) (p .put-entries .ensures)
 
 returns-2 : tie.Need-returns-2
 returns-2 c =
     let p = past-put-bill c in
     let q = p .before .before .before .before .before .before .before .before .before in
     let s = q .before .before .before .before .before .before .before .before .before .before .before .before .before in
-    replied-as (s .args .room .now) _ (p .put-bill .last .0) (bill-said (s .args .second .now) (s .args .question) (s .args .measure) (tableOf s) (came s) (q .question .given .0 .0) (q .question .given .1)) (p .put-bill .ensures)
+    replied-as (s .args .room .now) _ (p .put-bill .last .0) (bill-said (s .args .second .now) (s .args .question) (s .args .measure) (tableOf s) (came s)
+    (q .question .given .0 .0) (q .question .given .1)) (p .put-bill .ensures)
 
 returns-3 : tie.Need-returns-3
 returns-3 c =
     let p = past-put-repriced c in
     let q = p .before .before .before .before .before .before .before .before .before in
     let s = q .before .before .before .before .before .before .before .before .before .before .before .before .before in
-    replied-as (s .args .room .now) _ (p .put-repriced .last .0) (reprice-said (s .args .second .now) (s .args .question) (s .args .measure) (tableOf s) (came s) _ _ (q .question2 .given .1)) (p .put-repriced .ensures)
+    replied-as (s .args .room .now) _ (p .put-repriced .last .0)
+    (reprice-said (s .args .second .now) (s .args .question) (s .args .measure) (tableOf s) (came s) _ _ (q .question2 .given .1)) (p .put-repriced .ensures)
 
 returns-4 : tie.Need-returns-4
 returns-4 c =
     let p = past-put-stricken c in
     let q = p .before .before .before .before .before .before .before .before .before in
     let s = q .before .before .before .before .before .before .before .before .before .before .before .before .before in
-    replied-as (s .args .room .now) _ (p .put-stricken .last .0) (strike-said (s .args .second .now) (s .args .question) (s .args .measure) (tableOf s) (came s) (q .question3 .given .0 .0) (q .question3 .given .1)) (p .put-stricken .ensures)
+    replied-as (s .args .room .now) _ (p .put-stricken .last .0) (strike-said (s .args .second .now) (s .args .question) (s .args .measure) (tableOf s) (came s)
+    (q .question3 .given .0 .0) (q .question3 .given .1)) (p .put-stricken .ensures)
 
 returns-5 : tie.Need-returns-5
 returns-5 c =
     let p = past-put-restored c in
     let q = p .before .before .before .before .before .before .before .before .before in
     let s = q .before .before .before .before .before .before .before .before .before .before .before .before .before in
-    replied-as (s .args .room .now) _ (p .put-restored .last .0) (restore-said (s .args .second .now) (s .args .question) (s .args .measure) (tableOf s) (came s) (q .question4 .given .0 .0) (q .question4 .given .1)) (p .put-restored .ensures)
+    replied-as (s .args .room .now) _ (p .put-restored .last .0) (restore-said (s .args .second .now) (s .args .question) (s .args .measure) (tableOf s) (came s)
+    (q .question4 .given .0 .0) (q .question4 .given .1)) (p .put-restored .ensures)
 
 returns-6 : tie.Need-returns-6
 returns-6 c =
     let p = past-put-comparison c in
     let q = p .before .before .before .before .before .before in
     let s = q .before .before .before .before .before .before .before .before .before .before .before .before .before in
-    replied-as (s .args .room .now) _ (p .put-comparison .last .0) (compare-said (s .args .second .now) (s .args .question) (s .args .measure) (tableOf s) (came s) (q .enum-told2 .given .1)) (p .put-comparison .ensures)
+    replied-as (s .args .room .now) _ (p .put-comparison .last .0)
+    (compare-said (s .args .second .now) (s .args .question) (s .args .measure) (tableOf s) (came s) (q .enum-told2 .given .1)) (p .put-comparison .ensures)
 
 returns-7 : tie.Need-returns-7
 returns-7 c =
     let p = past-put-replay c in
     let q = p .before .before .before .before .before .before .before .before in
     let s = q .before .before .before .before .before .before .before .before .before .before .before .before .before in
-    replied-as (s .args .room .now) _ (p .put-replay .last .0) (replay-said (s .args .second .now) (s .args .question) (s .args .measure) (tableOf s) (came s) (q .enum-told3 .given .1)) (p .put-replay .ensures)
+    replied-as (s .args .room .now) _ (p .put-replay .last .0)
+    (replay-said (s .args .second .now) (s .args .question) (s .args .measure) (tableOf s) (came s) (q .enum-told3 .given .1)) (p .put-replay .ensures)
 
 pub put-answer-spec : {M : Type 1} → statement M
 put-answer-spec =

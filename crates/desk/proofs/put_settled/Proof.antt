@@ -64,7 +64,8 @@ returns-2 c =
     let e = p .before .before .before .before .before .before .before .before in
     let k = e .before .before .before .before .before .before .before .before .before .before in
     let s = entry k in
-    replied-as (s .args .room .now) _ (p .put-answer .last .0) (settled-accepted (s .args .measure) (tableOf s) (came s) (k .settle .result) (left k) (k .settle .ensures) (saidOf s) (e .enum-told .given .1)) (p .put-answer .ensures)
+    replied-as (s .args .room .now) _ (p .put-answer .last .0) (settled-accepted (s .args .measure) (tableOf s) (came s) (k .settle .result) (left k)
+    (k .settle .ensures) (saidOf s) (e .enum-told .given .1)) (p .put-answer .ensures)
 
 pub put-settled-spec : {M : Type 1} → statement M
 put-settled-spec =
