@@ -1,4 +1,7 @@
 // The commands that change a table and print its text as it then is.
+
+#![tactic(auto)]
+
 ghost use Rattle.std.specs.Prelude.{◌≤◌, length};
 ghost use Rattle.weights.specs.Figures.{standing};
 ghost use Rattle.columns.specs.Columns.{columns, entries};

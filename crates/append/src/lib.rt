@@ -1,6 +1,9 @@
 // Appending a line to a table whose columns are lent with places to spare, together with the counts
 // in use. Everything is checked before anything lent is written; then the line is stored, and index
 // and answers are those of the longer table.
+
+#![tactic(auto)]
+
 ghost use Rattle.std.specs.Prelude.{◌≡◌, ◌++◌, ◌+◌, ◌*◌, ◌≤◌, length, set, take, drop, leb};
 ghost use Rattle.columns.specs.Columns.{columns, entries};
 ghost use Rattle.columns.specs.Acceptance.{most_listed, and_then};

@@ -1,5 +1,8 @@
 // Best-first over a table in columns: a turn labels the head of the least key in the queue, what
 // waited for that head goes on, and the key is taken out.
+
+#![tactic(auto)]
+
 ghost use Rattle.std.specs.Prelude.{◌≡◌};
 ghost use Rattle.weights.specs.Measures.{algebra};
 ghost use Rattle.provenance.specs.BestFirst.{put, turn, best_first};

@@ -2,6 +2,9 @@
 // of each vertex of the root's tail, in order. A bill is measured before it is written: its length from
 // the lengths of the bills below it, each worked out once, so that a long bill is refused as soon as a
 // short one.
+
+#![tactic(auto)]
+
 ghost use Rattle.std.specs.Prelude.{◌≡◌, ◌≤◌, length};
 ghost use Rattle.columns.specs.Columns.{columns, entries};
 ghost use Rattle.columns.specs.Acceptance.{most_vertices};
@@ -12,7 +15,7 @@ use refusal::{Acceptance, Extent, Refusal};
 use weights::{Hyperedge, Measure, Vertex};
 
 // What is left of the room that a bill may take.
-#[derive(Drop)]
+#[derive(Clone, Copy)]
 enum Budget {
     Left(usize),
     Spent,
@@ -290,7 +293,7 @@ fn print(
     room: &mut [u64],
 ) -> Extent
     requires { (Grounded spans.now tails.now edges.now depth v.0) × (length edges.now ≤ most_vertices) }
-    ensures* { λ r. ⌜ record { result = r; left = room.new } ≡ printed (vertex_bill spans.now tails.now edges.now depth v.0) room.old ⌝ }
+    ensures { record { result = result; left = room.new } ≡ printed (vertex_bill spans.now tails.now edges.now depth v.0) room.old }
 {
     let budget = spend_all(depth, v, spans, tails, edges, room.len());
     match budget {
@@ -317,10 +320,10 @@ pub fn bill(
     part: Vertex,
     room: &mut [u64],
 ) -> Extent
-    ensures* { λ r.
+    ensures {
         let c = columns n heads.now own.now strikes.now spans.now tails.now in
         let a = entries weights.now depths.now edges.now pieces.now in
-        ⌜ record { result = r; left = room.new } ≡ billed measure c a part.0 room.old ⌝ }
+        record { result = result; left = room.new } ≡ billed measure c a part.0 room.old }
 {
     let a = check_part(
         measure, n, heads, own, strikes, spans, tails, weights, depths, edges, pieces, part,

@@ -1,6 +1,9 @@
 // The check of a table that is lent as columns of numbers, which may have any lengths and hold any
 // numbers. Hyperedge e has the head heads[e], the own weight own[e], the strike mark strikes[e], and
 // the tail of spans[2 * e + 1] vertices that starts at spans[2 * e] in tails.
+
+#![tactic(auto)]
+
 ghost use Rattle.std.specs.Prelude.{◌≡◌, ◌*◌, ◌≤◌, length, replicate};
 ghost use Rattle.columns.specs.Columns.{columns, entries, tail_of};
 ghost use Rattle.columns.specs.Filled.{filled};

@@ -1,5 +1,8 @@
 // A desk's command, read from a line of words: its name and its numbers, single spaces between them
 // and an LF behind the last.
+
+#![tactic(auto)]
+
 ghost use Rattle.std.specs.Prelude.{◌≡◌, length};
 ghost use Rattle.command.specs.Command.{most_numbers, named, name_in, found_number, next_at, numbers_from, takes, as_command, line_with, command_in, question_second, query_second, command_second, takes_second};
 
@@ -13,7 +16,7 @@ pub const MOST_NUMBERS: usize = 18;
 // One more than the greatest number that an argument can be: eighteen digits.
 const LIMIT: u64 = 1000000000000000000;
 
-#[derive(Drop)]
+#[derive(Clone, Copy)]
 pub enum Name {
     Price,
     Bill,
@@ -31,7 +34,7 @@ pub enum Name {
 }
 
 // A name, and the place behind it.
-#[derive(Drop)]
+#[derive(Clone, Copy)]
 pub struct Named {
     pub name: Name,
     pub stop: usize,
@@ -39,7 +42,7 @@ pub struct Named {
 
 // What stands behind a name or a number: one more number and the place behind it, the line's end,
 // or something else.
-#[derive(Drop)]
+#[derive(Clone, Copy)]
 pub enum Next {
     Number(u64, usize),
     End,
@@ -47,14 +50,14 @@ pub enum Next {
 }
 
 // How many numbers a line has, or that it has something else.
-#[derive(Drop)]
+#[derive(Clone, Copy)]
 pub enum Numbers {
     Count(usize),
     Wrong,
 }
 
 // What is asked of a table and its answers.
-#[derive(Drop)]
+#[derive(Clone, Copy)]
 pub enum Question {
     Price,
     Bill(Vertex),
@@ -66,7 +69,7 @@ pub enum Question {
 }
 
 // What is asked of a table.
-#[derive(Drop)]
+#[derive(Clone, Copy)]
 pub enum Query {
     Settled(Question),
     Uses(Vertex),
@@ -75,7 +78,7 @@ pub enum Query {
 }
 
 // A command. The vertices that an appended line lists are its numbers from the third on.
-#[derive(Drop)]
+#[derive(Clone, Copy)]
 pub enum Command {
     Ask(Query),
     Append(Vertex, Weight),
@@ -84,7 +87,7 @@ pub enum Command {
 }
 
 // A command, and how many numbers it has.
-#[derive(Drop)]
+#[derive(Clone, Copy)]
 pub struct Line {
     pub command: Command,
     pub count: usize,

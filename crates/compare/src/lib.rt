@@ -1,5 +1,8 @@
 // Two tables side by side: a row for each part that differs, with its state and its figure in
 // both.
+
+#![tactic(auto)]
+
 ghost use Rattle.std.specs.Prelude.{◌≡◌, ◌*◌, ◌≤◌, max, length};
 ghost use Rattle.columns.specs.Columns.{columns, entries};
 ghost use Rattle.columns.specs.Acceptance.{most_vertices};

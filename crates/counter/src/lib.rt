@@ -1,5 +1,8 @@
 // The calls of a counter program that is written in C. The measure comes as a number and is checked
 // before everything; each call gives one number.
+
+#![tactic(auto)]
+
 ghost use Rattle.std.specs.Prelude.{◌≡◌, min};
 ghost use Rattle.refusal.specs.Refusals.{measure_of};
 ghost use Rattle.columns.specs.Columns.{columns, entries};
@@ -22,11 +25,11 @@ pub extern "C" fn settle(
     edges: &mut [u64],
     pieces: &mut [u64],
 ) -> u64
-    ensures* { λ r.
+    ensures {
         let c = columns n heads.now own.now strikes.now spans.now tails.now in
         let a = entries weights.old depths.old edges.old pieces.old in
         let a' = entries weights.new depths.new edges.new pieces.new in
-        ⌜ record { result = r; left = a' } ≡ settled_result (measure_of measure) c a ⌝ }
+        record { result = result; left = a' } ≡ settled_result (measure_of measure) c a }
 {
     let choice = refusal::measure_numbered(measure);
     match choice {
@@ -56,11 +59,11 @@ pub extern "C" fn reprice(
     line: u64,
     figure: u64,
 ) -> u64
-    ensures* { λ r.
+    ensures {
         let c = columns n heads.now own.old strikes.now spans.now tails.now in
         let a = entries weights.old depths.old edges.old pieces.old in
         let a' = entries weights.new depths.new edges.new pieces.new in
-        ⌜ record { result = r; own = own.new; left = a' } ≡ repriced_result (measure_of measure) c a line figure ⌝ }
+        record { result = result; own = own.new; left = a' } ≡ repriced_result (measure_of measure) c a line figure }
 {
     let choice = refusal::measure_numbered(measure);
     match choice {
@@ -116,10 +119,10 @@ pub extern "C" fn bill(
     part: u64,
     room: &mut [u64],
 ) -> u64
-    ensures* { λ r.
+    ensures {
         let c = columns n heads.now own.now strikes.now spans.now tails.now in
         let a = entries weights.now depths.now edges.now pieces.now in
-        ⌜ record { result = r; left = room.new } ≡ billed_result (measure_of measure) c a part room.old ⌝ }
+        record { result = result; left = room.new } ≡ billed_result (measure_of measure) c a part room.old }
 {
     let choice = refusal::measure_numbered(measure);
     match choice {

@@ -1,5 +1,8 @@
 // What stands at a place of a text: a byte, a number, an own weight, a separator, the text's end. Each
 // is read from left to right, and nothing behind the byte that ends it is looked at.
+
+#![tactic(auto)]
+
 ghost use Rattle.std.specs.Prelude.{◌≡◌, length, get_or, leb, ◌+◌};
 ghost use Rattle.weights.specs.Figures.{greatest};
 ghost use Rattle.text.specs.Machine.{digit_of};
@@ -9,7 +12,7 @@ ghost use Rattle.cursor.specs.Cursor.{token, number_at, as_weight, marked_from, 
 use weights::{Mark, Weight};
 
 // A number, or none where one was looked for.
-#[derive(Drop)]
+#[derive(Clone, Copy)]
 pub enum Found {
     Number(u64),
     NotANumber,
@@ -17,7 +20,7 @@ pub enum Found {
 
 // Where the reading of a number began, where it stopped, found or not, and what it found. It stops at
 // the first byte that can't go on with the number, or at the text's end.
-#[derive(Drop)]
+#[derive(Clone, Copy)]
 pub struct Token {
     pub start: usize,
     pub stop: usize,
@@ -25,14 +28,14 @@ pub struct Token {
 }
 
 // An own weight and the strike mark of its line.
-#[derive(Drop)]
+#[derive(Clone, Copy)]
 pub enum FoundWeight {
     Own(Weight, Mark),
     NotAWeight,
 }
 
 // The same of an own weight, which begins at the `-` of a struck line.
-#[derive(Drop)]
+#[derive(Clone, Copy)]
 pub struct WeightToken {
     pub start: usize,
     pub stop: usize,
@@ -40,7 +43,7 @@ pub struct WeightToken {
 }
 
 // A single space or the end of a line, with the place behind it.
-#[derive(Drop)]
+#[derive(Clone, Copy)]
 pub enum Separator {
     Space(usize),
     LineEnd(usize),

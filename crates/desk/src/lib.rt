@@ -1,4 +1,7 @@
 // The program for the desks: a command over a table's text, and what it prints.
+
+#![tactic(auto)]
+
 ghost use Rattle.std.specs.Prelude.{◌≡◌, [], ◌≤◌, length};
 ghost use Rattle.refusal.specs.declared.Acceptance.TheVariants.{Accepted};
 ghost use Rattle.columns.specs.Columns.{columns, entries};

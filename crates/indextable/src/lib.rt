@@ -1,4 +1,7 @@
 // The index of a table that is lent as columns: which lines need a part.
+
+#![tactic(auto)]
+
 ghost use Rattle.std.specs.Prelude.{◌≡◌, ◌*◌, ◌≤◌, length, take};
 ghost use Rattle.columns.specs.Columns.{columns, tail_of};
 ghost use Rattle.uses.specs.Uses.{pairs_in};
@@ -19,12 +22,12 @@ fn index_with(
     list: &mut [u64],
 ) -> Extent
     requires { Measurable spans.now tails.now pairs.old }
-    ensures* { λ r.
+    ensures {
         let n = pairs_in pairs.old in
         let x = index_by (tail_of spans.now tails.now) (pairs_in spans.now) n in
         let i = index.old in
         let l = list.old in
-        ⌜ record { result = r; index = index.new; list = list.new } ≡ index_outcome x i l (index_room n (length x.list) i l) ⌝ }
+        record { result = result; index = index.new; list = list.new } ≡ index_outcome x i l (index_room n (length x.list) i l) }
 {
     if index.len() < pairs.len() {
         return Extent::Refused(Refusal::ColumnRoom);
@@ -48,11 +51,11 @@ fn index_in(
     list: &mut [u64],
 ) -> Extent
     requires { (Measurable spans.now tails.now (take (2 * n) room.old)) × (2 * n ≤ length room.old) }
-    ensures* { λ r.
+    ensures {
         let x = index_by (tail_of spans.now tails.now) (pairs_in spans.now) n in
         let i = index.old in
         let l = list.old in
-        ⌜ record { result = r; index = index.new; list = list.new } ≡ index_outcome x i l (index_room n (length x.list) i l) ⌝ }
+        record { result = result; index = index.new; list = list.new } ≡ index_outcome x i l (index_room n (length x.list) i l) }
 {
     let places = 2 * n as usize;
     index_with(spans, tails, &mut room[..places], index, list)
@@ -70,9 +73,9 @@ pub fn index_table(
     index: &mut [u64],
     list: &mut [u64],
 ) -> Extent
-    ensures* { λ r.
+    ensures {
         let c = columns n heads.now own.now strikes.now spans.now tails.now in
-        ⌜ record { result = r; index = index.new; list = list.new } ≡ table_indexed c index.old list.old ⌝ }
+        record { result = result; index = index.new; list = list.new } ≡ table_indexed c index.old list.old }
 {
     let a = columns::check_table(n, heads, own, strikes, spans, tails);
     match a {

@@ -1,4 +1,7 @@
 // A program's input, read whole.
+
+#![tactic(auto)]
+
 ghost use Rattle.std.specs.Prelude.{◌≡◌, length};
 ghost use Rattle.io.specs.Counts.{IsPrefixLen};
 ghost use Rattle.input.specs.Input.{buffer_length, Ended};
@@ -6,7 +9,7 @@ ghost use Rattle.input.specs.Input.{buffer_length, Ended};
 use libc::STDIN_FILENO;
 
 // A reading at its end: how many bytes came, and the last answer of `read`.
-#[derive(Drop)]
+#[derive(Clone, Copy)]
 pub struct Read {
     pub count: usize,
     pub last: isize,

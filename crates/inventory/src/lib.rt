@@ -1,5 +1,8 @@
 // Replaying a record of receipts and orders over the counts of a shelf: what became of each event, and
 // what is left.
+
+#![tactic(auto)]
+
 ghost use Rattle.std.specs.Prelude.{◌≡◌, true, ◌≤◌, ◌<◌, length};
 ghost use Rattle.columns.specs.Columns.{columns, entries, cell};
 ghost use Rattle.provenance.specs.Counting.{count};
@@ -15,7 +18,7 @@ pub const MOST_EVENTS: usize = 4096;
 pub const MOST_STOCK: u64 = 1000000;
 
 // What becomes of an event.
-#[derive(Drop)]
+#[derive(Clone, Copy)]
 enum Fulfilment {
     // A receipt: its pieces are on the shelf.
     Received,
@@ -42,7 +45,7 @@ impl Fulfilment {
 }
 
 // What an event comes to.
-#[derive(Drop)]
+#[derive(Clone, Copy)]
 enum Step {
     Done(Fulfilment),
     Refused(Refusal),
@@ -145,7 +148,7 @@ fn fulfil(
 // wrap.
 fn receive(i: Event, v: Vertex, pieces: u64, stock: &mut [u64]) -> Step
     requires { (v.0 < length stock.old) × (cell stock.old v.0 ≤ most_stock) }
-    ensures* { λ r. ⌜ record { result = r; stock = stock.new } ≡ receive i.0 stock.old v.0 pieces ⌝ }
+    ensures { record { result = result; stock = stock.new } ≡ receive i.0 stock.old v.0 pieces }
 {
     let place = v.0 as usize;
     let held = stock[place];
@@ -168,9 +171,9 @@ fn apply_event(
     stock: &mut [u64],
 ) -> Step
     requires { (Buildable spans.now tails.now depths.now edges.now (length stock.old)) × (Low stock.old) }
-    ensures* { λ r.
+    ensures {
         let lists = chosen_tail spans.now tails.now depths.now edges.now in
-        ⌜ record { result = r; stock = stock.new } ≡ apply_event lists i.0 v.0 pieces stock.old ⌝ }
+        record { result = result; stock = stock.new } ≡ apply_event lists i.0 v.0 pieces stock.old }
 {
     if v.0 >= stock.len() as u64 {
         return Step::Refused(Refusal::EventVertex(i));
@@ -237,10 +240,10 @@ fn replay_on(
     numbers: &mut [u64],
 ) -> Acceptance
     requires { (Replayable spans.now tails.now depths.now edges.now parts.now received.now stock.old outcomes.old) × (Copied stock.old outcomes.old counts.old numbers.old) }
-    ensures* { λ r.
+    ensures {
         let lists = chosen_tail spans.now tails.now depths.now edges.now in
         let run = replay_from lists 0 parts.now received.now stock.old in
-        ⌜ record { result = r; stock = stock.new; outcomes = outcomes.new } ≡ concluded run stock.old outcomes.old ⌝ }
+        record { result = result; stock = stock.new; outcomes = outcomes.new } ≡ concluded run stock.old outcomes.old }
 {
     columns::put(stock, counts);
     let a = replay_events(
@@ -353,10 +356,10 @@ pub fn replay(
     stock: &mut [u64],
     outcomes: &mut [u64],
 ) -> Acceptance
-    ensures* { λ r.
+    ensures {
         let c = columns n heads.now own.now strikes.now spans.now tails.now in
         let a = entries weights.now depths.now edges.now pieces.now in
-        ⌜ record { result = r; stock = stock.new; outcomes = outcomes.new } ≡ replayed measure c a parts.now received.now stock.old outcomes.old ⌝ }
+        record { result = result; stock = stock.new; outcomes = outcomes.new } ≡ replayed measure c a parts.now received.now stock.old outcomes.old }
 {
     let a = check_open(
         measure, n, heads, own, strikes, spans, tails, weights, depths, edges, pieces, parts,

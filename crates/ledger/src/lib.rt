@@ -1,5 +1,8 @@
 // The stock clerk's record, written as a text, replayed over a table's answers: what became of each
 // event, then the final counts.
+
+#![tactic(auto)]
+
 ghost use Rattle.std.specs.Prelude.{◌≡◌, ◌+◌, ◌*◌, ◌≤◌, ◌<◌, ◌^◌, length};
 ghost use Rattle.columns.specs.Columns.{columns, entries};
 ghost use Rattle.inventory.specs.Shelf.{most_events};
@@ -25,7 +28,7 @@ const LIMIT: u64 = 1000000000000000000;
 
 // What stands behind a word or a number: a single space and a number, with the place behind it; the
 // line's end, with the place of the next line; or a byte that can't stand there.
-#[derive(Drop)]
+#[derive(Clone, Copy)]
 pub enum Next {
     Number(u64, usize),
     End(usize),
@@ -33,7 +36,7 @@ pub enum Next {
 }
 
 // How many counts a shelf has, with the place of the next line; or a byte that can't stand there.
-#[derive(Drop)]
+#[derive(Clone, Copy)]
 pub enum Counts {
     Count(usize, usize),
     Wrong(usize),
@@ -41,7 +44,7 @@ pub enum Counts {
 
 // A line of an event: its part, its pieces and the place of the next line; a byte that can't stand
 // there; or nothing more.
-#[derive(Drop)]
+#[derive(Clone, Copy)]
 pub enum EventLine {
     Event(u64, u64, usize),
     Wrong(usize),
@@ -49,14 +52,14 @@ pub enum EventLine {
 }
 
 // How many events a record has, or its refusal.
-#[derive(Drop)]
+#[derive(Clone, Copy)]
 pub enum Events {
     Count(usize),
     Refused(Refusal),
 }
 
 // How many counts and events a record has, or its refusal.
-#[derive(Drop)]
+#[derive(Clone, Copy)]
 pub enum Record {
     Read(usize, usize),
     Refused(Refusal),
@@ -201,9 +204,9 @@ fn read_events(text: &[u8], from: usize, parts: &mut [u64], received: &mut [u64]
 // The opening counts and the events of a text, put into columns.
 fn read_record(text: &[u8], shelf: &mut [u64], parts: &mut [u64], received: &mut [u64]) -> Record
     requires { length received.old ≡ length parts.old }
-    ensures* { λ r.
+    ensures {
         let read = read_record text.now shelf.old parts.old received.old in
-        ⌜ record { result = r; shelf = shelf.new; parts = parts.new; received = received.new } ≡ read ⌝ }
+        record { result = result; shelf = shelf.new; parts = parts.new; received = received.new } ≡ read }
 {
     let counts = read_shelf(text, shelf);
     match counts {

@@ -1,6 +1,9 @@
 // Reads a table's text from standard input and prices it whole: prints the list of its entries, or
 // the line of its refusal. What it prints of an input is the report's; here is what counts of
 // what was read, and the writing.
+
+#![tactic(auto)]
+
 ghost use Rattle.std.specs.Prelude.{◌≡◌, length};
 ghost use Rattle.columns.specs.Filled.{filled};
 ghost use Rattle.input.specs.Printed.{printed};

@@ -2,6 +2,9 @@
 // keys are the second half of the tree's places, and place i of the first quarter, from 1 on, has the
 // least of places 4 i to 4 i + 3, so place 1 the least of all. No key is ever moved, and a tree of few
 // keys is short.
+
+#![tactic(auto)]
+
 ghost use Rattle.std.specs.Prelude.{◌≡◌, ◌+◌, ◌*◌, ◌<◌, min, length};
 ghost use Rattle.minima.specs.Minima.{leaves, least_key, least_under, Grouped, lowered, raised};
 

@@ -1,5 +1,8 @@
 // What a hyperedge offers its head: the candidate that it gives from the labels in the columns. And
 // columns of what all hyperedges of a table offer.
+
+#![tactic(auto)]
+
 ghost use Rattle.std.specs.Prelude.{◌≡◌, not, ◌+◌, ◌/◌, ◌≤◌, ◌<◌, min, max, length, set};
 ghost use Rattle.weights.specs.Figures.{greatest, is_struck_mark, capped};
 ghost use Rattle.weights.specs.Measures.{algebra};

@@ -1,6 +1,9 @@
 // The program for the desks: a command and its numbers as arguments, a table's text on standard
 // input, and where the command has a second input its file as the last argument. What it prints is
 // the reply of `desk`; here are the arguments as a line of words, the reading and the writing.
+
+#![tactic(auto)]
+
 ghost use Rattle.std.specs.Prelude.{◌≡◌, ◌≤◌, length};
 ghost use Rattle.io.specs.Counts.{IsPrefixLen};
 ghost use Rattle.input.specs.Input.{buffer_length};
@@ -14,7 +17,7 @@ use reply::Status;
 const MOST_WORDS: usize = 512;
 
 // The length of the line of words, and the argument that names the second input's file, or 0.
-#[derive(Drop)]
+#[derive(Clone, Copy)]
 struct Line {
     stop: usize,
     named: usize,

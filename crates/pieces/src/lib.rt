@@ -1,6 +1,9 @@
 // The piece counts of a table's parts, from the lists of its lines and the depth and chosen line of
 // each part: how many lines without parts a chosen make-up holds, and at most so many. Parts are
 // counted by depth, so that what a line lists is counted before it.
+
+#![tactic(auto)]
+
 ghost use Rattle.std.specs.Prelude.{◌≡◌, ◌≤◌, ◌<◌, min, length};
 ghost use Rattle.provenance.specs.Pieces.{most_pieces, piece_count, piece_local};
 ghost use Rattle.columns.specs.Columns.{cell, tail_of};

@@ -1,5 +1,8 @@
 // The key of a label: one number, 40 bits of the weight's rank, 11 of depth and 12 of hyperedge, so
 // that comparing two labels is comparing two numbers.
+
+#![tactic(auto)]
+
 ghost use Rattle.std.specs.Prelude.{◌≡◌, ◌-◌};
 ghost use Rattle.queue.specs.Keys.{heavy, rank, packed, unpacked, Fits};
 

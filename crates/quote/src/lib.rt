@@ -1,4 +1,7 @@
 // A bill as rows to quote from: a row for each of its lines, and last one with the part's figure.
+
+#![tactic(auto)]
+
 ghost use Rattle.std.specs.Prelude.{◌≡◌, [], ◌++◌, ◌+◌, ◌*◌, ◌≤◌, length};
 ghost use Rattle.columns.specs.Columns.{columns, entries, cell};
 ghost use Rattle.writing.specs.Written.{Written};

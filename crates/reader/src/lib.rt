@@ -1,6 +1,9 @@
 // A reader that holds the lent text and its place, for programs that walk a table's text field by
 // field. Each function takes it apart and leaves the work to one on the slice and the number; what a
 // field says of the place behind it is where the reader is moved to.
+
+#![tactic(auto)]
+
 ghost use Rattle.std.specs.Prelude.{◌≡◌, min, length, leb};
 ghost use Rattle.columns.specs.Acceptance.{longest_tail};
 ghost use Rattle.cursor.specs.Cursor.{number_at, weight_at, separator_at};
@@ -10,7 +13,7 @@ use cursor::{Separator, Token, WeightToken};
 use reading::{FirstLine, Line};
 use refusal::TextLine;
 
-#[derive(Drop)]
+#[derive(Clone, Copy)]
 pub struct Reader<'a> {
     pub text: &'a [u8],
     pub at: usize,

@@ -1,4 +1,7 @@
 // The validating pass over the text of a table: the first line, then one line for each hyperedge.
+
+#![tactic(auto)]
+
 ghost use Rattle.std.specs.Prelude.{◌≡◌, [], ◌≤◌, min, length, drop};
 ghost use Rattle.text.specs.Machine.{parse};
 ghost use Rattle.reading.specs.Lines.{agreeing, Opens, on_word, first_line, first_of, stem_at, stem_of, listed_from, ReadsTail, line_with, row_at, ReadsLine, reading_of, refused_at, InLine};
@@ -11,21 +14,21 @@ use weights::{Mark, Measure, Vertex, Weight};
 
 // The first line: how many vertices there are, the measure, and the place of the next line; or the
 // refusal at the first byte that can't stand there.
-#[derive(Drop)]
+#[derive(Clone, Copy)]
 pub enum FirstLine {
     Read(u64, Measure, usize),
     Refused(Refusal),
 }
 
 // A hyperedge's head, own weight and strike mark, and the place behind them; or the refusal.
-#[derive(Drop)]
+#[derive(Clone, Copy)]
 pub enum Stem {
     Read(Vertex, Weight, Mark, usize),
     Refused(Refusal),
 }
 
 // The listed vertices: how many, and the place of the next line; or the refusal.
-#[derive(Drop)]
+#[derive(Clone, Copy)]
 pub enum Tail {
     Ends(usize, usize),
     Refused(Refusal),
@@ -33,7 +36,7 @@ pub enum Tail {
 
 // A whole line: head, own weight, strike mark, how many vertices it lists, and the place of the next
 // line; or the refusal.
-#[derive(Drop)]
+#[derive(Clone, Copy)]
 pub enum Line {
     Edge(Vertex, Weight, Mark, usize, usize),
     Refused(Refusal),

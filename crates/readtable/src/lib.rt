@@ -1,4 +1,7 @@
 // Reading the text of a table into lent columns.
+
+#![tactic(auto)]
+
 ghost use Rattle.std.specs.Prelude.{◌≡◌, length};
 ghost use Rattle.text.specs.Machine.{parse};
 ghost use Rattle.readtable.specs.Read.{room_for, read_outcome, read_table, edges_in, Roomy, Fills};

@@ -1,28 +1,31 @@
 // The reasons for which a call turns its input away, the answers of the calls, and the one number
 // that a caller in C gets of each.
+
+#![tactic(auto)]
+
 ghost use Rattle.std.specs.Prelude.{◌≡◌};
 ghost use Rattle.refusal.specs.Refusals.{code, code_of, number_of, place_of, column_of, result_of, acceptance_result, verdict_result, extent_result, measure_of};
 
 use weights::{Hyperedge, Measure, Vertex};
 
 // A line of a text, counted from 1.
-#[derive(Drop)]
+#[derive(Clone, Copy)]
 pub struct TextLine(pub u64);
 
 // A byte of its line, counted from 1: an LF is the last byte of the line that it ends.
-#[derive(Drop)]
+#[derive(Clone, Copy)]
 pub struct TextColumn(pub u64);
 
 // A result of a sample, counted from 0.
-#[derive(Drop)]
+#[derive(Clone, Copy)]
 pub struct Observation(pub u64);
 
 // An event of a stock record, counted from 0.
-#[derive(Drop)]
+#[derive(Clone, Copy)]
 pub struct Event(pub u64);
 
 // The paper's table of refusals, in its order.
-#[derive(Drop)]
+#[derive(Clone, Copy)]
 pub enum Refusal {
     // 1: more than 1,024 vertices.
     TooManyVertices,
@@ -84,7 +87,7 @@ pub enum Refusal {
 
 // A refusal's number, its place: the hyperedge, the text line, the result, the event or the vertex that
 // it names, else 0; and the column of 14, else 0.
-#[derive(Drop)]
+#[derive(Clone, Copy)]
 pub struct Code {
     pub number: u64,
     pub place: u64,
@@ -183,14 +186,14 @@ impl Refusal {
 }
 
 // What checking a table, settling, repricing, striking and shuffling return.
-#[derive(Drop)]
+#[derive(Clone, Copy)]
 pub enum Acceptance {
     Accepted,
     Refused(Refusal),
 }
 
 // What checking answers returns.
-#[derive(Drop)]
+#[derive(Clone, Copy)]
 pub enum Verdict {
     Yes,
     No,
@@ -198,7 +201,7 @@ pub enum Verdict {
 }
 
 // What printing a bill, writing a text and indexing a table return: the length of what was written.
-#[derive(Drop)]
+#[derive(Clone, Copy)]
 pub enum Extent {
     Length(u64),
     Refused(Refusal),
@@ -206,7 +209,7 @@ pub enum Extent {
 
 // What a text says of its table: the vertices, the measure, and how many hyperedges and listed
 // vertices there are.
-#[derive(Drop)]
+#[derive(Clone, Copy)]
 pub struct Header {
     pub vertices: u64,
     pub measure: Measure,
@@ -215,21 +218,21 @@ pub struct Header {
 }
 
 // What reading a text returns.
-#[derive(Drop)]
+#[derive(Clone, Copy)]
 pub enum Reading {
     Table(Header),
     Refused(Refusal),
 }
 
 // How many hyperedges and listed vertices of lent columns are in use.
-#[derive(Drop)]
+#[derive(Clone, Copy)]
 pub struct Counts {
     pub edges: u64,
     pub listed: u64,
 }
 
 // What appending a line returns: the new counts.
-#[derive(Drop)]
+#[derive(Clone, Copy)]
 pub enum Appending {
     Counts(Counts),
     Refused(Refusal),
@@ -270,7 +273,7 @@ impl Extent {
 }
 
 // A measure, where a number from C is one.
-#[derive(Drop)]
+#[derive(Clone, Copy)]
 pub enum MeasureChoice {
     Measure(Measure),
     Refused(Refusal),

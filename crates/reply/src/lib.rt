@@ -1,5 +1,8 @@
 // The reply of a desk's command: bytes at the start of a room, and whether the command was
 // carried out.
+
+#![tactic(auto)]
+
 ghost use Rattle.std.specs.Prelude.{◌≤◌, length};
 ghost use Rattle.reply.specs.Reply.{refused_by, second_refused, Replied};
 ghost use Rattle.report.specs.Report.{most_refusal};
@@ -10,7 +13,7 @@ use report::put_refused;
 // The room that every reply is put into.
 pub const MOST_REPLY: usize = 1048576;
 
-#[derive(Drop)]
+#[derive(Clone, Copy)]
 pub enum Status {
     // The command was carried out.
     Answered,
@@ -23,7 +26,7 @@ pub enum Status {
 }
 
 // How many bytes are printed, and the status.
-#[derive(Drop)]
+#[derive(Clone, Copy)]
 pub struct Reply {
     pub width: usize,
     pub status: Status,

@@ -1,5 +1,8 @@
 // What the listing program prints of an input: the list of a table's entries, or the line of a
 // refusal.
+
+#![tactic(auto)]
+
 ghost use Rattle.std.specs.Prelude.{◌≡◌, ◌∷◌, ◌++◌, ◌≤◌, length};
 ghost use Rattle.columns.specs.Columns.{columns, entries};
 ghost use Rattle.settle.specs.Settling.{settled};

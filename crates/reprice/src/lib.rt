@@ -1,5 +1,8 @@
 // Repricing, striking and restoring a line. Everything is checked before anything lent is written;
 // then the figure or the mark is stored, and the answers are renewed.
+
+#![tactic(auto)]
+
 ghost use Rattle.std.specs.Prelude.{◌≡◌};
 ghost use Rattle.columns.specs.Columns.{columns, entries};
 ghost use Rattle.columns.specs.Lent.{lent};
@@ -161,11 +164,11 @@ fn change(
     requires { let c = columns n heads.now own.old strikes.now spans.now tails.now in
         let a = entries weights.old depths.old edges.old pieces.old in
         Changeable c a line.0 figure.0 }
-    ensures* { λ r.
+    ensures {
         let c = columns n heads.now own.old strikes.now spans.now tails.now in
         let a = entries weights.old depths.old edges.old pieces.old in
         let a' = entries weights.new depths.new edges.new pieces.new in
-        ⌜ record { result = r; own = own.new; left = a' } ≡ changed measure c a line.0 figure.0 (answers_acceptance measure c a) ⌝ }
+        record { result = result; own = own.new; left = a' } ≡ changed measure c a line.0 figure.0 (answers_acceptance measure c a) }
 {
     if !settle::answers_right(
         measure, n, heads, own, strikes, spans, tails, weights, depths, edges, pieces,
@@ -199,11 +202,11 @@ fn put_mark(
     requires { let c = columns n heads.now own.now strikes.old spans.now tails.now in
         let a = entries weights.old depths.old edges.old pieces.old in
         Markable c a line.0 mark.0 }
-    ensures* { λ r.
+    ensures {
         let c = columns n heads.now own.now strikes.old spans.now tails.now in
         let a = entries weights.old depths.old edges.old pieces.old in
         let a' = entries weights.new depths.new edges.new pieces.new in
-        ⌜ record { result = r; strikes = strikes.new; left = a' } ≡ marked measure c a line.0 mark.0 (answers_acceptance measure c a) ⌝ }
+        record { result = result; strikes = strikes.new; left = a' } ≡ marked measure c a line.0 mark.0 (answers_acceptance measure c a) }
 {
     if !settle::answers_right(
         measure, n, heads, own, strikes, spans, tails, weights, depths, edges, pieces,
@@ -235,11 +238,11 @@ pub fn reprice(
     line: Hyperedge,
     figure: Weight,
 ) -> Acceptance
-    ensures* { λ r.
+    ensures {
         let c = columns n heads.now own.old strikes.now spans.now tails.now in
         let a = entries weights.old depths.old edges.old pieces.old in
         let a' = entries weights.new depths.new edges.new pieces.new in
-        ⌜ record { result = r; own = own.new; left = a' } ≡ repriced measure c a line.0 figure.0 ⌝ }
+        record { result = result; own = own.new; left = a' } ≡ repriced measure c a line.0 figure.0 }
 {
     let a = check_line(
         n, heads, own, strikes, spans, tails, weights, depths, edges, pieces, line,
@@ -272,11 +275,11 @@ pub fn strike(
     pieces: &mut [u64],
     line: Hyperedge,
 ) -> Acceptance
-    ensures* { λ r.
+    ensures {
         let c = columns n heads.now own.now strikes.old spans.now tails.now in
         let a = entries weights.old depths.old edges.old pieces.old in
         let a' = entries weights.new depths.new edges.new pieces.new in
-        ⌜ record { result = r; strikes = strikes.new; left = a' } ≡ stricken measure c a line.0 ⌝ }
+        record { result = result; strikes = strikes.new; left = a' } ≡ stricken measure c a line.0 }
 {
     let a = check_line(
         n, heads, own, strikes, spans, tails, weights, depths, edges, pieces, line,
@@ -318,11 +321,11 @@ pub fn restore(
     pieces: &mut [u64],
     line: Hyperedge,
 ) -> Acceptance
-    ensures* { λ r.
+    ensures {
         let c = columns n heads.now own.now strikes.old spans.now tails.now in
         let a = entries weights.old depths.old edges.old pieces.old in
         let a' = entries weights.new depths.new edges.new pieces.new in
-        ⌜ record { result = r; strikes = strikes.new; left = a' } ≡ restored measure c a line.0 ⌝ }
+        record { result = result; strikes = strikes.new; left = a' } ≡ restored measure c a line.0 }
 {
     let a = check_struck(
         n, heads, own, strikes, spans, tails, weights, depths, edges, pieces, line,

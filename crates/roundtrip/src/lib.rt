@@ -1,1 +1,4 @@
 // That reading and writing undo each other: the theorems are in specs/.
+
+#![tactic(auto)]
+

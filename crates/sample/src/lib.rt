@@ -1,4 +1,7 @@
 // The mean and the variance of a sample that is written as a text: a result on each line.
+
+#![tactic(auto)]
+
 ghost use Rattle.std.specs.Prelude.{◌≡◌, ◌++◌, ◌*◌, ◌≤◌, ◌<◌, ◌^◌, length};
 ghost use Rattle.writing.specs.Written.{Written};
 ghost use Rattle.reply.specs.Reply.{most_reply, Replied};
@@ -18,7 +21,7 @@ const LIMIT: u64 = 1000000000000000000;
 
 // What stands at the start of a line: a number and the place of the next line, a byte that can't stand
 // where it stands, or nothing more.
-#[derive(Drop)]
+#[derive(Clone, Copy)]
 pub enum Next {
     Number(u64, usize),
     Wrong(usize),
@@ -26,7 +29,7 @@ pub enum Next {
 }
 
 // How many results a text has, or its refusal.
-#[derive(Drop)]
+#[derive(Clone, Copy)]
 pub enum Sample {
     Count(usize),
     Refused(Refusal),

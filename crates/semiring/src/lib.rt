@@ -1,1 +1,4 @@
 // The source's definitions of provenance: in specs/. There is no code.
+
+#![tactic(auto)]
+

@@ -1,5 +1,8 @@
 // Settling a table that is lent as columns: every vertex gets the label of its chosen derivation,
 // found best first, and its piece count. And the check that lent answers are those.
+
+#![tactic(auto)]
+
 ghost use Rattle.std.specs.Prelude.{◌≡◌, ◌≤◌, ◌<◌, length};
 ghost use Rattle.weights.specs.Measures.{algebra};
 ghost use Rattle.provenance.specs.BestFirst.{labels};
@@ -85,11 +88,11 @@ pub fn settle(
     edges: &mut [u64],
     pieces: &mut [u64],
 ) -> Acceptance
-    ensures* { λ r.
+    ensures {
         let c = columns n heads.now own.now strikes.now spans.now tails.now in
         let a = entries weights.old depths.old edges.old pieces.old in
         let a' = entries weights.new depths.new edges.new pieces.new in
-        ⌜ record { result = r; left = a' } ≡ settled measure c a ⌝ }
+        record { result = result; left = a' } ≡ settled measure c a }
 {
     let a = columns::check_lent(
         n, heads, own, strikes, spans, tails, weights, depths, edges, pieces,

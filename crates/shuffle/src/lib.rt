@@ -1,4 +1,7 @@
 // A column of figures laid out byte place by byte place, and laid back.
+
+#![tactic(auto)]
+
 ghost use Rattle.std.specs.Prelude.{◌≡◌, length};
 ghost use Rattle.shuffle.specs.Bytes.{bytes_of};
 ghost use Rattle.shuffle.specs.Shuffled.{gathered, outcome, shuffle_outcome, unshuffle_outcome};

@@ -1,4 +1,7 @@
 // The mean and the variance of a sample of results, as exact fractions in lowest terms.
+
+#![tactic(auto)]
+
 ghost use Rattle.std.specs.Prelude.{◌≡◌, ◌<◌};
 ghost use Rattle.statistics.specs.Fractions.{gcd, lowest};
 ghost use Rattle.statistics.specs.Samples.{sample_acceptance, Sample};
@@ -11,27 +14,27 @@ pub const MOST_RESULTS: usize = 1000;
 
 pub const GREATEST_RESULT: u64 = 1000000;
 
-#[derive(Drop)]
+#[derive(Clone, Copy)]
 pub struct Fraction {
     pub numerator: u64,
     pub denominator: u64,
 }
 
-#[derive(Drop)]
+#[derive(Clone, Copy)]
 pub struct Moments {
     pub mean: Fraction,
     pub variance: Fraction,
 }
 
 // What summarizing a sample returns.
-#[derive(Drop)]
+#[derive(Clone, Copy)]
 pub enum Summary {
     Moments(Moments),
     Refused(Refusal),
 }
 
 // The sum of the results, and of their squares.
-#[derive(Drop)]
+#[derive(Clone, Copy)]
 struct Sums {
     total: u64,
     squares: u64,

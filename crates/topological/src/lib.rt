@@ -1,6 +1,9 @@
 // Tables in topological order: every hyperedge lists only vertices below its head. Their check, and
 // their settling by one walk up the vertices, which needs no queue: when a vertex is visited, all that
 // its hyperedges list has its label.
+
+#![tactic(auto)]
+
 ghost use Rattle.std.specs.Prelude.{◌≡◌, true, ◌*◌, ◌<◌, min, length};
 ghost use Rattle.weights.specs.Measures.{algebra};
 ghost use Rattle.provenance.specs.Labelling.{offer_of};
@@ -427,11 +430,11 @@ pub fn settle_ordered(
     edges: &mut [u64],
     pieces: &mut [u64],
 ) -> Acceptance
-    ensures* { λ r.
+    ensures {
         let c = columns n heads.now own.now strikes.now spans.now tails.now in
         let a = entries weights.old depths.old edges.old pieces.old in
         let a' = entries weights.new depths.new edges.new pieces.new in
-        ⌜ record { result = r; left = a' } ≡ settled_in_order measure c a ⌝ }
+        record { result = result; left = a' } ≡ settled_in_order measure c a }
 {
     let a = check_lent(
         n, heads, own, strikes, spans, tails, weights, depths, edges, pieces,

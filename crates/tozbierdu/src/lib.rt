@@ -1,5 +1,8 @@
 // The archive for programs in C: every call, under a name that begins with `tozbierdu_`. A measure
 // comes as a number and is checked before everything; each call gives one number.
+
+#![tactic(auto)]
+
 ghost use Rattle.std.specs.Prelude.{◌≡◌};
 ghost use Rattle.refusal.specs.Refusals.{acceptance_result, measure_of};
 ghost use Rattle.columns.specs.Columns.{columns, entries};
@@ -80,11 +83,11 @@ pub extern "C" fn tozbierdu_settle(
     edges: &mut [u64],
     pieces: &mut [u64],
 ) -> u64
-    ensures* { λ r.
+    ensures {
         let c = columns n heads.now own.now strikes.now spans.now tails.now in
         let a = entries weights.old depths.old edges.old pieces.old in
         let a' = entries weights.new depths.new edges.new pieces.new in
-        ⌜ record { result = r; left = a' } ≡ settled_result (measure_of measure) c a ⌝ }
+        record { result = result; left = a' } ≡ settled_result (measure_of measure) c a }
 {
     counter::settle(
         measure, n, heads, own, strikes, spans, tails, weights, depths, edges, pieces,
@@ -107,11 +110,11 @@ pub extern "C" fn tozbierdu_reprice(
     line: u64,
     figure: u64,
 ) -> u64
-    ensures* { λ r.
+    ensures {
         let c = columns n heads.now own.old strikes.now spans.now tails.now in
         let a = entries weights.old depths.old edges.old pieces.old in
         let a' = entries weights.new depths.new edges.new pieces.new in
-        ⌜ record { result = r; own = own.new; left = a' } ≡ repriced_result (measure_of measure) c a line figure ⌝ }
+        record { result = result; own = own.new; left = a' } ≡ repriced_result (measure_of measure) c a line figure }
 {
     counter::reprice(
         measure, n, heads, own, strikes, spans, tails, weights, depths, edges, pieces, line, figure,
@@ -134,10 +137,10 @@ pub extern "C" fn tozbierdu_bill(
     part: u64,
     room: &mut [u64],
 ) -> u64
-    ensures* { λ r.
+    ensures {
         let c = columns n heads.now own.now strikes.now spans.now tails.now in
         let a = entries weights.now depths.now edges.now pieces.now in
-        ⌜ record { result = r; left = room.new } ≡ billed_result (measure_of measure) c a part room.old ⌝ }
+        record { result = result; left = room.new } ≡ billed_result (measure_of measure) c a part room.old }
 {
     counter::bill(
         measure, n, heads, own, strikes, spans, tails, weights, depths, edges, pieces, part, room,
@@ -159,11 +162,11 @@ pub extern "C" fn tozbierdu_strike(
     pieces: &mut [u64],
     line: u64,
 ) -> u64
-    ensures* { λ r.
+    ensures {
         let c = columns n heads.now own.now strikes.old spans.now tails.now in
         let a = entries weights.old depths.old edges.old pieces.old in
         let a' = entries weights.new depths.new edges.new pieces.new in
-        ⌜ record { result = r; strikes = strikes.new; left = a' } ≡ stricken_result (measure_of measure) c a line ⌝ }
+        record { result = result; strikes = strikes.new; left = a' } ≡ stricken_result (measure_of measure) c a line }
 {
     let choice = refusal::measure_numbered(measure);
     match choice {
@@ -203,11 +206,11 @@ pub extern "C" fn tozbierdu_restore(
     pieces: &mut [u64],
     line: u64,
 ) -> u64
-    ensures* { λ r.
+    ensures {
         let c = columns n heads.now own.now strikes.old spans.now tails.now in
         let a = entries weights.old depths.old edges.old pieces.old in
         let a' = entries weights.new depths.new edges.new pieces.new in
-        ⌜ record { result = r; strikes = strikes.new; left = a' } ≡ restored_result (measure_of measure) c a line ⌝ }
+        record { result = result; strikes = strikes.new; left = a' } ≡ restored_result (measure_of measure) c a line }
 {
     let choice = refusal::measure_numbered(measure);
     match choice {
@@ -334,9 +337,9 @@ pub extern "C" fn tozbierdu_write_table(
     tails: &[u64],
     room: &mut [u8],
 ) -> u64
-    ensures* { λ r.
+    ensures {
         let c = columns n heads.now own.now strikes.now spans.now tails.now in
-        ⌜ record { result = r; left = room.new } ≡ written_result (measure_of measure) c room.old ⌝ }
+        record { result = result; left = room.new } ≡ written_result (measure_of measure) c room.old }
 {
     let choice = refusal::measure_numbered(measure);
     match choice {
@@ -359,10 +362,10 @@ pub extern "C" fn tozbierdu_index_table(
     index: &mut [u64],
     list: &mut [u64],
 ) -> u64
-    ensures* { λ r.
+    ensures {
         let c = columns n heads.now own.now strikes.now spans.now tails.now in
         let x = table_indexed c index.old list.old in
-        ⌜ record { result = r; index = index.new; list = list.new } ≡ indexed_result x ⌝ }
+        record { result = result; index = index.new; list = list.new } ≡ indexed_result x }
 {
     let x = indextable::index_table(n, heads, own, strikes, spans, tails, index, list);
     x.result()
@@ -466,7 +469,7 @@ fn write_moments(moments: Moments, room: &mut [u64])
 
 #[unsafe(no_mangle)]
 pub extern "C" fn tozbierdu_summarize(results: &[u64], room: &mut [u64]) -> u64
-    ensures* { λ r. ⌜ record { result = r; left = room.new } ≡ summary_left (summary_of results.now) room.old ⌝ }
+    ensures { record { result = result; left = room.new } ≡ summary_left (summary_of results.now) room.old }
 {
     let s = statistics::summarize(results);
     match s {
@@ -520,11 +523,11 @@ pub extern "C" fn tozbierdu_settle_ordered(
     edges: &mut [u64],
     pieces: &mut [u64],
 ) -> u64
-    ensures* { λ r.
+    ensures {
         let c = columns n heads.now own.now strikes.now spans.now tails.now in
         let a = entries weights.old depths.old edges.old pieces.old in
         let a' = entries weights.new depths.new edges.new pieces.new in
-        ⌜ record { result = r; left = a' } ≡ ordered_result (measure_of measure) c a ⌝ }
+        record { result = result; left = a' } ≡ ordered_result (measure_of measure) c a }
 {
     let choice = refusal::measure_numbered(measure);
     match choice {
@@ -556,10 +559,10 @@ pub extern "C" fn tozbierdu_replay(
     stock: &mut [u64],
     outcomes: &mut [u64],
 ) -> u64
-    ensures* { λ r.
+    ensures {
         let c = columns n heads.now own.now strikes.now spans.now tails.now in
         let a = entries weights.now depths.now edges.now pieces.now in
-        ⌜ record { result = r; stock = stock.new; outcomes = outcomes.new } ≡ replayed_result (measure_of measure) c a parts.now received.now stock.old outcomes.old ⌝ }
+        record { result = result; stock = stock.new; outcomes = outcomes.new } ≡ replayed_result (measure_of measure) c a parts.now received.now stock.old outcomes.old }
 {
     let choice = refusal::measure_numbered(measure);
     match choice {
@@ -576,7 +579,7 @@ pub extern "C" fn tozbierdu_replay(
 
 #[unsafe(no_mangle)]
 pub extern "C" fn tozbierdu_shuffle(own: &[u64], room: &mut [u8]) -> u64
-    ensures* { λ r. ⌜ record { result = r; left = room.new } ≡ laid_result (shuffle_outcome own.now room.old) ⌝ }
+    ensures { record { result = result; left = room.new } ≡ laid_result (shuffle_outcome own.now room.old) }
 {
     let a = shuffle::shuffle(own, room);
     a.result()
@@ -584,7 +587,7 @@ pub extern "C" fn tozbierdu_shuffle(own: &[u64], room: &mut [u8]) -> u64
 
 #[unsafe(no_mangle)]
 pub extern "C" fn tozbierdu_unshuffle(bytes: &[u8], own: &mut [u64]) -> u64
-    ensures* { λ r. ⌜ record { result = r; left = own.new } ≡ laid_result (unshuffle_outcome bytes.now own.old) ⌝ }
+    ensures { record { result = result; left = own.new } ≡ laid_result (unshuffle_outcome bytes.now own.old) }
 {
     let a = shuffle::unshuffle(bytes, own);
     a.result()

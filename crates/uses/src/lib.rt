@@ -1,5 +1,8 @@
 // The index of uses: which hyperedges list a vertex. Two passes over the tails, counting and then
 // filling; no tail is searched for a vertex that it lists twice.
+
+#![tactic(auto)]
+
 ghost use Rattle.std.specs.Prelude.{◌≡◌, ◌+◌, ◌*◌, ◌≤◌, length};
 ghost use Rattle.columns.specs.Columns.{tail_of};
 ghost use Rattle.weights.specs.Lists.{member};

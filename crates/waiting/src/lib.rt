@@ -2,6 +2,9 @@
 // not made, in a list kept with that vertex, and carries what the vertices before it join to. When
 // the vertex is made, what waited for it goes on: it reaches its end and is offered to its head, or
 // waits again. So each place of a tail is read once.
+
+#![tactic(auto)]
+
 ghost use Rattle.std.specs.Prelude.{◌≡◌, ◌+◌, ◌<◌, length};
 ghost use Rattle.weights.specs.declared.Offer.TheVariants.{Found};
 ghost use Rattle.weights.specs.Labels.{label};
@@ -19,7 +22,7 @@ use weights::{Hyperedge, Label, Mark, Measure, Vertex, Weight};
 const END: u16 = 65535;
 
 // How far a hyperedge has come: the next place of its tail, and what the places before it join to.
-#[derive(Drop)]
+#[derive(Clone, Copy)]
 struct Reached {
     at: usize,
     joined: Weight,

@@ -1,5 +1,8 @@
 // Goes over a table's text on standard input with the reader and prints, of each table line, its head,
 // its own figure and how many parts it lists. At the first text line that breaks a rule it stops.
+
+#![tactic(auto)]
+
 ghost use Rattle.std.specs.Prelude.{◌≡◌};
 ghost use Rattle.text.specs.Machine.{parse};
 ghost use Rattle.walk.specs.Walked.{walked_of};
@@ -12,7 +15,7 @@ use reading::{FirstLine, Line, first_line};
 use weights::{Mark, Vertex, Weight};
 
 // Where a walk ends: at the text's end, or at the text line that breaks a rule.
-#[derive(Drop)]
+#[derive(Clone, Copy)]
 enum Walked {
     End,
     Stopped(u64),

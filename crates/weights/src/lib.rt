@@ -1,20 +1,23 @@
 // Weights, the measures by which they are joined and compared, and the labels and entries that are
 // made of them.
+
+#![tactic(auto)]
+
 ghost use Rattle.std.specs.Prelude.{◌≡◌, ◌+◌, min};
 ghost use Rattle.weights.specs.Figures.{is_struck_mark, is_over, capped};
 ghost use Rattle.weights.specs.Measures.{algebra};
 ghost use Rattle.weights.specs.Labels.{ahead_of, state_of, entry_of};
 
 // A part, and a line of the table, each by its number: one is never taken for the other.
-#[derive(Drop)]
+#[derive(Clone, Copy)]
 pub struct Vertex(pub u64);
 
-#[derive(Drop)]
+#[derive(Clone, Copy)]
 pub struct Hyperedge(pub u64);
 
 // The paper's measure: by cost a line's own figure and the figures of its parts are added, by days
 // its own figure and the greatest of its parts'; by grade the least of them all counts.
-#[derive(Drop)]
+#[derive(Clone, Copy)]
 pub enum Measure {
     Cost,
     Days,
@@ -22,7 +25,7 @@ pub enum Measure {
 }
 
 // The paper's figure: an own figure of a line, or the figure of a part.
-#[derive(Drop)]
+#[derive(Clone, Copy)]
 pub struct Weight(pub u64);
 
 impl Weight {
@@ -103,7 +106,7 @@ impl Weight {
 }
 
 // The paper's strike mark of a line: it stands, or is struck. A mark is never taken for a figure.
-#[derive(Drop)]
+#[derive(Clone, Copy)]
 pub struct Mark(pub u64);
 
 impl Mark {
@@ -120,7 +123,7 @@ impl Mark {
 
 // Three numbers of a part's entry: the figure, the depth and the chosen line, which is the root
 // of its chosen make-up. Depth 0 is unmade, and then all three are 0.
-#[derive(Drop)]
+#[derive(Clone, Copy)]
 pub struct Label {
     pub weight: Weight,
     pub depth: u64,
@@ -128,7 +131,7 @@ pub struct Label {
 }
 
 // A label, where there is one.
-#[derive(Drop)]
+#[derive(Clone, Copy)]
 pub enum Offer {
     Nothing,
     Found(Label),
@@ -152,7 +155,7 @@ pub fn ahead(measure: Measure, a: Label, b: Label) -> bool
 }
 
 // The paper's state of a part.
-#[derive(Drop)]
+#[derive(Clone, Copy)]
 pub enum State {
     Made,
     Over,
@@ -161,7 +164,7 @@ pub enum State {
 
 // A part's entry: its state, which figure and depth tell, the three numbers of its label, and how
 // many bought pieces its chosen make-up holds.
-#[derive(Drop)]
+#[derive(Clone, Copy)]
 pub struct Entry {
     pub state: State,
     pub weight: Weight,

@@ -1,4 +1,7 @@
 // The lines that need a part, as they stand in the text, each behind its number.
+
+#![tactic(auto)]
+
 ghost use Rattle.std.specs.Prelude.{◌≡◌, [], ◌∷◌, ◌++◌, ◌≤◌, length};
 ghost use Rattle.weights.specs.Choice.{pick};
 ghost use Rattle.weights.specs.Lists.{member};

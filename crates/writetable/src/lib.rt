@@ -1,4 +1,7 @@
 // Writing a table that is lent as columns into lent room.
+
+#![tactic(auto)]
+
 ghost use Rattle.std.specs.Prelude.{◌≡◌, length};
 ghost use Rattle.refusal.specs.declared.Acceptance.TheVariants.{Accepted};
 ghost use Rattle.columns.specs.Columns.{columns};

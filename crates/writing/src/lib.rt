@@ -1,5 +1,8 @@
 // Measuring and writing the pieces of a text: a number, an own weight, a line, the first line. Each
 // piece is written from the start of the room that it is lent, and its width is returned.
+
+#![tactic(auto)]
+
 ghost use Rattle.std.specs.Prelude.{◌≡◌, [], ◌∷◌, ◌++◌, ◌≤◌, length};
 ghost use Rattle.columns.specs.Acceptance.{most_vertices};
 ghost use Rattle.text.specs.Tables.{edge};

@@ -1,0 +1,39 @@
+-- `compare::put_comparison` meets its contract, by the length of the second text and by what reading it returned. Assumes nothing.
+use mathlib.Core.Path.{refl}
+use Prim.Native.Nat.{◌≤◌}
+use native.Mathlib.Omega.{arith}
+use lib.ListN.{length}
+use Rattle.columns.specs.Columns.{Entries, entries}
+use Rattle.report.specs.Report.{most_input, most_output, read_input}
+use Rattle.report.proofs.Laws.{table-lent}
+use Rattle.compare.proofs.Said.{replied_as, long_said, unread_said, table_said_lem}
+use Rattle.compare.proofs.put_comparison.Goals as goal
+
+pub returns-then-second-gt-MOST_INPUT : goal.returns-then-second-gt-MOST_INPUT
+returns-then-second-gt-MOST_INPUT c =
+    let one : Entries = let a = c.args in entries a.weights.now a.depths.now a.edges.now a.pieces.now in
+    replied_as _ _ _ (long_said c.args.n one c.args.second.now (let h = c.if-second-gt-MOST_INPUT.true in omega arith)) c.put_second_refusal.ensures
+
+pub put_read-requires : goal.put_read-requires
+unfolding read_input
+put_read-requires c =
+    let short : length c.args.second.now ≤ most_input = let h = c.if-second-gt-MOST_INPUT.false in omega arith in
+    (c.requires.0, (c.requires.1, table-lent c.args.second.now short _ _ _ _ _ _ c.read_table-reading.ensures _ most_output refl c.in-Table.is))
+
+pub returns-in-Refused : goal.returns-in-Refused
+unfolding read_input
+returns-in-Refused c =
+    let one : Entries = let a = c.args in entries a.weights.now a.depths.now a.edges.now a.pieces.now in
+    let short : length c.args.second.now ≤ most_input = let h = c.if-second-gt-MOST_INPUT.false in omega arith in
+    replied_as _ _ _
+    (unread_said c.args.n one c.args.second.now short _ _ _ _ _ _ c.read_table-reading.ensures _ c.in-Refused.is)
+    c.put_second_refusal-in-Refused.ensures
+
+pub returns-in-Table : goal.returns-in-Table
+unfolding read_input
+returns-in-Table c =
+    let one : Entries = let a = c.args in entries a.weights.now a.depths.now a.edges.now a.pieces.now in
+    let short : length c.args.second.now ≤ most_input = let h = c.if-second-gt-MOST_INPUT.false in omega arith in
+    replied_as _ _ _
+    (table_said_lem c.args.n one c.args.second.now short _ _ _ _ _ _ c.read_table-reading.ensures _ c.in-Table.is)
+    c.put_read.ensures

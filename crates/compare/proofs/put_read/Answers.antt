@@ -1,0 +1,46 @@
+-- `compare::put_read` meets its contract: the parts that are lent on have the lengths that the header tells. Assumes nothing.
+use mathlib.Core.Path.{sym}
+use Prim.Native.Nat.{◌*◌}
+use lib.Seq.{length-take-le}
+use Rattle.columns.specs.Columns.{Entries, Columns, entries}
+use Rattle.report.specs.Pieces.{lent_columns}
+use Rattle.report.proofs.Laws.{zeros_long}
+use Rattle.compare.proofs.Said.{replied_as, blank_said}
+use Rattle.compare.proofs.put_read.Goals as goal
+
+pub slice_bounds-put_settled-end : goal.slice_bounds-put_settled-end
+slice_bounds-put_settled-end c = sym (length-take-le c.args.header.edges c.args.heads.now c.requires.1.1.heads)
+
+pub slice_bounds-put_settled-end-2 : goal.slice_bounds-put_settled-end-2
+slice_bounds-put_settled-end-2 c = sym (length-take-le c.args.header.edges c.args.own.now c.requires.1.1.own)
+
+pub slice_bounds-put_settled-end-3 : goal.slice_bounds-put_settled-end-3
+slice_bounds-put_settled-end-3 c = sym (length-take-le c.args.header.edges c.args.strikes.now c.requires.1.1.strikes)
+
+pub slice_bounds-put_settled-end-4 : goal.slice_bounds-put_settled-end-4
+slice_bounds-put_settled-end-4 c = sym (length-take-le (2 * c.args.header.edges) c.args.spans.now c.requires.1.1.spans)
+
+pub slice_bounds-put_settled-end-5 : goal.slice_bounds-put_settled-end-5
+slice_bounds-put_settled-end-5 c = sym (length-take-le c.args.header.listed c.args.tails.now c.requires.1.1.tails)
+
+pub slice_bounds-put_settled-end-6 : goal.slice_bounds-put_settled-end-6
+slice_bounds-put_settled-end-6 c = zeros_long c.args.header.vertices c.requires.1.1.few
+
+pub slice_bounds-put_settled-end-7 : goal.slice_bounds-put_settled-end-7
+slice_bounds-put_settled-end-7 c = zeros_long c.args.header.vertices c.requires.1.1.few
+
+pub slice_bounds-put_settled-end-8 : goal.slice_bounds-put_settled-end-8
+slice_bounds-put_settled-end-8 c = zeros_long c.args.header.vertices c.requires.1.1.few
+
+pub slice_bounds-put_settled-end-9 : goal.slice_bounds-put_settled-end-9
+slice_bounds-put_settled-end-9 c = zeros_long c.args.header.vertices c.requires.1.1.few
+
+pub put_settled-requires : goal.put_settled-requires
+put_settled-requires c = (c.requires.0, (c.requires.1.0, c.requires.1.1.few))
+
+pub returns : goal.returns
+returns c =
+    let one : Entries = let a = c.args in entries a.weights.now a.depths.now a.edges.now a.pieces.now in
+    let table : Columns = lent_columns c.args.header c.args.heads.now c.args.own.now c.args.strikes.now c.args.spans.now c.args.tails.now in
+    let g = c.args.header in
+    replied_as _ _ _ (blank_said c.args.n g.vertices one g.measure table c.requires.1.1.few) c.put_settled.ensures

@@ -1,0 +1,55 @@
+-- `quote::put_last` meets its contract: part and state, and the figure in the room behind them. Assumes nothing.
+use mathlib.Core.Path.{sym}
+use mathlib.Core.List.{List, ◌∷◌, ◌++◌}
+use Prim.Native.Nat.{ℕ, ◌≤◌}
+use native.Mathlib.Omega.{arith}
+use borrow.Author.Rules.{rules}
+use lib.ListN.{length}
+use Rattle.text.specs.Render.{digits, tail_text}
+use Rattle.writing.proofs.Written.{lent-room, within, written_part, written_as, first_fits}
+use Rattle.report.specs.Report.{state_word}
+use Rattle.quote.specs.Quote.{most_last}
+use Rattle.quote.proofs.Rows.{last_split, last_most}
+use Rattle.quote.proofs.put_last.Goals as goal
+
+pub put_stem-at-requires : goal.put_stem-at-requires
+put_stem-at-requires c =
+    let back : List ℕ = tail_text (c.args.figure ∷ []) ++ 10 ∷ [] in
+    let front : List ℕ = digits c.args.v ++ (32 ∷ state_word c.args.state) in
+    let short : length (front ++ back) ≤ most_last = last_most c.args.v c.args.state c.args.figure c.ranges.v.fits c.ranges.figure.fits in
+    let whole : length (front ++ back) ≤ length c.args.room.now = let s = short in let p = c.requires in omega arith in
+    first_fits front back c.args.room.now whole
+
+pub slice_bounds-put_tail-count : goal.slice_bounds-put_tail-count
+slice_bounds-put_tail-count c =
+    let back : List ℕ = tail_text (c.args.figure ∷ []) ++ 10 ∷ [] in
+    let front : List ℕ = digits c.args.v ++ (32 ∷ state_word c.args.state) in
+    let short : length (front ++ back) ≤ most_last = last_most c.args.v c.args.state c.args.figure c.ranges.v.fits c.ranges.figure.fits in
+    let whole : length (front ++ back) ≤ length c.args.room.now = let s = short in let p = c.requires in omega arith in
+    within front _ _ _ c.put_stem-at.ensures back whole
+
+pub slice_bounds-put_tail-start : goal.slice_bounds-put_tail-start
+slice_bounds-put_tail-start c = let r = sub-put-tail c in search (rules, r)
+
+pub put_tail-width-requires : goal.put_tail-width-requires
+put_tail-width-requires c =
+    let back : List ℕ = tail_text (c.args.figure ∷ []) ++ 10 ∷ [] in
+    let front : List ℕ = digits c.args.v ++ (32 ∷ state_word c.args.state) in
+    let short : length (front ++ back) ≤ most_last = last_most c.args.v c.args.state c.args.figure c.ranges.v.fits c.ranges.figure.fits in
+    let whole : length (front ++ back) ≤ length c.args.room.now = let s = short in let p = c.requires in omega arith in
+    lent-room front _ _ _ c.put_stem-at.ensures back whole
+
+pub overflow_add-result : goal.overflow_add-result
+overflow_add-result c = let n = (returns c).1 in omega arith
+
+pub shape_of-room : goal.shape_of-room
+shape_of-room c = (returns c).0.long
+
+pub returns : goal.returns
+returns c =
+    let back : List ℕ = tail_text (c.args.figure ∷ []) ++ 10 ∷ [] in
+    let front : List ℕ = digits c.args.v ++ (32 ∷ state_word c.args.state) in
+    let short : length (front ++ back) ≤ most_last = last_most c.args.v c.args.state c.args.figure c.ranges.v.fits c.ranges.figure.fits in
+    let whole : length (front ++ back) ≤ length c.args.room.now = let s = short in let p = c.requires in omega arith in
+    let w = written_part front _ _ _ c.put_stem-at.ensures back _ _ whole c.put_tail-width.ensures in
+    (written_as _ _ _ (sym (last_split c.args.v c.args.state c.args.figure)) w, (let l = short in let n = w.count in omega arith))

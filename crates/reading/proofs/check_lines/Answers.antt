@@ -1,0 +1,53 @@
+use mathlib.Core.Path.{sym, ◌∙◌, ap}
+use Prim.Native.Nat.{◌+◌, ◌-◌, ◌≤◌, ◌<◌}
+use native.Mathlib.Omega.{arith}
+use borrow.Author.Rules.{rules}
+use Rattle.refusal.specs.declared.Reading.TheVariants.{Refused}
+use Rattle.reading.proofs.Scanning.{Scanning, scan-begun}
+use Rattle.reading.proofs.Laws.{refused_there, all_told, full_refused, line_refused, line-next}
+use Rattle.reading.proofs.check_lines.Goals as goal
+
+pub loop-at-init : goal.loop-at-init
+loop-at-init c = (search rules, scan-begun _ _ _ _ c.requires)
+
+pub overflow_add-number : goal.overflow_add-number
+overflow_add-number c = let f = c.loop-at.invariant.1.few in omega arith
+
+pub returns-then-edges-ge-MOST_EDGES : goal.returns-then-edges-ge-MOST_EDGES
+returns-then-edges-ge-MOST_EDGES c = full_refused _ _ _ _ _ _ c.loop-at.invariant.1 c.loop-at-test.true c.if-edges-ge-MOST_EDGES.true
+
+pub overflow_sub-most : goal.overflow_sub-most
+overflow_sub-most c = c.loop-at.invariant.1.few_listed
+
+pub slice_bounds-line_at-end : goal.slice_bounds-line_at-end
+slice_bounds-line_at-end c = sym c.loop-at.invariant.0
+
+-- a line that fails
+pub returns-in-Refused : goal.returns-in-Refused
+returns-in-Refused c =
+    let r =
+    line_refused _ _ _ _ _ _ c.loop-at.invariant.1 c.loop-at-test.true c.if-edges-ge-MOST_EDGES.false _ c.loop-at.invariant.0 _ _ c.line_at-line.ensures.answer _ c.in-Refused.is in
+    ap Refused r.1 ∙ refused_there _ _ _ _ r.2
+
+pub overflow_add-edges : goal.overflow_add-edges
+overflow_add-edges c =
+    let next-line : let b = c.args in let r = c.line-in-Edge-1.given.0.1.1.1 in (c.loop-at.at < r.1.0) × (r.0 ≤ 16384 - c.loop-at.listed) × Scanning b.text.now b.n b.measure r.1.0 (c.loop-at.edges + 1) (c.loop-at.listed + r.0) = line-next _ _ _ _ _ _ c.loop-at.invariant.1 c.loop-at-test.true c.if-edges-ge-MOST_EDGES.false _ c.loop-at.invariant.0 _ _ c.line_at-line.ensures.answer _ _ _ _ _ c.in-Edge.is in
+    let f = next-line.2.few in omega arith
+
+pub overflow_add-listed : goal.overflow_add-listed
+overflow_add-listed c =
+    let next-line : let b = c.args in let r = c.line-in-Edge-1.given.0.1.1.1 in (c.loop-at.at < r.1.0) × (r.0 ≤ 16384 - c.loop-at.listed) × Scanning b.text.now b.n b.measure r.1.0 (c.loop-at.edges + 1) (c.loop-at.listed + r.0) = line-next _ _ _ _ _ _ c.loop-at.invariant.1 c.loop-at-test.true c.if-edges-ge-MOST_EDGES.false _ c.loop-at.invariant.0 _ _ c.line_at-line.ensures.answer _ _ _ _ _ c.in-Edge.is in
+    let f = next-line.2.few_listed in omega arith
+
+pub loop-at-smaller : goal.loop-at-smaller
+loop-at-smaller c =
+    let next-line : let b = c.args in let r = c.line-in-Edge-1.given.0.1.1.1 in (c.loop-at.at < r.1.0) × (r.0 ≤ 16384 - c.loop-at.listed) × Scanning b.text.now b.n b.measure r.1.0 (c.loop-at.edges + 1) (c.loop-at.listed + r.0) = line-next _ _ _ _ _ _ c.loop-at.invariant.1 c.loop-at-test.true c.if-edges-ge-MOST_EDGES.false _ c.loop-at.invariant.0 _ _ c.line_at-line.ensures.answer _ _ _ _ _ c.in-Edge.is in
+    let n = next-line in let h = n.0 in let w = n.2.within in omega arith
+
+pub loop-at-preserved : goal.loop-at-preserved
+loop-at-preserved c =
+    let next-line : let b = c.args in let r = c.line-in-Edge-1.given.0.1.1.1 in (c.loop-at.at < r.1.0) × (r.0 ≤ 16384 - c.loop-at.listed) × Scanning b.text.now b.n b.measure r.1.0 (c.loop-at.edges + 1) (c.loop-at.listed + r.0) = line-next _ _ _ _ _ _ c.loop-at.invariant.1 c.loop-at-test.true c.if-edges-ge-MOST_EDGES.false _ c.loop-at.invariant.0 _ _ c.line_at-line.ensures.answer _ _ _ _ _ c.in-Edge.is in
+    (search rules, next-line.2)
+
+pub returns : goal.returns
+returns c = all_told _ _ _ _ _ _ c.loop-at.invariant.1 c.loop-at-test.false

@@ -1,0 +1,52 @@
+-- `topological::check_lent` meets its contract: the first test that fails gives the refusal. Assumes nothing.
+use mathlib.Core.Path.{sym, ◌∙◌}
+use borrow.Author.Tests.{eq-eqb, ne_eqb}
+use Rattle.topological.specs.Ordering.{ordered_lent_acceptance}
+use Rattle.topological.proofs.check_lent.Goals as goal
+
+pub returns-in-Refused : goal.returns-in-Refused
+unfolding ordered_lent_acceptance
+returns-in-Refused c = rw (sym c.check_order-a.ensures ∙ c.in-Refused.is)
+
+pub returns-then-weights-n : goal.returns-then-weights-n
+unfolding ordered_lent_acceptance
+returns-then-weights-n c = rw (sym c.check_order-a.ensures ∙ c.in-Accepted.is, ne_eqb _ _ c.if-weights-n.true)
+
+pub returns-then-depths-n : goal.returns-then-depths-n
+unfolding ordered_lent_acceptance
+returns-then-depths-n c = rw (sym c.check_order-a.ensures ∙ c.in-Accepted.is, eq-eqb _ _ c.if-weights-n.false, ne_eqb _ _ c.if-depths-n.true)
+
+pub returns-then-edges-n : goal.returns-then-edges-n
+unfolding ordered_lent_acceptance
+returns-then-edges-n c =
+    rw (
+      sym c.check_order-a.ensures
+          ∙ c.in-Accepted.is,
+      eq-eqb _ _ c.if-weights-n.false,
+      eq-eqb _ _ c.if-depths-n.false,
+      ne_eqb _ _ c.if-edges-n.true,
+    )
+
+pub returns-then-pieces-n : goal.returns-then-pieces-n
+unfolding ordered_lent_acceptance
+returns-then-pieces-n c =
+    rw (
+      sym c.check_order-a.ensures
+          ∙ c.in-Accepted.is,
+      eq-eqb _ _ c.if-weights-n.false,
+      eq-eqb _ _ c.if-depths-n.false,
+      eq-eqb _ _ c.if-edges-n.false,
+      ne_eqb _ _ c.if-pieces-n.true,
+    )
+
+pub returns : goal.returns
+unfolding ordered_lent_acceptance
+returns c =
+    rw (
+      sym c.check_order-a.ensures
+          ∙ c.in-Accepted.is,
+      eq-eqb _ _ c.if-weights-n.false,
+      eq-eqb _ _ c.if-depths-n.false,
+      eq-eqb _ _ c.if-edges-n.false,
+      eq-eqb _ _ c.if-pieces-n.false,
+    )

@@ -1,0 +1,7 @@
+-- `tozbierdu::tozbierdu_check_order` meets its contract. Assumes nothing.
+use mathlib.Core.Path.{◌∙◌, ap}
+use Rattle.refusal.specs.Refusals.{acceptance_result}
+use Rattle.tozbierdu.proofs.tozbierdu_check_order.Goals as goal
+
+pub returns : goal.returns
+returns c = c.result.ensures ∙ ap acceptance_result c.check_order-a.ensures
