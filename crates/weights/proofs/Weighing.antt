@@ -21,15 +21,15 @@ module _ {A : Algebra} (L : Lawful A) where
   fold_mono : {a b : ℕ} {xs ys : List ℕ} → NoWorse A.leq a b → Pointwise A xs ys → NoWorse A.leq (fold A.join a xs) (fold A.join b ys)
   unfolding fold
   fold_mono o Pointwise.none = o
-  fold_mono o (Pointwise.more p ps) = fold_mono (L.join_mono o p) ps
+  fold_mono {a = a} {b = b} o (more {x = x} {y = y} {xs = xs} {ys = ys} p ps) = fold_mono {a = A.join a x} (L.join_mono o p) ps
 
   -- what is no worse than where the joining starts is no worse than the whole
   fold_keeps : {x a : ℕ} (xs : List ℕ) → InRange A x → NoWorse A.leq x a → NoWorse A.leq x (fold A.join a xs)
   unfolding fold
   fold_keeps [] h p = p
-  fold_keeps (y ∷ xs) h p = fold_keeps xs h (L.join_left y h p)
+  fold_keeps {x = x} {a = a} (y ∷ xs) h p = fold_keeps {a = A.join a y} xs h (L.join_left y h p)
 
-  fold_superior : (a : ℕ) {x : ℕ} {xs : List ℕ} → Memᴰ x xs → InRange A x → NoWorse A.leq x (fold A.join a xs)
+  fold_superior : {x : ℕ} (a : ℕ) {xs : List ℕ} → Memᴰ x xs → InRange A x → NoWorse A.leq x (fold A.join a xs)
   unfolding fold
   fold_superior a (Memᴰ.head {x = y} {xs = ys} e) h = rw e (fold_keeps ys (rw e at h) (L.join_right a (rw e at h)))
   fold_superior a (Memᴰ.tail {x = y} i) h = fold_superior (A.join a y) i h
