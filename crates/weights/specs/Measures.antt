@@ -1,7 +1,7 @@
 -- The measures: how the weights of a derivation are joined, and which of two is the better. The paper's "Make-ups, figures, depth" (Cost, Days), and document 02's
 -- 2026-03 (days) and 2026-10 (grade).
 -- Assumes nothing: these are definitions.
-use Rattle.std.specs.Prelude.{ℕ, ◌+◌, min, max, Bool, true, List, [], ◌∷◌, leb}
+use Rattle.std.specs.Prelude.{ℕ, ◌+◌, min, max, Bool, List, [], ◌∷◌, leb}
 use Rattle.weights.specs.declared.Measure.{Measure}
 use Rattle.weights.specs.declared.Measure.TheVariants.{Cost, Days, Grade}
 use Rattle.weights.specs.Figures.{greatest, over, capped}
