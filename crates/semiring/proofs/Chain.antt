@@ -7,7 +7,7 @@ use Prim.Native.Nat.{ℕ, min, max}
 use native.Mathlib.Omega.{arith}
 use lib.Dec.{leb}
 use borrow.Author.Tests.{leb-true, leb-false, le-leb}
-use Rattle.semiring.specs.Semiring.{Operations, Semiring, Below, Sum, Extended, finite, infinite, least, extend}
+use Rattle.semiring.specs.Semiring.{Operations, Semiring, Sum, Extended, finite, infinite, least, extend}
 use Rattle.semiring.specs.Chain.{ordered, at_most, bottleneck, Graded, absent, present, up_to, grades}
 
 -- a total order by its test, with a first and a last element

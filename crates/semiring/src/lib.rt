@@ -1,4 +1,3 @@
 // The source's definitions of provenance: in specs/. There is no code.
 
 #![tactic(auto)]
-
