@@ -18,7 +18,7 @@ use Rattle.statistics.specs.declared.Moments.{Moments}
 use Rattle.statistics.specs.declared.Sums.{Sums}
 use Rattle.statistics.specs.declared.Summary.TheVariants as summary
 use Rattle.statistics.specs.Fractions.{fraction, lowest, Reduced}
-use Rattle.statistics.specs.Samples.{most_results, greatest_result, total, sum, squares, spread, mean, variance, sample_acceptance, Sample, FirstTooLarge, Sampled, accepted, sized, large}
+use Rattle.statistics.specs.Samples.{most_results, greatest_result, total, sum, spread, mean, variance, sample_acceptance, Sample, FirstTooLarge, Sampled, accepted, sized, large}
 use Rattle.statistics.specs.Summaries.{sums_of, moments_of, answered, summary_of, Summarizes}
 use Rattle.statistics.proofs.Divisors.{gcd_is}
 use Rattle.statistics.proofs.Reduction.{lowest_same, lowest_reduced, lowest_unique}

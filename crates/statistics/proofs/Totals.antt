@@ -1,5 +1,5 @@
 -- Sums over the results: one result after another, in any order, of equal results, and how large they can become. Assumes nothing.
-use Prim.Native.Nat.{ℕ, zero, suc, ◌+◌, ◌*◌, ◌-◌, ◌≤◌, ◌<◌}
+use Prim.Native.Nat.{ℕ, zero, suc, ◌+◌, ◌*◌, ◌≤◌, ◌<◌}
 use mathlib.Core.Path.{◌≡◌, refl, ◌∙◌, ap, ap₂}
 use mathlib.Core.Logic.{∥∥₁_elim}
 use mathlib.Core.List.{List, [], ◌∷◌, Perm, Permᴰ}

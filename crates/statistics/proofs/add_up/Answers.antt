@@ -1,7 +1,6 @@
 use mathlib.Core.Path.{◌≡◌, ap₂}
-use Prim.Native.Nat.{ℕ, ◌+◌, ◌*◌}
+use Prim.Native.Nat.{ℕ, ◌*◌}
 use native.Mathlib.Omega.{arith}
-use lib.ListN.{length}
 use Rattle.statistics.specs.Samples.{sum, squares}
 use Rattle.statistics.proofs.Totals.{total_next, total_end}
 use Rattle.statistics.proofs.Ranges.{ranges}
