@@ -1,7 +1,7 @@
 -- Best weight: the trees of the weighted hypergraph that a table is are its derivations, with their exact weights; so at a fixpoint the figure of a part is its
 -- best weight, up to the ceiling. In every measure. Assumes nothing.
 use mathlib.Core.Path.{◌≡◌, refl, sym, ◌∙◌, ap, ap₂, subst}
-use mathlib.Core.List.{List, [], ◌∷◌, map}
+use mathlib.Core.List.{List, ◌∷◌, map}
 use Prim.Native.Nat.{ℕ}
 use Rattle.semiring.specs.Semiring.{Below}
 use Rattle.semiring.specs.Datalog.{Tree, Trees, BestWeight}

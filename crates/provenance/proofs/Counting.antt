@@ -6,7 +6,7 @@ use native.Mathlib.Nat.{mul-add, mul-zero, mul-one}
 use native.Mathlib.Omega.{arith}
 use native.Mathlib.Decide.{ℕ_discrete}
 use borrow.Author.Tests.{eq-eqb, ne_eqb}
-use lib.IntN.{ℤ, pos, sub_ℕ, ◌+ℤ◌, ◌*ℤ◌}
+use lib.IntN.{pos, sub_ℕ, ◌+ℤ◌, ◌*ℤ◌}
 use Rattle.provenance.specs.Counting.{once, count, sum_below, charge, total, Raised, change_of, sum_ℤ, bill_change}
 use Rattle.provenance.proofs.Integers.{sub_more, sub-sum, sub_scale}
 

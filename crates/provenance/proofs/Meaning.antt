@@ -6,7 +6,7 @@ use Prim.Native.Nat.{ℕ, ◌≤◌}
 use native.Mathlib.Omega.{arith}
 use native.Mathlib.Decide.{dec_le}
 use Rattle.weights.specs.declared.Label.{Label}
-use Rattle.weights.specs.Measures.{Algebra, weigh}
+use Rattle.weights.specs.Measures.{Algebra}
 use Rattle.weights.specs.Laws.{NoWorse, Lawful}
 use Rattle.weights.proofs.Weighing.{no_worse_eq}
 use Rattle.weights.specs.Order.{Ahead}

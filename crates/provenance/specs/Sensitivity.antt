@@ -6,8 +6,6 @@ use Rattle.std.specs.Prelude.{◌≡◌, List, ℕ, ◌+◌, ◌*◌, ◌≤◌,
 use Rattle.std.proofs.Math.IntN.{sub_ℕ}
 use Rattle.weights.specs.declared.Label.{Label}
 use Rattle.weights.specs.Figures.{ceiling}
-use Rattle.weights.proofs.Laws.{least}
-use Rattle.provenance.specs.Hypergraph.{weight}
 use Rattle.provenance.specs.Labelling.{Made}
 use Rattle.provenance.specs.Counting.{charge, bill_change}
 

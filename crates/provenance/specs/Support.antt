@@ -1,10 +1,9 @@
 -- The chosen make-up of a part, and its bill as it is computed from the labels. The paper's "Its chosen make-up uses the chosen line of every part in it". Assumes
 -- nothing: these are definitions.
-use Rattle.std.specs.Prelude.{◌≡◌, List, [], ◌∷◌, ◌++◌, ℕ, zero, suc, ◌+◌}
+use Rattle.std.specs.Prelude.{◌≡◌, List, [], ◌∷◌, ◌++◌, ℕ, zero, suc}
 use Rattle.weights.specs.declared.Label.{Label}
 use Rattle.weights.specs.Measures.{Algebra}
 use Rattle.provenance.specs.Hypergraph.{Hypergraph, Derivation, weight, Thrifty, depth}
-use Rattle.provenance.specs.Hypergraph
 use Rattle.provenance.specs.Means.{Follows}
 
 -- the bill of v: its chosen hyperedge, then the bill of each vertex of its tail, in order. `fuel` is at least v's depth

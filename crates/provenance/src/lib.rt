@@ -1,4 +1,3 @@
 // The theory of a table: definitions and theorems, in specs/. There is no code.
 
 #![tactic(auto)]
-
