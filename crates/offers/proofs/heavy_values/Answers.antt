@@ -17,14 +17,14 @@ slice_bounds-light_values-end c = capped_room c.args.weights.now _ c.requires.fe
 
 pub light_values-requires : goal.light_values-requires
 light_values-requires c =
-    let part : let ws = c.args.weights.now in take (length ws - 0) c.cap_all.new.NEW1.0 ≡ capped_column ws = capped_part c.args.weights.now _ c.cap_all.ensures in
+    let part : let ws = c.args.weights.now in take (length ws - 0) c.cap_all.new.column ≡ capped_column ws = capped_part c.args.weights.now _ c.cap_all.ensures in
     let a = c.args in
     let lends : List ℕ → Type 0 = λ xs. (Valuable a.own.now a.strikes.now a.spans.now a.tails.now xs a.depths.now a.values.now a.heights.now) × Light xs in
     subst lends (sym part) (valuable_capped c.requires, capped_light a.weights.now)
 
 pub returns : goal.returns
 returns c =
-    let part : let ws = c.args.weights.now in take (length ws - 0) c.cap_all.new.NEW1.0 ≡ capped_column ws = capped_part c.args.weights.now _ c.cap_all.ensures in
+    let part : let ws = c.args.weights.now in take (length ws - 0) c.cap_all.new.column ≡ capped_column ws = capped_part c.args.weights.now _ c.cap_all.ensures in
     let a = c.args in
     let n = length a.own.now in
     let values : List ℕ → List ℕ = λ xs. filled (values_of a.measure a.own.now a.strikes.now a.spans.now a.tails.now xs a.depths.now n) a.values.now in

@@ -1,13 +1,16 @@
 use mathlib.Core.Path.{◌≡◌, refl, ◌∙◌, ap}
+use mathlib.Core.Bool.{not}
 use Prim.Native.Nat.{ℕ}
 use native.Mathlib.Omega.{arith}
 use lib.ListN.{length, length-set}
+use Rattle.weights.specs.Figures.{is_struck_mark}
 use Rattle.weights.specs.Measures.{algebra}
-use Rattle.columns.specs.Columns.{cell}
+use Rattle.columns.specs.Acceptance.{most_vertices}
+use Rattle.columns.specs.Columns.{cell, tail_of}
 use Rattle.columns.specs.Filled.{filled}
 use Rattle.columns.proofs.Filled.{filled_none}
 use Rattle.offers.specs.Values.{below, value_in, height_in, value_at, height_at}
-use Rattle.offers.proofs.Values.{value_in_lem, height_in_lem, fill_more}
+use Rattle.offers.proofs.Values.{value_in_lem, height_in_lem, height_within, fill_more}
 use Rattle.offers.proofs.light_values.Goals as goal
 
 pub loop-i-init : goal.loop-i-init
@@ -21,15 +24,22 @@ offer-o-requires c =
     let h = c.loop-i-test.true in
     (p.each i h, p.figures i h, c.requires.1)
 
--- LEFT note-requires: call of value
--- let o = c.before.before in
---     let l = o.before.before in
---     let p = (entry l).requires.0 in
---     record {
---       value = omega (arith, o.before.loop-test.true, p.values, l.loop.invariant.1.0);
---       height = omega (arith, o.before.loop-test.true, p.heights, l.loop.invariant.2.0);
---       small = small o;
---     }
+pub note-requires : goal.note-requires
+unfolding height_at
+note-requires c =
+    let a = c.args in
+    let i = c.loop-i.i in
+    let h = c.loop-i-test.true in
+    let p = c.requires.0 in
+    let g = (p.each i h).legible.shallow in
+    let live = not (is_struck_mark (cell a.strikes.now i)) in
+    let tail = tail_of a.spans.now a.tails.now i in
+    let height = ap height_in c.offer-o.ensures ∙ height_in_lem (algebra a.measure) live (cell a.own.now i) tail (cell a.weights.now) (cell a.depths.now) i in
+    record {
+      value = omega (arith, p.values, c.loop-i.invariant.1.0);
+      height = omega (arith, p.heights, c.loop-i.invariant.2.0);
+      small = omega (arith, height, height_within (cell a.depths.now) most_vertices g live tail);
+    }
 
 pub loop-i-preserved : goal.loop-i-preserved
 unfolding height_at value_at

@@ -18,40 +18,40 @@ loop-l-init c = c.requires.1.1
 
 pub overflow_cast-i : goal.overflow_cast-i
 overflow_cast-i c =
-    let queued : let a = c.args in Offerable (lent a.heads.now a.own.now a.strikes.now a.spans.now a.tails.now a.depths.now) a.weights.now a.depths.now c.loop-l.queue = record { usable = c.requires.0.usable; fitted = c.requires.0.fitted; grouped = c.loop-l.invariant.waiting.grouped; sized = c.loop-l.invariant.waiting.sized; } in
+    let queued : let a = c.args in Offerable (lent a.heads.now a.own.now a.strikes.now a.spans.now a.tails.now a.depths.now) a.weights.now a.depths.now c.loop-l.queue = record { usable = c.requires.0.usable; fitted = c.requires.0.fitted; grouped = c.loop-l.invariant.waiting.grouped; sized = c.loop-l.invariant.waiting.sized } in
     let low : c.loop-l.l < 4096 = below queued c.loop-l.invariant c.loop-l-test.true in
     omega (arith, low)
 
 pub offset_bounds-next-i : goal.offset_bounds-next-i
 offset_bounds-next-i c =
-    let queued : let a = c.args in Offerable (lent a.heads.now a.own.now a.strikes.now a.spans.now a.tails.now a.depths.now) a.weights.now a.depths.now c.loop-l.queue = record { usable = c.requires.0.usable; fitted = c.requires.0.fitted; grouped = c.loop-l.invariant.waiting.grouped; sized = c.loop-l.invariant.waiting.sized; } in
+    let queued : let a = c.args in Offerable (lent a.heads.now a.own.now a.strikes.now a.spans.now a.tails.now a.depths.now) a.weights.now a.depths.now c.loop-l.queue = record { usable = c.requires.0.usable; fitted = c.requires.0.fitted; grouped = c.loop-l.invariant.waiting.grouped; sized = c.loop-l.invariant.waiting.sized } in
     let low : c.loop-l.l < 4096 = below queued c.loop-l.invariant c.loop-l-test.true in
     omega (arith, low)
 
 pub bounds-next-i : goal.bounds-next-i
 bounds-next-i c =
-    let queued : let a = c.args in Offerable (lent a.heads.now a.own.now a.strikes.now a.spans.now a.tails.now a.depths.now) a.weights.now a.depths.now c.loop-l.queue = record { usable = c.requires.0.usable; fitted = c.requires.0.fitted; grouped = c.loop-l.invariant.waiting.grouped; sized = c.loop-l.invariant.waiting.sized; } in
+    let queued : let a = c.args in Offerable (lent a.heads.now a.own.now a.strikes.now a.spans.now a.tails.now a.depths.now) a.weights.now a.depths.now c.loop-l.queue = record { usable = c.requires.0.usable; fitted = c.requires.0.fitted; grouped = c.loop-l.invariant.waiting.grouped; sized = c.loop-l.invariant.waiting.sized } in
     omega (arith, placed queued c.loop-l.invariant c.loop-l-test.true, c.loop-l.invariant.sizes.next)
 
 pub overflow_cast-number : goal.overflow_cast-number
 overflow_cast-number c =
-    let queued : let a = c.args in Offerable (lent a.heads.now a.own.now a.strikes.now a.spans.now a.tails.now a.depths.now) a.weights.now a.depths.now c.loop-l.queue = record { usable = c.requires.0.usable; fitted = c.requires.0.fitted; grouped = c.loop-l.invariant.waiting.grouped; sized = c.loop-l.invariant.waiting.sized; } in
+    let queued : let a = c.args in Offerable (lent a.heads.now a.own.now a.strikes.now a.spans.now a.tails.now a.depths.now) a.weights.now a.depths.now c.loop-l.queue = record { usable = c.requires.0.usable; fitted = c.requires.0.fitted; grouped = c.loop-l.invariant.waiting.grouped; sized = c.loop-l.invariant.waiting.sized } in
     let low : c.loop-l.l < 4096 = below queued c.loop-l.invariant c.loop-l-test.true in
     omega (arith, low)
 
 pub wake-requires : goal.wake-requires
 wake-requires c =
-    let queued : let a = c.args in Offerable (lent a.heads.now a.own.now a.strikes.now a.spans.now a.tails.now a.depths.now) a.weights.now a.depths.now c.loop-l.queue = record { usable = c.requires.0.usable; fitted = c.requires.0.fitted; grouped = c.loop-l.invariant.waiting.grouped; sized = c.loop-l.invariant.waiting.sized; } in
+    let queued : let a = c.args in Offerable (lent a.heads.now a.own.now a.strikes.now a.spans.now a.tails.now a.depths.now) a.weights.now a.depths.now c.loop-l.queue = record { usable = c.requires.0.usable; fitted = c.requires.0.fitted; grouped = c.loop-l.invariant.waiting.grouped; sized = c.loop-l.invariant.waiting.sized } in
     (queued, wakeful queued c.loop-l.invariant c.loop-l-test.true)
 
 pub loop-l-smaller : goal.loop-l-smaller
 loop-l-smaller c =
-    let queued : let a = c.args in Offerable (lent a.heads.now a.own.now a.strikes.now a.spans.now a.tails.now a.depths.now) a.weights.now a.depths.now c.loop-l.queue = record { usable = c.requires.0.usable; fitted = c.requires.0.fitted; grouped = c.loop-l.invariant.waiting.grouped; sized = c.loop-l.invariant.waiting.sized; } in
+    let queued : let a = c.args in Offerable (lent a.heads.now a.own.now a.strikes.now a.spans.now a.tails.now a.depths.now) a.weights.now a.depths.now c.loop-l.queue = record { usable = c.requires.0.usable; fitted = c.requires.0.fitted; grouped = c.loop-l.invariant.waiting.grouped; sized = c.loop-l.invariant.waiting.sized } in
     (walked queued c.loop-l.invariant c.loop-l-test.true c.wake.ensures).fewer
 
 pub loop-l-preserved : goal.loop-l-preserved
 loop-l-preserved c =
-    let queued : let a = c.args in Offerable (lent a.heads.now a.own.now a.strikes.now a.spans.now a.tails.now a.depths.now) a.weights.now a.depths.now c.loop-l.queue = record { usable = c.requires.0.usable; fitted = c.requires.0.fitted; grouped = c.loop-l.invariant.waiting.grouped; sized = c.loop-l.invariant.waiting.sized; } in
+    let queued : let a = c.args in Offerable (lent a.heads.now a.own.now a.strikes.now a.spans.now a.tails.now a.depths.now) a.weights.now a.depths.now c.loop-l.queue = record { usable = c.requires.0.usable; fitted = c.requires.0.fitted; grouped = c.loop-l.invariant.waiting.grouped; sized = c.loop-l.invariant.waiting.sized } in
     (walked queued c.loop-l.invariant c.loop-l-test.true c.wake.ensures).on
 
 pub shape_of-first : goal.shape_of-first
@@ -84,5 +84,5 @@ shape_of-queue c =
 
 pub returns : goal.returns
 returns c =
-    let queued : let a = c.args in Offerable (lent a.heads.now a.own.now a.strikes.now a.spans.now a.tails.now a.depths.now) a.weights.now a.depths.now c.loop-l.queue = record { usable = c.requires.0.usable; fitted = c.requires.0.fitted; grouped = c.loop-l.invariant.waiting.grouped; sized = c.loop-l.invariant.waiting.sized; } in
+    let queued : let a = c.args in Offerable (lent a.heads.now a.own.now a.strikes.now a.spans.now a.tails.now a.depths.now) a.weights.now a.depths.now c.loop-l.queue = record { usable = c.requires.0.usable; fitted = c.requires.0.fitted; grouped = c.loop-l.invariant.waiting.grouped; sized = c.loop-l.invariant.waiting.sized } in
     all_woken queued c.loop-l.invariant c.loop-l-test.false
