@@ -31,22 +31,22 @@ returns-in-Refused c =
 
 pub overflow_add-edges : goal.overflow_add-edges
 overflow_add-edges c =
-    let next-line : let b = c.args in let r = c.line-in-Edge-1.given.0.1.1.1 in (c.loop-at.at < r.1.0) × (r.0 ≤ 16384 - c.loop-at.listed) × Scanning b.text.now b.n b.measure r.1.0 (c.loop-at.edges + 1) (c.loop-at.listed + r.0) = line-next _ _ _ _ _ _ c.loop-at.invariant.1 c.loop-at-test.true c.if-edges-ge-MOST_EDGES.false _ c.loop-at.invariant.0 _ _ c.line_at-line.ensures.answer _ _ _ _ _ c.in-Edge.is in
+    let next-line : let b = c.args in let r = c.in-Edge in (c.loop-at.at < r.next) × (r.count ≤ 16384 - c.loop-at.listed) × Scanning b.text.now b.n b.measure r.next (c.loop-at.edges + 1) (c.loop-at.listed + r.count) = line-next _ _ _ _ _ _ c.loop-at.invariant.1 c.loop-at-test.true c.if-edges-ge-MOST_EDGES.false _ c.loop-at.invariant.0 _ _ c.line_at-line.ensures.answer _ _ _ _ _ c.in-Edge.is in
     let f = next-line.2.few in omega arith
 
 pub overflow_add-listed : goal.overflow_add-listed
 overflow_add-listed c =
-    let next-line : let b = c.args in let r = c.line-in-Edge-1.given.0.1.1.1 in (c.loop-at.at < r.1.0) × (r.0 ≤ 16384 - c.loop-at.listed) × Scanning b.text.now b.n b.measure r.1.0 (c.loop-at.edges + 1) (c.loop-at.listed + r.0) = line-next _ _ _ _ _ _ c.loop-at.invariant.1 c.loop-at-test.true c.if-edges-ge-MOST_EDGES.false _ c.loop-at.invariant.0 _ _ c.line_at-line.ensures.answer _ _ _ _ _ c.in-Edge.is in
+    let next-line : let b = c.args in let r = c.in-Edge in (c.loop-at.at < r.next) × (r.count ≤ 16384 - c.loop-at.listed) × Scanning b.text.now b.n b.measure r.next (c.loop-at.edges + 1) (c.loop-at.listed + r.count) = line-next _ _ _ _ _ _ c.loop-at.invariant.1 c.loop-at-test.true c.if-edges-ge-MOST_EDGES.false _ c.loop-at.invariant.0 _ _ c.line_at-line.ensures.answer _ _ _ _ _ c.in-Edge.is in
     let f = next-line.2.few_listed in omega arith
 
 pub loop-at-smaller : goal.loop-at-smaller
 loop-at-smaller c =
-    let next-line : let b = c.args in let r = c.line-in-Edge-1.given.0.1.1.1 in (c.loop-at.at < r.1.0) × (r.0 ≤ 16384 - c.loop-at.listed) × Scanning b.text.now b.n b.measure r.1.0 (c.loop-at.edges + 1) (c.loop-at.listed + r.0) = line-next _ _ _ _ _ _ c.loop-at.invariant.1 c.loop-at-test.true c.if-edges-ge-MOST_EDGES.false _ c.loop-at.invariant.0 _ _ c.line_at-line.ensures.answer _ _ _ _ _ c.in-Edge.is in
+    let next-line : let b = c.args in let r = c.in-Edge in (c.loop-at.at < r.next) × (r.count ≤ 16384 - c.loop-at.listed) × Scanning b.text.now b.n b.measure r.next (c.loop-at.edges + 1) (c.loop-at.listed + r.count) = line-next _ _ _ _ _ _ c.loop-at.invariant.1 c.loop-at-test.true c.if-edges-ge-MOST_EDGES.false _ c.loop-at.invariant.0 _ _ c.line_at-line.ensures.answer _ _ _ _ _ c.in-Edge.is in
     let n = next-line in let h = n.0 in let w = n.2.within in omega arith
 
 pub loop-at-preserved : goal.loop-at-preserved
 loop-at-preserved c =
-    let next-line : let b = c.args in let r = c.line-in-Edge-1.given.0.1.1.1 in (c.loop-at.at < r.1.0) × (r.0 ≤ 16384 - c.loop-at.listed) × Scanning b.text.now b.n b.measure r.1.0 (c.loop-at.edges + 1) (c.loop-at.listed + r.0) = line-next _ _ _ _ _ _ c.loop-at.invariant.1 c.loop-at-test.true c.if-edges-ge-MOST_EDGES.false _ c.loop-at.invariant.0 _ _ c.line_at-line.ensures.answer _ _ _ _ _ c.in-Edge.is in
+    let next-line : let b = c.args in let r = c.in-Edge in (c.loop-at.at < r.next) × (r.count ≤ 16384 - c.loop-at.listed) × Scanning b.text.now b.n b.measure r.next (c.loop-at.edges + 1) (c.loop-at.listed + r.count) = line-next _ _ _ _ _ _ c.loop-at.invariant.1 c.loop-at-test.true c.if-edges-ge-MOST_EDGES.false _ c.loop-at.invariant.0 _ _ c.line_at-line.ensures.answer _ _ _ _ _ c.in-Edge.is in
     (search rules, next-line.2)
 
 pub returns : goal.returns

@@ -9,7 +9,7 @@ use Rattle.reading.proofs.line_at.Goals as goal
 -- the list begins behind them, in the text
 pub tail_at-tail-requires : goal.tail_at-tail-requires
 tail_at-tail-requires c =
-    let read : let a = c.args in let r = c.stem-in-Read-1.given.0 in stem_at a.text.now a.n a.at ≡ Bears r.0 r.1.0 r.1.1.0 r.1.1.1.0 = stemmed _ _ _ _ _ _ _ (sym c.in-Read.is ∙ c.stem_at-stem.ensures) in
+    let read : let a = c.args in let r = c.in-Read in stem_at a.text.now a.n a.at ≡ Bears r.head r.own r.mark r.a = stemmed _ _ _ _ _ _ _ (sym c.in-Read.is ∙ c.stem_at-stem.ensures) in
     let r = stem_counts _ _ _ _ _ _ _ read in let h = r.0 in (omega arith, r.1)
 
 pub returns-in-Refused : goal.returns-in-Refused
@@ -17,5 +17,5 @@ returns-in-Refused c = line_unstemmed _ _ _ _ _ _ _ (sym c.in-Refused.is ∙ c.s
 
 pub returns-in-Read : goal.returns-in-Read
 returns-in-Read c =
-    let read : let a = c.args in let r = c.stem-in-Read-1.given.0 in stem_at a.text.now a.n a.at ≡ Bears r.0 r.1.0 r.1.1.0 r.1.1.1.0 = stemmed _ _ _ _ _ _ _ (sym c.in-Read.is ∙ c.stem_at-stem.ensures) in
+    let read : let a = c.args in let r = c.in-Read in stem_at a.text.now a.n a.at ≡ Bears r.head r.own r.mark r.a = stemmed _ _ _ _ _ _ _ (sym c.in-Read.is ∙ c.stem_at-stem.ensures) in
     line-listed _ _ _ _ _ _ _ _ _ _ _ _ _ read c.tail_at-tail.ensures c.line_with.ensures
