@@ -166,8 +166,8 @@ loop-i-preserved c =
     let o = one_more tail-in c.loop-i.i c.loop-i-test.true in (
       omega arith,
       elim c.if-mark-number.branch [
-        then-mark-number w ↦ w.index-is ∙ rw o (count_new _ _ _ vertex _ below c.loop-i.invariant.1 w.if-mark-number.true)
-      | else-mark-number w ↦ w.index-is ∙ rw o (count_again _ _ _ vertex _ below c.loop-i.invariant.1 w.if-mark-number.false)
+        | then-mark-number w ↦ w.index-is ∙ rw o (count_new _ _ _ vertex _ below c.loop-i.invariant.1 w.if-mark-number.true)
+        | else-mark-number w ↦ w.index-is ∙ rw o (count_again _ _ _ vertex _ below c.loop-i.invariant.1 w.if-mark-number.false)
       ],
     )
 

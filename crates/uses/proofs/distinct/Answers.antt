@@ -19,12 +19,12 @@ loop-i-preserved c =
     let told = c.stands_in.ensures in (
       omega arith,
       elim c.if-not-stands_in.branch [
-        then-not-stands_in w ↦
-          let d = distinct_new c.args.list.now c.loop-i.i (sym told ∙ w.if-not-stands_in.true) in
-          (omega (arith, w.k-is), w.k-is ∙ ap (λ (k : ℕ). k + 1) c.loop-i.invariant.1.1 ∙ sym d)
-      | else-not-stands_in w ↦
-          let d = distinct_again c.args.list.now c.loop-i.i (sym told ∙ w.if-not-stands_in.false) in
-          (omega (arith, w.k-is), w.k-is ∙ c.loop-i.invariant.1.1 ∙ sym d)
+        | then-not-stands_in w ↦
+            let d = distinct_new c.args.list.now c.loop-i.i (sym told ∙ w.if-not-stands_in.true) in
+            (omega (arith, w.k-is), w.k-is ∙ ap (λ (k : ℕ). k + 1) c.loop-i.invariant.1.1 ∙ sym d)
+        | else-not-stands_in w ↦
+            let d = distinct_again c.args.list.now c.loop-i.i (sym told ∙ w.if-not-stands_in.false) in
+            (omega (arith, w.k-is), w.k-is ∙ c.loop-i.invariant.1.1 ∙ sym d)
       ],
     )
 

@@ -1,6 +1,6 @@
-use mathlib.Core.Path.{◌≡◌, sym, ◌∙◌, ap, subst, subst₂}
+use mathlib.Core.Path.{◌≡◌, sym, ◌∙◌, ap}
 use mathlib.Core.Bool.{true, false}
-use mathlib.Core.List.{List, [], ◌∷◌, ◌++◌}
+use mathlib.Core.List.{List}
 use Prim.Native.Nat.{ℕ, ◌+◌, ◌*◌, ◌≤◌, ◌<◌}
 use native.Mathlib.Omega.{arith}
 use lib.ListN.{length, get_or, set, take}
@@ -139,8 +139,8 @@ pub loop-i-preserved : goal.loop-i-preserved
 loop-i-preserved c = (
   omega arith,
   elim c.if-not-ends_in.branch [
-    then-not-ends_in w ↦ rw (w.index-is, w.list-is) (filled_new c.requires c.loop-i.i c.loop-i.invariant.1 c.loop-i-test.true (sym w.if-not-ends_in.ensures))
-  | else-not-ends_in w ↦ rw (w.index-is, w.list-is) (filled_again c.requires c.loop-i.i c.loop-i.invariant.1 c.loop-i-test.true (sym w.if-not-ends_in.ensures))
+    | then-not-ends_in w ↦ rw (w.index-is, w.list-is) (filled_new c.requires c.loop-i.i c.loop-i.invariant.1 c.loop-i-test.true (sym w.if-not-ends_in.ensures))
+    | else-not-ends_in w ↦ rw (w.index-is, w.list-is) (filled_again c.requires c.loop-i.i c.loop-i.invariant.1 c.loop-i-test.true (sym w.if-not-ends_in.ensures))
   ],
 )
 
