@@ -1,5 +1,5 @@
 -- The check of an index, from what building it leaves. Assumes nothing.
-use mathlib.Core.Path.{◌≡◌, refl, sym, ◌∙◌, ap, ap₂, subst}
+use mathlib.Core.Path.{◌≡◌, sym, ◌∙◌, ap, ap₂, subst}
 use mathlib.Core.Bool.{true, false}
 use mathlib.Core.List.{List}
 use Prim.Native.Nat.{ℕ, ◌+◌, ◌*◌, ◌≤◌, ◌<◌}
@@ -14,7 +14,7 @@ use Rattle.columns.specs.Columns.{tail_of}
 use Rattle.columns.specs.Same.{equal}
 use Rattle.columns.proofs.Filled.{take-filled, length-filled}
 use Rattle.uses.specs.Uses.{pairs_in, indexed}
-use Rattle.uses.specs.Indexable.{Readable, Indexable}
+use Rattle.uses.specs.Indexable.{Readable}
 use Rattle.uses.proofs.Laws.{Indexed, parts_of}
 use Rattle.uses.proofs.Room.{pairs_in_lem}
 use Rattle.indextable.specs.Index.{TableIndex, index_by, index_room, begin_with, held_acceptance}

@@ -19,7 +19,7 @@ use Rattle.uses.specs.Indexable.{Measurable, Indexable, FilledTo, Offset}
 use Rattle.uses.proofs.Pairs.{length_pairs}
 use Rattle.uses.proofs.Whole.{offset, all-pairs, all_listed}
 use Rattle.uses.proofs.Room.{pairs_in_lem, table_measurable}
-use Rattle.indextable.specs.Index.{TableIndex, index_by, index_of, index_room, index_acceptance, IndexOutcome, index_outcome, table_indexed}
+use Rattle.indextable.specs.Index.{TableIndex, index_by, index_room, index_acceptance, IndexOutcome, index_outcome, table_indexed}
 
 module _ {spans tails room : List ℕ} (a : Measurable spans tails room) (index list : List ℕ) where
   -- the index of what the spans say, and the outcome of laying it

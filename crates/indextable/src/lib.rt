@@ -22,8 +22,7 @@ fn index_with(
     list: &mut [u64],
 ) -> Extent
     requires { Measurable spans.now tails.now pairs.old }
-    ensures {
-        let n = pairs_in pairs.old in
+    ensures { let n = pairs_in pairs.old in
         let x = index_by (tail_of spans.now tails.now) (pairs_in spans.now) n in
         let i = index.old in
         let l = list.old in
@@ -51,8 +50,7 @@ fn index_in(
     list: &mut [u64],
 ) -> Extent
     requires { (Measurable spans.now tails.now (take (2 * n) room.old)) × (2 * n ≤ length room.old) }
-    ensures {
-        let x = index_by (tail_of spans.now tails.now) (pairs_in spans.now) n in
+    ensures { let x = index_by (tail_of spans.now tails.now) (pairs_in spans.now) n in
         let i = index.old in
         let l = list.old in
         record { result = result; index = index.new; list = list.new } ≡ index_outcome x i l (index_room n (length x.list) i l) }
@@ -73,8 +71,7 @@ pub fn index_table(
     index: &mut [u64],
     list: &mut [u64],
 ) -> Extent
-    ensures {
-        let c = columns n heads.now own.now strikes.now spans.now tails.now in
+    ensures { let c = columns n heads.now own.now strikes.now spans.now tails.now in
         record { result = result; index = index.new; list = list.new } ≡ table_indexed c index.old list.old }
 {
     let a = columns::check_table(n, heads, own, strikes, spans, tails);

@@ -8,15 +8,15 @@ use native.Mathlib.Numerals.{add-one}
 use native.Mathlib.Omega.{arith}
 use lib.ListN.{length, get_or, take, drop, drop_of_length-le}
 use lib.Seq.{take-suc, take-length, drop-cons}
-use lib.Dec.{eqb, ltb}
+use lib.Dec.{ltb}
 use borrow.Author.Tests.{ltb-true, ltb-false, eq-eqb, ne_eqb, lt-ltb, le-ltb}
 use Rattle.weights.specs.Lists.{member}
-use Rattle.weights.proofs.Lists.{true-or-false, either, member_snoc}
+use Rattle.weights.proofs.Lists.{true-or-false}
 use Rattle.weights.specs.Choice.{pick}
-use Rattle.uses.specs.Uses.{use_list, distinct_in}
+use Rattle.uses.specs.Uses.{distinct_in}
 use Rattle.uses.proofs.Pairs.{same_or_not}
 use Rattle.uses.proofs.Seen.{seen_now, seen_other}
-use Rattle.uses.proofs.Room.{hits, hits_none, list_more}
+use Rattle.uses.proofs.Room.{hits, hits_none}
 
 -- a list from place i on: a vertex that is v, one that is not, and none left
 module _ (v : ℕ) (xs : List ℕ) (i : ℕ) where

@@ -9,7 +9,6 @@ use native.Mathlib.Omega.{arith}
 use lib.ListN.{length, get_or, drop, get_or-append}
 use Rattle.weights.specs.Lists.{member}
 use Rattle.columns.specs.Filled.{filled}
-use Rattle.columns.proofs.Filled.{length-filled}
 use Rattle.uses.specs.Uses.{uses_below, use_list, use_offset, use_count, use_pairs, Index, indexed}
 use Rattle.uses.proofs.Pairs.{length_pairs, pairs_first, pairs_second}
 use Rattle.uses.proofs.Lists.{uses_sound, uses_complete, uses_ascend, offset_next, offset_end, uses_at}

@@ -2,7 +2,6 @@
 use mathlib.Core.Path.{◌≡◌, sym, ◌∙◌}
 use mathlib.Core.Bool.{true}
 use native.Mathlib.Omega.{arith}
-use borrow.Author.Tests.{not-true, not-false}
 use Rattle.refusal.specs.declared.Acceptance.TheVariants.{Accepted}
 use Rattle.columns.specs.Columns.{Entries, Columns, columns, entries}
 use Rattle.columns.specs.Acceptance.{lent_acceptance}
@@ -34,7 +33,7 @@ returns-then-not-answers_right c =
     let came : Entries = let a = c.args in entries a.weights.now a.depths.now a.edges.now a.pieces.now in
     let table_of : Columns = let a = c.args in columns a.n a.heads.now a.own.now a.strikes.now a.spans.now a.tails.now in
     let accepted : lent_acceptance table_of came ≡ Accepted = sym c.check_lent-a.ensures ∙ c.in-Accepted.is in
-    part_wrong _ _ _ _ accepted c.if-part-n.false (sym c.answers_right.ensures ∙ not-true _ c.if-not-answers_right.true)
+    part_wrong _ _ _ _ accepted c.if-part-n.false (sym c.answers_right.ensures ∙ c.if-not-answers_right.true)
 
 pub offset_bounds-depths-i : goal.offset_bounds-depths-i
 offset_bounds-depths-i c =
@@ -55,7 +54,7 @@ returns-then-depths-i-eq0 c =
     let came : Entries = let a = c.args in entries a.weights.now a.depths.now a.edges.now a.pieces.now in
     let table_of : Columns = let a = c.args in columns a.n a.heads.now a.own.now a.strikes.now a.spans.now a.tails.now in
     let accepted : lent_acceptance table_of came ≡ Accepted = sym c.check_lent-a.ensures ∙ c.in-Accepted.is in
-    let right : same_entries came (entries_of c.args.measure table_of) ≡ true = sym c.answers_right.ensures ∙ not-false _ c.if-not-answers_right.false in
+    let right : same_entries came (entries_of c.args.measure table_of) ≡ true = sym c.answers_right.ensures ∙ c.if-not-answers_right.false in
     part_underivable _ _ _ _ accepted c.if-part-n.false right c.if-depths-i-eq0.true
 
 pub returns : goal.returns
@@ -63,5 +62,5 @@ returns c =
     let came : Entries = let a = c.args in entries a.weights.now a.depths.now a.edges.now a.pieces.now in
     let table_of : Columns = let a = c.args in columns a.n a.heads.now a.own.now a.strikes.now a.spans.now a.tails.now in
     let accepted : lent_acceptance table_of came ≡ Accepted = sym c.check_lent-a.ensures ∙ c.in-Accepted.is in
-    let right : same_entries came (entries_of c.args.measure table_of) ≡ true = sym c.answers_right.ensures ∙ not-false _ c.if-not-answers_right.false in
+    let right : same_entries came (entries_of c.args.measure table_of) ≡ true = sym c.answers_right.ensures ∙ c.if-not-answers_right.false in
     part_accepted _ _ _ _ accepted c.if-part-n.false right c.if-depths-i-eq0.false

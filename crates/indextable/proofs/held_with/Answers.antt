@@ -2,7 +2,6 @@
 use mathlib.Core.Path.{sym, ◌∙◌}
 use native.Mathlib.Omega.{arith}
 use lib.Seq.{length-take-le}
-use borrow.Author.Tests.{not-true, not-false}
 use Rattle.indextable.proofs.Holds.{held_few, total_few, total_fits, held_short, held_other_pairs, held_other_list, held_right}
 use Rattle.indextable.proofs.held_with.Goals as goal
 
@@ -23,7 +22,7 @@ slice_bounds-equal-end c = sym (length-take-le _ _ (omega arith))
 pub returns-then-not-equal : goal.returns-then-not-equal
 returns-then-not-equal c =
     held_other_pairs c.requires c.args.index.now c.args.list.now c.if-index-places.false c.index_uses-total.ensures
-    c.if-list-total.false (sym c.equal.ensures ∙ not-true _ c.if-not-equal.true)
+    c.if-list-total.false (sym c.equal.ensures ∙ c.if-not-equal.true)
 
 pub slice_bounds-equal-end-2 : goal.slice_bounds-equal-end-2
 slice_bounds-equal-end-2 c = sym (length-take-le _ _ (omega (arith, c.if-list-total.false)))
@@ -37,12 +36,12 @@ slice_bounds-equal-end-4 c =
 
 pub returns-then-not-equal-2 : goal.returns-then-not-equal-2
 returns-then-not-equal-2 c =
-    let yes-pairs = sym c.equal.ensures ∙ not-false _ c.if-not-equal.false in
+    let yes-pairs = sym c.equal.ensures ∙ c.if-not-equal.false in
     held_other_list c.requires c.args.index.now c.args.list.now c.if-index-places.false c.index_uses-total.ensures
-    c.if-list-total.false yes-pairs (sym c.equal-2.ensures ∙ not-true _ c.if-not-equal-2.true)
+    c.if-list-total.false yes-pairs (sym c.equal-2.ensures ∙ c.if-not-equal-2.true)
 
 pub returns : goal.returns
 returns c =
-    let yes-pairs = sym c.equal.ensures ∙ not-false _ c.if-not-equal.false in
+    let yes-pairs = sym c.equal.ensures ∙ c.if-not-equal.false in
     held_right c.requires c.args.index.now c.args.list.now c.if-index-places.false c.index_uses-total.ensures c.if-list-total.false
-    yes-pairs (sym c.equal-2.ensures ∙ not-false _ c.if-not-equal-2.false)
+    yes-pairs (sym c.equal-2.ensures ∙ c.if-not-equal-2.false)

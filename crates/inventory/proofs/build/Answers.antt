@@ -1,6 +1,5 @@
 -- `inventory::build` meets its contract: nothing is taken before there is enough of everything. Assumes nothing.
 use mathlib.Core.Path.{sym, ◌∙◌, ap}
-use borrow.Author.Tests.{not-true, not-false}
 use lib.ListN.{length}
 use Rattle.inventory.specs.declared.Fulfilment.TheVariants.{Built}
 use Rattle.inventory.specs.Replaying.{fulfilled}
@@ -12,10 +11,10 @@ pub returns-then-tail-eq0 : goal.returns-then-tail-eq0
 returns-then-tail-eq0 c = build_none _ _ c.if-tail-eq0.true
 
 pub returns-then-not-suffices : goal.returns-then-not-suffices
-returns-then-not-suffices c = build_short _ _ c.if-tail-eq0.false (sym c.suffices.ensures ∙ not-true _ c.if-not-suffices.true)
+returns-then-not-suffices c = build_short _ _ c.if-tail-eq0.false (sym c.suffices.ensures ∙ c.if-not-suffices.true)
 
 pub consume-requires : goal.consume-requires
-consume-requires c = (c.requires, sym c.suffices.ensures ∙ not-false _ c.if-not-suffices.false)
+consume-requires c = (c.requires, sym c.suffices.ensures ∙ c.if-not-suffices.false)
 
 pub shape_of-stock : goal.shape_of-stock
 shape_of-stock c = ap length c.consume.ensures ∙ length-consumed _ _
@@ -23,4 +22,4 @@ shape_of-stock c = ap length c.consume.ensures ∙ length-consumed _ _
 pub returns : goal.returns
 returns c =
     ap (fulfilled Built) c.consume.ensures
-    ∙ build_made _ _ c.if-tail-eq0.false (sym c.suffices.ensures ∙ not-false _ c.if-not-suffices.false)
+    ∙ build_made _ _ c.if-tail-eq0.false (sym c.suffices.ensures ∙ c.if-not-suffices.false)

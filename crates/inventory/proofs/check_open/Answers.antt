@@ -1,6 +1,5 @@
 -- `inventory::check_open` meets its contract: the tests that led to a return say which is the first to fail. Assumes nothing.
 use mathlib.Core.Path.{◌≡◌, sym, ◌∙◌}
-use borrow.Author.Tests.{not-true, not-false}
 use Rattle.refusal.specs.declared.Acceptance.TheVariants.{Accepted}
 use Rattle.columns.specs.Columns.{Entries, Columns, columns, entries}
 use Rattle.columns.specs.Acceptance.{lent_acceptance}
@@ -38,7 +37,7 @@ returns-then-not-answers_right c =
     let table_of : Columns = let a = c.args in columns a.n a.heads.now a.own.now a.strikes.now a.spans.now a.tails.now in
     let accepted : lent_acceptance table_of came ≡ Accepted = sym c.check_lent-a.ensures ∙ c.in-Accepted-a.is in
     let recorded : let a = c.args in record_acceptance a.n a.parts.now a.received.now a.outcomes.now ≡ Accepted = sym c.check_record-r.ensures ∙ c.in-Accepted.is in
-    open_wrong _ _ _ _ _ _ _ recorded accepted c.if-stock-n.false (sym c.answers_right.ensures ∙ not-true _ c.if-not-answers_right.true)
+    open_wrong _ _ _ _ _ _ _ recorded accepted c.if-stock-n.false (sym c.answers_right.ensures ∙ c.if-not-answers_right.true)
 
 pub returns : goal.returns
 returns c =
@@ -47,4 +46,4 @@ returns c =
     let accepted : lent_acceptance table_of came ≡ Accepted = sym c.check_lent-a.ensures ∙ c.in-Accepted-a.is in
     let recorded : let a = c.args in record_acceptance a.n a.parts.now a.received.now a.outcomes.now ≡ Accepted = sym c.check_record-r.ensures ∙ c.in-Accepted.is in
     c.check_opening.ensures
-    ∙ open_counts _ _ _ _ _ _ _ recorded accepted c.if-stock-n.false (sym c.answers_right.ensures ∙ not-false _ c.if-not-answers_right.false)
+    ∙ open_counts _ _ _ _ _ _ _ recorded accepted c.if-stock-n.false (sym c.answers_right.ensures ∙ c.if-not-answers_right.false)

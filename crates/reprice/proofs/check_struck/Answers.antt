@@ -3,7 +3,6 @@ use mathlib.Core.Path.{◌≡◌, sym, ◌∙◌}
 use Prim.Native.Nat.{◌<◌}
 use native.Mathlib.Omega.{arith}
 use lib.ListN.{length}
-use borrow.Author.Tests.{not-true, not-false}
 use Rattle.refusal.specs.declared.Acceptance.TheVariants.{Accepted}
 use Rattle.columns.specs.Columns.{Entries, Columns, columns, entries}
 use Rattle.reprice.specs.Repricing.{numbered_acceptance}
@@ -34,11 +33,11 @@ returns-then-not-is_struck c =
     let came : Entries = let a = c.args in entries a.weights.now a.depths.now a.edges.now a.pieces.now in
     let table_of : Columns = let a = c.args in columns a.n a.heads.now a.own.now a.strikes.now a.spans.now a.tails.now in
     let accepted : numbered_acceptance table_of came c.args.line.0 ≡ Accepted = sym c.check_numbered-a.ensures ∙ c.in-Accepted.is in
-    struck_standing _ _ _ accepted (sym c.is_struck.ensures ∙ not-true _ c.if-not-is_struck.true)
+    struck_standing _ _ _ accepted (sym c.is_struck.ensures ∙ c.if-not-is_struck.true)
 
 pub returns : goal.returns
 returns c =
     let came : Entries = let a = c.args in entries a.weights.now a.depths.now a.edges.now a.pieces.now in
     let table_of : Columns = let a = c.args in columns a.n a.heads.now a.own.now a.strikes.now a.spans.now a.tails.now in
     let accepted : numbered_acceptance table_of came c.args.line.0 ≡ Accepted = sym c.check_numbered-a.ensures ∙ c.in-Accepted.is in
-    struck_struck _ _ _ accepted (sym c.is_struck.ensures ∙ not-false _ c.if-not-is_struck.false)
+    struck_struck _ _ _ accepted (sym c.is_struck.ensures ∙ c.if-not-is_struck.false)

@@ -1,6 +1,5 @@
 use mathlib.Core.Path.{◌≡◌, sym, ◌∙◌, ap}
 use mathlib.Core.List.{List}
-use mathlib.Core.Logic.{⊎_elim}
 use Prim.Native.Nat.{ℕ, ◌+◌, ◌*◌, ◌<◌}
 use native.Mathlib.Omega.{arith}
 use lib.ListN.{length, get_or, length-set}
@@ -11,6 +10,7 @@ use Rattle.uses.proofs.Pairs.{length_pairs}
 use Rattle.uses.proofs.Seen.{seen_in, vertex_below, one_more, whole}
 use Rattle.uses.proofs.Counting.{counted_by, count_first, count_last, count_fits, count_again, count_new}
 use Rattle.uses.proofs.count_edge.Goals as goal
+use Rattle.uses.proofs.count_edge.Goals.{then-mark-number, else-mark-number}
 
 pub loop-i-init : goal.loop-i-init
 loop-i-init c = (omega arith, c.requires.counts ∙ count_first _ _ _)
@@ -165,10 +165,10 @@ loop-i-preserved c =
     let below : vertex < pairs_in c.args.index.now = vertex_below tail-in c.loop-i.i c.loop-i-test.true in
     let o = one_more tail-in c.loop-i.i c.loop-i-test.true in (
       omega arith,
-      ⊎_elim
-          (λ w. w.2 ∙ rw o (count_new _ _ _ vertex _ below c.loop-i.invariant.1 w.0.taken))
-          (λ w. w.1 ∙ rw o (count_again _ _ _ vertex _ below c.loop-i.invariant.1 w.0.left))
-          c.if-mark-number.branch,
+      elim c.if-mark-number.branch [
+        | then-mark-number w ↦ w.index-is ∙ rw o (count_new _ _ _ vertex _ below c.loop-i.invariant.1 w.if-mark-number.true)
+        | else-mark-number w ↦ w.index-is ∙ rw o (count_again _ _ _ vertex _ below c.loop-i.invariant.1 w.if-mark-number.false)
+      ],
     )
 
 pub shape_of-index : goal.shape_of-index

@@ -1,13 +1,12 @@
 use mathlib.Core.Path.{◌≡◌, sym, ◌∙◌, ap}
-use mathlib.Core.Logic.{⊎_elim}
 use Prim.Native.Nat.{ℕ, ◌+◌}
 use native.Mathlib.Omega.{arith}
-use borrow.Author.Tests.{not-true, not-false}
 use lib.ListN.{length}
 use lib.Seq.{length-take-le}
 use Rattle.uses.specs.Uses.{distinct_in}
 use Rattle.uses.proofs.Hits.{distinct_none, distinct_again, distinct_new}
 use Rattle.uses.proofs.distinct.Goals as goal
+use Rattle.uses.proofs.distinct.Goals.{then-not-stands_in, else-not-stands_in}
 
 pub loop-i-init : goal.loop-i-init
 loop-i-init c = (omega arith, (omega arith, sym (distinct_none _)))
@@ -19,14 +18,14 @@ pub loop-i-preserved : goal.loop-i-preserved
 loop-i-preserved c =
     let told = c.stands_in.ensures in (
       omega arith,
-      ⊎_elim
-          (λ w.
-          let d = distinct_new c.args.list.now c.loop-i.i (sym told ∙ not-true _ w.0.taken) in
-          (omega (arith, w.1), w.1 ∙ ap (λ (k : ℕ). k + 1) c.loop-i.invariant.1.1 ∙ sym d))
-          (λ w.
-          let d = distinct_again c.args.list.now c.loop-i.i (sym told ∙ not-false _ w.0.left) in
-          (omega (arith, w.1), w.1 ∙ c.loop-i.invariant.1.1 ∙ sym d))
-          c.if-not-stands_in.branch,
+      elim c.if-not-stands_in.branch [
+        | then-not-stands_in w ↦
+            let d = distinct_new c.args.list.now c.loop-i.i (sym told ∙ w.if-not-stands_in.true) in
+            (omega (arith, w.k-is), w.k-is ∙ ap (λ (k : ℕ). k + 1) c.loop-i.invariant.1.1 ∙ sym d)
+        | else-not-stands_in w ↦
+            let d = distinct_again c.args.list.now c.loop-i.i (sym told ∙ w.if-not-stands_in.false) in
+            (omega (arith, w.k-is), w.k-is ∙ c.loop-i.invariant.1.1 ∙ sym d)
+      ],
     )
 
 pub returns : goal.returns
