@@ -1,7 +1,6 @@
 use mathlib.Core.Path.{◌≡◌, sym, ◌∙◌}
 use Prim.Native.Nat.{ℕ}
 use native.Mathlib.Omega.{arith}
-use borrow.Author.Tests.{not-true, not-false}
 use Rattle.provenance.specs.Pieces.{piece_local}
 use Rattle.columns.specs.Columns.{cell, tail_of}
 use Rattle.pieces.specs.Counting.{Low}
@@ -10,14 +9,14 @@ use Rattle.pieces.proofs.Sums.{low_is}
 use Rattle.pieces.proofs.pieces_right.Goals as goal
 
 pub returns-then-not-low : goal.returns-then-not-low
-returns-then-not-low c = high_wrong _ _ _ _ _ (sym c.low.ensures ∙ not-true _ c.if-not-low.true)
+returns-then-not-low c = high_wrong _ _ _ _ _ (sym c.low.ensures ∙ c.if-not-low.true)
 
 pub loop-i-init : goal.loop-i-init
 loop-i-init c = (omega arith, λ u h. absurd (omega arith))
 
 pub count_vertex-count-requires : goal.count_vertex-count-requires
 count_vertex-count-requires c =
-    let lent-low : Low c.args.pieces.now = low_is _ (sym c.low.ensures ∙ not-false _ c.if-not-low.false) in
+    let lent-low : Low c.args.pieces.now = low_is _ (sym c.low.ensures ∙ c.if-not-low.false) in
     (c.requires, lent-low, c.loop-i-test.true)
 
 pub returns-then-lent-count : goal.returns-then-lent-count
