@@ -12,6 +12,7 @@ loop-i-init c = (omega arith, (linked_none c.requires, record { layer = c.requir
 
 pub loop-i-preserved : goal.loop-i-preserved
 loop-i-preserved c =
+    -- a depth has its place among the last vertices
     let s = c.requires.shallow c.loop-i.i c.loop-i-test.true in
     let d = c.loop-i.invariant.1.1 in (
       omega arith,
