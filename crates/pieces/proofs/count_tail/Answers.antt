@@ -1,7 +1,6 @@
 use mathlib.Core.Path.{◌∙◌, ap}
-use Prim.Native.Nat.{ℕ, ◌+◌, ◌*◌, ◌≤◌, ◌<◌, min}
+use Prim.Native.Nat.{ℕ, ◌+◌, min}
 use native.Mathlib.Omega.{arith}
-use lib.ListN.{length}
 use Rattle.provenance.specs.Pieces.{most_pieces}
 use Rattle.columns.specs.Columns.{cell}
 use Rattle.pieces.proofs.Sums.{sum_none, sum_most, sum_more, sum-all, count_none}
@@ -13,20 +12,19 @@ returns-then-tail-eq0 c = count_none _ _ c.if-tail-eq0.true
 pub loop-i-init : goal.loop-i-init
 loop-i-init c = (omega arith, sum_none _ _)
 
+-- a vertex of the tail has its place
 pub offset_bounds-pieces-v : goal.offset_bounds-pieces-v
-offset_bounds-pieces-v c =
-    let inside : let a = c.args in cell a.tail.now c.loop-i.i < length a.pieces.now = c.requires.each c.loop-i.i c.loop-i-test.true in
-    omega (arith, inside)
+offset_bounds-pieces-v c = omega (arith, c.requires.each c.loop-i.i c.loop-i-test.true)
 
 pub bounds-pieces-v : goal.bounds-pieces-v
-bounds-pieces-v c =
-    let inside : let a = c.args in cell a.tail.now c.loop-i.i < length a.pieces.now = c.requires.each c.loop-i.i c.loop-i-test.true in
-    inside
+bounds-pieces-v c = c.requires.each c.loop-i.i c.loop-i-test.true
 
+-- so far at most as many times the greatest count as there are vertices passed, of 16
 pub overflow_add-sum : goal.overflow_add-sum
 overflow_add-sum c =
-    let fits : let a = c.args in let i = c.loop-i.i in c.loop-i.sum + cell a.pieces.now (cell a.tail.now i) ≤ 16 * most_pieces = let p = cell c.args.pieces.now in let i = c.loop-i.i in omega (arith, c.loop-i.invariant.1, c.loop-i.invariant.0, c.loop-i-test.true, c.requires.short, c.requires.low (cell c.args.tail.now i), sum_most p c.args.tail.now c.requires.low i c.loop-i.invariant.0) in
-    omega (arith, fits)
+    let a = c.args in
+    let i = c.loop-i.i in
+    omega (arith, c.requires.low (cell a.tail.now i), sum_most (cell a.pieces.now) a.tail.now c.requires.low i c.loop-i.invariant.0)
 
 pub loop-i-preserved : goal.loop-i-preserved
 loop-i-preserved c =

@@ -1,30 +1,28 @@
 use mathlib.Core.Path.{◌≡◌, sym, ◌∙◌}
 use Prim.Native.Nat.{ℕ}
 use native.Mathlib.Omega.{arith}
-use borrow.Author.Tests.{not-true, not-false}
 use Rattle.provenance.specs.Pieces.{piece_local}
 use Rattle.columns.specs.Columns.{cell, tail_of}
-use Rattle.pieces.specs.Counting.{Low}
 use Rattle.pieces.proofs.Whole.{all_right, one_wrong, high_wrong, passed_more}
 use Rattle.pieces.proofs.Sums.{low_is}
 use Rattle.pieces.proofs.pieces_right.Goals as goal
 
 pub returns-then-not-low : goal.returns-then-not-low
-returns-then-not-low c = high_wrong _ _ _ _ _ (sym c.low.ensures ∙ not-true _ c.if-not-low.true)
+returns-then-not-low c = high_wrong _ _ _ _ _ (sym c.low.ensures ∙ c.if-not-low.true)
 
 pub loop-i-init : goal.loop-i-init
 loop-i-init c = (omega arith, λ u h. absurd (omega arith))
 
 pub count_vertex-count-requires : goal.count_vertex-count-requires
 count_vertex-count-requires c =
-    let lent-low : Low c.args.pieces.now = low_is _ (sym c.low.ensures ∙ not-false _ c.if-not-low.false) in
-    (c.requires, lent-low, c.loop-i-test.true)
+    (c.requires, low_is _ (sym c.low.ensures ∙ c.if-not-low.false), c.loop-i-test.true)
 
 pub returns-then-lent-count : goal.returns-then-lent-count
 returns-then-lent-count c = one_wrong c.requires c.loop-i.i c.loop-i-test.true (λ e. c.if-lent-count.true (e ∙ sym c.count_vertex-count.ensures))
 
 pub loop-i-preserved : goal.loop-i-preserved
 loop-i-preserved c =
+    -- the rule holds at u
     let Holds : ℕ → Type 0 = λ u. let a = c.args in cell a.pieces.now u ≡ piece_local (tail_of a.spans.now a.tails.now) (cell a.depths.now) (cell a.edges.now) (cell a.pieces.now) u in
     (omega arith, passed_more Holds c.loop-i.i c.loop-i.invariant.1 (c.if-lent-count.false ∙ c.count_vertex-count.ensures))
 
