@@ -18,17 +18,17 @@ store-v-requires c =
 pub wake_all-requires : goal.wake_all-requires
 wake_all-requires c =
     let is-next : Found c.unpack-l.result ≡ here c.requires = found c.requires _ c.least-key.ensures c.if-key.false c.unpack-l.ensures in
-    waking_after c.requires is-next c.store-v.ensures.1 c.store-v.ensures.0
+    waking_after c.requires is-next c.store-v.ensures.stored c.store-v.ensures.head
 
 pub raise-requires : goal.raise-requires
 raise-requires c =
     let is-next : Found c.unpack-l.result ≡ here c.requires = found c.requires _ c.least-key.ensures c.if-key.false c.unpack-l.ensures in
-    raisable c.requires is-next c.store-v.ensures.1 c.store-v.ensures.0 c.wake_all.ensures
+    raisable c.requires is-next c.store-v.ensures.stored c.store-v.ensures.head c.wake_all.ensures
 
 pub returns : goal.returns
 returns c =
     let is-next : Found c.unpack-l.result ≡ here c.requires = found c.requires _ c.least-key.ensures c.if-key.false c.unpack-l.ensures in
     let n = is-next in (
-      stored_turn c.requires n c.store-v.ensures.1 c.store-v.ensures.0,
-      waits_after c.requires n c.store-v.ensures.1 c.store-v.ensures.0 c.wake_all.ensures c.raise.ensures,
+      stored_turn c.requires n c.store-v.ensures.stored c.store-v.ensures.head,
+      waits_after c.requires n c.store-v.ensures.stored c.store-v.ensures.head c.wake_all.ensures c.raise.ensures,
     )

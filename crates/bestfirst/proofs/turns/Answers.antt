@@ -12,13 +12,13 @@ loop-k-init c = (omega arith, (c.requires.unmade.blank, c.requires.waits))
 
 pub turn-requires : goal.turn-requires
 turn-requires c =
-    let below : c.loop-k.k < length c.args.depths.now = omega ( arith, c.loop-k-test.true, (sizes c.args.measure (let a = c.args in columns (length a.depths.now) a.heads.now a.own.now a.strikes.now a.spans.now a.tails.now) c.requires.unmade.turning.usable.accepted c.loop-k.k c.loop-k.invariant.1.0).depths, ) in
+    let below : c.loop-k.k < length c.args.depths.now = omega (arith, c.loop-k-test.true, (sizes c.args.measure (let a = c.args in columns (length a.depths.now) a.heads.now a.own.now a.strikes.now a.spans.now a.tails.now) c.requires.unmade.turning.usable.accepted c.loop-k.k c.loop-k.invariant.1.0).depths) in
     underway c.args.measure (let a = c.args in columns (length a.depths.now) a.heads.now a.own.now a.strikes.now a.spans.now a.tails.now)
     c.requires.unmade.turning.usable.accepted c.loop-k.k c.loop-k.invariant.1.0 below c.loop-k.invariant.1.1
 
 pub overflow_add-k : goal.overflow_add-k
 overflow_add-k c =
-    let below : c.loop-k.k < length c.args.depths.now = omega ( arith, c.loop-k-test.true, (sizes c.args.measure (let a = c.args in columns (length a.depths.now) a.heads.now a.own.now a.strikes.now a.spans.now a.tails.now) c.requires.unmade.turning.usable.accepted c.loop-k.k c.loop-k.invariant.1.0).depths, ) in
+    let below : c.loop-k.k < length c.args.depths.now = omega (arith, c.loop-k-test.true, (sizes c.args.measure (let a = c.args in columns (length a.depths.now) a.heads.now a.own.now a.strikes.now a.spans.now a.tails.now) c.requires.unmade.turning.usable.accepted c.loop-k.k c.loop-k.invariant.1.0).depths) in
     omega (
       arith,
       below,
@@ -28,13 +28,12 @@ overflow_add-k c =
 
 pub loop-k-smaller : goal.loop-k-smaller
 loop-k-smaller c =
-    let below : c.loop-k.k < length c.args.depths.now = omega ( arith, c.loop-k-test.true, (sizes c.args.measure (let a = c.args in columns (length a.depths.now) a.heads.now a.own.now a.strikes.now a.spans.now a.tails.now) c.requires.unmade.turning.usable.accepted c.loop-k.k c.loop-k.invariant.1.0).depths, ) in
+    let below : c.loop-k.k < length c.args.depths.now = omega (arith, c.loop-k-test.true, (sizes c.args.measure (let a = c.args in columns (length a.depths.now) a.heads.now a.own.now a.strikes.now a.spans.now a.tails.now) c.requires.unmade.turning.usable.accepted c.loop-k.k c.loop-k.invariant.1.0).depths) in
     omega (arith, below)
 
 pub loop-k-preserved : goal.loop-k-preserved
 loop-k-preserved c =
-    let below : c.loop-k.k < length c.args.depths.now = omega ( arith, c.loop-k-test.true, (sizes c.args.measure (let a = c.args in columns (length a.depths.now) a.heads.now a.own.now a.strikes.now a.spans.now a.tails.now) c.requires.unmade.turning.usable.accepted c.loop-k.k c.loop-k.invariant.1.0).depths, ) in
-    (
+    let below : c.loop-k.k < length c.args.depths.now = omega (arith, c.loop-k-test.true, (sizes c.args.measure (let a = c.args in columns (length a.depths.now) a.heads.now a.own.now a.strikes.now a.spans.now a.tails.now) c.requires.unmade.turning.usable.accepted c.loop-k.k c.loop-k.invariant.1.0).depths) in (
       omega (arith, below),
       (
         turns_more c.args.measure
