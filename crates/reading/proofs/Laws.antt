@@ -15,7 +15,6 @@ use Rattle.weights.specs.declared.Weight.{Weight}
 use Rattle.weights.specs.declared.Mark.{Mark}
 use Rattle.refusal.specs.declared.Refusal.{Refusal}
 use Rattle.refusal.specs.declared.Refusal.TheVariants.{Text}
-use Rattle.refusal.specs.declared.Reading.{Reading}
 use Rattle.refusal.specs.declared.Reading.TheVariants as reading
 use Rattle.columns.specs.Acceptance.{most_vertices, most_edges, most_listed, longest_tail}
 use Rattle.text.specs.Machine.{Parse, Whole, begin, parse}

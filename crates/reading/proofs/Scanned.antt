@@ -62,42 +62,9 @@ use Rattle.cursor.specs.declared.Token.{Token}
 use Rattle.cursor.specs.declared.WeightToken.{WeightToken}
 use Rattle.cursor.specs.declared.FoundWeight.{FoundWeight}
 use Rattle.cursor.specs.declared.FoundWeight.TheVariants as weight
-use Rattle.cursor.specs.Cursor.{digits_from, number_of, number_at, as_weight, marked_from, weight_at}
+use Rattle.cursor.specs.Cursor.{digits_from, number_of, number_at, as_weight, weight_at}
 use Rattle.cursor.proofs.Counts.{byte_within}
-use Rattle.reading.specs.Lines.{
-  agreeing,
-  on_word,
-  on_named,
-  on_count,
-  on_counted,
-  Opening,
-  Opens,
-  Unopened,
-  first_line,
-  Stalk,
-  on_own,
-  on_owned,
-  on_head,
-  on_headed,
-  stem_at,
-  Listing,
-  Ends,
-  Breaks,
-  list_end,
-  on_vertex,
-  on_listed,
-  listed_from,
-  Row,
-  Holds,
-  Fails,
-  on_listing,
-  on_stem,
-  row_at,
-  on_row,
-  scan_from,
-  on_first,
-  scan,
-}
+use Rattle.reading.specs.Lines.{agreeing, on_word, on_named, on_count, on_counted, Opening, Opens, Unopened, first_line, Stalk, on_own, on_owned, on_head, stem_at, Listing, Ends, Breaks, list_end, on_vertex, on_listed, listed_from, Row, Holds, Fails, on_listing, on_stem, row_at, on_row, scan_from, on_first, scan}
 
 -- What becomes of a text ---------------------------------------------------------------------------------------------------------------------
 

@@ -2,7 +2,6 @@
 -- tells. Assumes nothing.
 use mathlib.Core.Path.{◌≡◌, refl, sym, ◌∙◌, ap, ap₂, subst}
 use mathlib.Core.List.{List, [], ◌∷◌, ◌++◌}
-use mathlib.Core.Bool.{Bool, true, false}
 use Prim.Native.Nat.{ℕ, zero, suc, ◌+◌, ◌-◌, ◌≤◌, ◌<◌, min}
 use native.Mathlib.Omega.{arith}
 use lib.ListN.{length, get_or, drop, length-append, length-drop}
@@ -13,7 +12,6 @@ use Rattle.weights.specs.declared.Measure.TheVariants.{Cost, Grade}
 use Rattle.weights.specs.declared.Vertex.{Vertex}
 use Rattle.weights.specs.declared.Weight.{Weight}
 use Rattle.weights.specs.declared.Mark.{Mark}
-use Rattle.weights.specs.Choice.{pick}
 use Rattle.refusal.specs.declared.Refusal.{Refusal}
 use Rattle.columns.specs.Acceptance.{most_vertices, most_edges, most_listed, longest_tail}
 use Rattle.text.specs.Tables.{Edge, Table, listed_in_all}
@@ -23,49 +21,12 @@ use Rattle.text.proofs.Digits.{pick_by}
 use Rattle.text.proofs.Rows.{total_snoc}
 use Rattle.cursor.specs.declared.Found.{Found}
 use Rattle.cursor.specs.declared.Found.TheVariants.{Number, NotANumber}
-use Rattle.cursor.specs.declared.Token.{Token}
 use Rattle.cursor.specs.declared.FoundWeight.{FoundWeight}
 use Rattle.cursor.specs.declared.FoundWeight.TheVariants as weight
 use Rattle.cursor.specs.Cursor.{token, number_at, weight_token, weight_at}
 use Rattle.cursor.proofs.Counts.{byte_within, number_counts, weight_counts}
 use Rattle.reading.specs.declared.Line.TheVariants as line
-use Rattle.reading.specs.Lines.{
-  agreeing,
-  on_named,
-  on_count,
-  on_counted,
-  Opening,
-  Opens,
-  Unopened,
-  first_line,
-  Stalk,
-  Bears,
-  Bare,
-  refused_at,
-  on_own,
-  on_owned,
-  on_head,
-  on_headed,
-  stem_at,
-  Listing,
-  Ends,
-  Breaks,
-  list_end,
-  on_vertex,
-  on_listed,
-  listed_from,
-  Row,
-  Holds,
-  Fails,
-  on_listing,
-  on_stem,
-  row_at,
-  line_of,
-  on_row,
-  scan_from,
-  on_first,
-  scan,
-}
+use Rattle.reading.specs.Lines.{agreeing, on_named, on_count, Opening, Opens, Unopened, first_line, Stalk, Bears, Bare, refused_at, on_own, on_head, stem_at, Listing, Ends, Breaks, list_end, on_vertex, listed_from, Row, Holds, Fails, on_listing, on_stem, row_at, line_of, on_row, scan_from, on_first, scan}
 use Rattle.reading.proofs.Scanned.{Stopped, fate, RowRuns, row_run, row_over, FirstRuns, first_run}
 
 -- Places: the next line begins later, and within the text ------------------------------------------------------------------------------------

@@ -1,6 +1,6 @@
 -- Room that is written from its start: the bytes so far, their number, and the laws of one byte more and of a piece more in the part that is lent on.
 -- The paper's "Writing fills the text room from its start …; the room behind it keeps its bytes". Assumes nothing: these are definitions.
-use Rattle.std.specs.Prelude.{ℕ, ◌-◌, ◌≤◌, ◌≡◌, List, true, length}
+use Rattle.std.specs.Prelude.{ℕ, ◌≤◌, ◌≡◌, List, true, length}
 use Rattle.weights.specs.Figures.{greatest}
 use Rattle.columns.specs.Acceptance.{most_vertices, longest_tail, all_below}
 use Rattle.columns.specs.Filled.{filled}

@@ -5,7 +5,7 @@ use Rattle.columns.specs.Acceptance.{most_vertices}
 use Rattle.text.specs.Render.{word, first_word, measure_text}
 use Rattle.cursor.specs.declared.Found.TheVariants.{Number}
 use Rattle.cursor.specs.Cursor.{token, number_at}
-use Rattle.cursor.proofs.Counts.{byte_within, number_counts, token_within}
+use Rattle.cursor.proofs.Counts.{number_counts, token_within}
 use Rattle.reading.specs.declared.FirstLine.TheVariants as first
 use Rattle.reading.specs.Lines.{agreeing, Opening, Unopened, first_of, on_count, on_counted, first_line, refused_at}
 use Rattle.reading.proofs.Scanning.{agrees_within}

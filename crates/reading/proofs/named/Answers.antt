@@ -6,7 +6,7 @@ use borrow.Author.Tests.{lt-ltb, le-ltb}
 use lib.ListN.{length, drop, length-drop}
 use Rattle.columns.proofs.Filled.{part_whole}
 use Rattle.reading.specs.declared.FirstLine.TheVariants as first
-use Rattle.reading.specs.Lines.{agreeing, Opens, Unopened, first_of, on_word, refused_at}
+use Rattle.reading.specs.Lines.{agreeing, Opens, Unopened, first_of, on_word}
 use Rattle.reading.proofs.Scanning.{agrees_within}
 use Rattle.reading.proofs.Laws.{in_line}
 use Rattle.reading.proofs.named.Goals as goal

@@ -23,14 +23,14 @@ loop-at-init c =
 
 pub overflow_add-number : goal.overflow_add-number
 overflow_add-number c =
-    let sizes : let t = c.loop-at in (length t.heads * 8 < 2 ^ 63) × (length t.own * 8 < 2 ^ 63) × (length t.strikes * 8 < 2 ^ 63) × (length t.spans * 8 < 2 ^ 63) × (length t.tails * 8 < 2 ^ 63) = let f = c.loop-at.invariant in let g = c.well_formed in ( rw f.heads_long g.1.0.1, rw f.own_long g.1.1.0.1, rw f.strikes_long g.1.1.1.0.1, rw f.spans_long g.1.1.1.1.0.1, rw f.tails_long g.1.1.1.1.1.0.1, ) in
+    let sizes : let t = c.loop-at in (length t.heads * 8 < 2 ^ 63) × (length t.own * 8 < 2 ^ 63) × (length t.strikes * 8 < 2 ^ 63) × (length t.spans * 8 < 2 ^ 63) × (length t.tails * 8 < 2 ^ 63) = let f = c.loop-at.invariant in let g = c.well_formed in (rw f.heads_long g.1.0.1, rw f.own_long g.1.1.0.1, rw f.strikes_long g.1.1.1.0.1, rw f.spans_long g.1.1.1.1.0.1, rw f.tails_long g.1.1.1.1.1.0.1) in
     let writable : let t = c.loop-at in (t.i < length t.heads) × (t.i < length t.own) × (t.i < length t.strikes) × (2 * t.i + 1 < length t.spans) = edge-room _ _ _ _ _ _ _ _ _ _ _ _ _ _ _ c.loop-at.invariant c.requires c.loop-at-test.true in
     let w = writable.0 in let z = sizes.0 in omega arith
 
 pub offset_bounds-tails-k : goal.offset_bounds-tails-k
 offset_bounds-tails-k c =
     let roomy : c.loop-at.k ≤ length c.loop-at.tails = let r = tails_room _ _ _ _ _ _ _ _ _ _ _ _ _ _ _ c.loop-at.invariant c.requires c.loop-at-test.true in omega arith in
-    let sizes : let t = c.loop-at in (length t.heads * 8 < 2 ^ 63) × (length t.own * 8 < 2 ^ 63) × (length t.strikes * 8 < 2 ^ 63) × (length t.spans * 8 < 2 ^ 63) × (length t.tails * 8 < 2 ^ 63) = let f = c.loop-at.invariant in let g = c.well_formed in ( rw f.heads_long g.1.0.1, rw f.own_long g.1.1.0.1, rw f.strikes_long g.1.1.1.0.1, rw f.spans_long g.1.1.1.1.0.1, rw f.tails_long g.1.1.1.1.1.0.1, ) in
+    let sizes : let t = c.loop-at in (length t.heads * 8 < 2 ^ 63) × (length t.own * 8 < 2 ^ 63) × (length t.strikes * 8 < 2 ^ 63) × (length t.spans * 8 < 2 ^ 63) × (length t.tails * 8 < 2 ^ 63) = let f = c.loop-at.invariant in let g = c.well_formed in (rw f.heads_long g.1.0.1, rw f.own_long g.1.1.0.1, rw f.strikes_long g.1.1.1.0.1, rw f.spans_long g.1.1.1.1.0.1, rw f.tails_long g.1.1.1.1.1.0.1) in
     let r = roomy in let z = sizes.4 in omega arith
 
 pub slice_bounds-line_at-count : goal.slice_bounds-line_at-count
@@ -67,7 +67,7 @@ returns-in_default-line c =
 
 pub offset_bounds-heads-i : goal.offset_bounds-heads-i
 offset_bounds-heads-i c =
-    let sizes : let t = c.loop-at in (length t.heads * 8 < 2 ^ 63) × (length t.own * 8 < 2 ^ 63) × (length t.strikes * 8 < 2 ^ 63) × (length t.spans * 8 < 2 ^ 63) × (length t.tails * 8 < 2 ^ 63) = let f = c.loop-at.invariant in let g = c.well_formed in ( rw f.heads_long g.1.0.1, rw f.own_long g.1.1.0.1, rw f.strikes_long g.1.1.1.0.1, rw f.spans_long g.1.1.1.1.0.1, rw f.tails_long g.1.1.1.1.1.0.1, ) in
+    let sizes : let t = c.loop-at in (length t.heads * 8 < 2 ^ 63) × (length t.own * 8 < 2 ^ 63) × (length t.strikes * 8 < 2 ^ 63) × (length t.spans * 8 < 2 ^ 63) × (length t.tails * 8 < 2 ^ 63) = let f = c.loop-at.invariant in let g = c.well_formed in (rw f.heads_long g.1.0.1, rw f.own_long g.1.1.0.1, rw f.strikes_long g.1.1.1.0.1, rw f.spans_long g.1.1.1.1.0.1, rw f.tails_long g.1.1.1.1.1.0.1) in
     let writable : let t = c.loop-at in (t.i < length t.heads) × (t.i < length t.own) × (t.i < length t.strikes) × (2 * t.i + 1 < length t.spans) = edge-room _ _ _ _ _ _ _ _ _ _ _ _ _ _ _ c.loop-at.invariant c.requires c.loop-at-test.true in
     let w = writable.0 in let z = sizes.0 in omega arith
 
@@ -78,7 +78,7 @@ bounds-heads-i c =
 
 pub offset_bounds-own-i : goal.offset_bounds-own-i
 offset_bounds-own-i c =
-    let sizes : let t = c.loop-at in (length t.heads * 8 < 2 ^ 63) × (length t.own * 8 < 2 ^ 63) × (length t.strikes * 8 < 2 ^ 63) × (length t.spans * 8 < 2 ^ 63) × (length t.tails * 8 < 2 ^ 63) = let f = c.loop-at.invariant in let g = c.well_formed in ( rw f.heads_long g.1.0.1, rw f.own_long g.1.1.0.1, rw f.strikes_long g.1.1.1.0.1, rw f.spans_long g.1.1.1.1.0.1, rw f.tails_long g.1.1.1.1.1.0.1, ) in
+    let sizes : let t = c.loop-at in (length t.heads * 8 < 2 ^ 63) × (length t.own * 8 < 2 ^ 63) × (length t.strikes * 8 < 2 ^ 63) × (length t.spans * 8 < 2 ^ 63) × (length t.tails * 8 < 2 ^ 63) = let f = c.loop-at.invariant in let g = c.well_formed in (rw f.heads_long g.1.0.1, rw f.own_long g.1.1.0.1, rw f.strikes_long g.1.1.1.0.1, rw f.spans_long g.1.1.1.1.0.1, rw f.tails_long g.1.1.1.1.1.0.1) in
     let writable : let t = c.loop-at in (t.i < length t.heads) × (t.i < length t.own) × (t.i < length t.strikes) × (2 * t.i + 1 < length t.spans) = edge-room _ _ _ _ _ _ _ _ _ _ _ _ _ _ _ c.loop-at.invariant c.requires c.loop-at-test.true in
     let w = writable.1 in let z = sizes.1 in omega arith
 
@@ -89,7 +89,7 @@ bounds-own-i c =
 
 pub offset_bounds-strikes-i : goal.offset_bounds-strikes-i
 offset_bounds-strikes-i c =
-    let sizes : let t = c.loop-at in (length t.heads * 8 < 2 ^ 63) × (length t.own * 8 < 2 ^ 63) × (length t.strikes * 8 < 2 ^ 63) × (length t.spans * 8 < 2 ^ 63) × (length t.tails * 8 < 2 ^ 63) = let f = c.loop-at.invariant in let g = c.well_formed in ( rw f.heads_long g.1.0.1, rw f.own_long g.1.1.0.1, rw f.strikes_long g.1.1.1.0.1, rw f.spans_long g.1.1.1.1.0.1, rw f.tails_long g.1.1.1.1.1.0.1, ) in
+    let sizes : let t = c.loop-at in (length t.heads * 8 < 2 ^ 63) × (length t.own * 8 < 2 ^ 63) × (length t.strikes * 8 < 2 ^ 63) × (length t.spans * 8 < 2 ^ 63) × (length t.tails * 8 < 2 ^ 63) = let f = c.loop-at.invariant in let g = c.well_formed in (rw f.heads_long g.1.0.1, rw f.own_long g.1.1.0.1, rw f.strikes_long g.1.1.1.0.1, rw f.spans_long g.1.1.1.1.0.1, rw f.tails_long g.1.1.1.1.1.0.1) in
     let writable : let t = c.loop-at in (t.i < length t.heads) × (t.i < length t.own) × (t.i < length t.strikes) × (2 * t.i + 1 < length t.spans) = edge-room _ _ _ _ _ _ _ _ _ _ _ _ _ _ _ c.loop-at.invariant c.requires c.loop-at-test.true in
     let w = writable.2 in let z = sizes.2 in omega arith
 
@@ -100,13 +100,13 @@ bounds-strikes-i c =
 
 pub overflow_mul-spans : goal.overflow_mul-spans
 overflow_mul-spans c =
-    let sizes : let t = c.loop-at in (length t.heads * 8 < 2 ^ 63) × (length t.own * 8 < 2 ^ 63) × (length t.strikes * 8 < 2 ^ 63) × (length t.spans * 8 < 2 ^ 63) × (length t.tails * 8 < 2 ^ 63) = let f = c.loop-at.invariant in let g = c.well_formed in ( rw f.heads_long g.1.0.1, rw f.own_long g.1.1.0.1, rw f.strikes_long g.1.1.1.0.1, rw f.spans_long g.1.1.1.1.0.1, rw f.tails_long g.1.1.1.1.1.0.1, ) in
+    let sizes : let t = c.loop-at in (length t.heads * 8 < 2 ^ 63) × (length t.own * 8 < 2 ^ 63) × (length t.strikes * 8 < 2 ^ 63) × (length t.spans * 8 < 2 ^ 63) × (length t.tails * 8 < 2 ^ 63) = let f = c.loop-at.invariant in let g = c.well_formed in (rw f.heads_long g.1.0.1, rw f.own_long g.1.1.0.1, rw f.strikes_long g.1.1.1.0.1, rw f.spans_long g.1.1.1.1.0.1, rw f.tails_long g.1.1.1.1.1.0.1) in
     let writable : let t = c.loop-at in (t.i < length t.heads) × (t.i < length t.own) × (t.i < length t.strikes) × (2 * t.i + 1 < length t.spans) = edge-room _ _ _ _ _ _ _ _ _ _ _ _ _ _ _ c.loop-at.invariant c.requires c.loop-at-test.true in
     let w = writable.3 in let z = sizes.3 in omega arith
 
 pub offset_bounds-spans-i : goal.offset_bounds-spans-i
 offset_bounds-spans-i c =
-    let sizes : let t = c.loop-at in (length t.heads * 8 < 2 ^ 63) × (length t.own * 8 < 2 ^ 63) × (length t.strikes * 8 < 2 ^ 63) × (length t.spans * 8 < 2 ^ 63) × (length t.tails * 8 < 2 ^ 63) = let f = c.loop-at.invariant in let g = c.well_formed in ( rw f.heads_long g.1.0.1, rw f.own_long g.1.1.0.1, rw f.strikes_long g.1.1.1.0.1, rw f.spans_long g.1.1.1.1.0.1, rw f.tails_long g.1.1.1.1.1.0.1, ) in
+    let sizes : let t = c.loop-at in (length t.heads * 8 < 2 ^ 63) × (length t.own * 8 < 2 ^ 63) × (length t.strikes * 8 < 2 ^ 63) × (length t.spans * 8 < 2 ^ 63) × (length t.tails * 8 < 2 ^ 63) = let f = c.loop-at.invariant in let g = c.well_formed in (rw f.heads_long g.1.0.1, rw f.own_long g.1.1.0.1, rw f.strikes_long g.1.1.1.0.1, rw f.spans_long g.1.1.1.1.0.1, rw f.tails_long g.1.1.1.1.1.0.1) in
     let writable : let t = c.loop-at in (t.i < length t.heads) × (t.i < length t.own) × (t.i < length t.strikes) × (2 * t.i + 1 < length t.spans) = edge-room _ _ _ _ _ _ _ _ _ _ _ _ _ _ _ c.loop-at.invariant c.requires c.loop-at-test.true in
     let w = writable.3 in let z = sizes.3 in omega arith
 
@@ -117,19 +117,19 @@ bounds-spans-i c =
 
 pub overflow_mul-spans-in-loop-at : goal.overflow_mul-spans-in-loop-at
 overflow_mul-spans-in-loop-at c =
-    let sizes : let t = c.loop-at in (length t.heads * 8 < 2 ^ 63) × (length t.own * 8 < 2 ^ 63) × (length t.strikes * 8 < 2 ^ 63) × (length t.spans * 8 < 2 ^ 63) × (length t.tails * 8 < 2 ^ 63) = let f = c.loop-at.invariant in let g = c.well_formed in ( rw f.heads_long g.1.0.1, rw f.own_long g.1.1.0.1, rw f.strikes_long g.1.1.1.0.1, rw f.spans_long g.1.1.1.1.0.1, rw f.tails_long g.1.1.1.1.1.0.1, ) in
+    let sizes : let t = c.loop-at in (length t.heads * 8 < 2 ^ 63) × (length t.own * 8 < 2 ^ 63) × (length t.strikes * 8 < 2 ^ 63) × (length t.spans * 8 < 2 ^ 63) × (length t.tails * 8 < 2 ^ 63) = let f = c.loop-at.invariant in let g = c.well_formed in (rw f.heads_long g.1.0.1, rw f.own_long g.1.1.0.1, rw f.strikes_long g.1.1.1.0.1, rw f.spans_long g.1.1.1.1.0.1, rw f.tails_long g.1.1.1.1.1.0.1) in
     let writable : let t = c.loop-at in (t.i < length t.heads) × (t.i < length t.own) × (t.i < length t.strikes) × (2 * t.i + 1 < length t.spans) = edge-room _ _ _ _ _ _ _ _ _ _ _ _ _ _ _ c.loop-at.invariant c.requires c.loop-at-test.true in
     let w = writable.3 in let z = sizes.3 in omega arith
 
 pub overflow_add-spans : goal.overflow_add-spans
 overflow_add-spans c =
-    let sizes : let t = c.loop-at in (length t.heads * 8 < 2 ^ 63) × (length t.own * 8 < 2 ^ 63) × (length t.strikes * 8 < 2 ^ 63) × (length t.spans * 8 < 2 ^ 63) × (length t.tails * 8 < 2 ^ 63) = let f = c.loop-at.invariant in let g = c.well_formed in ( rw f.heads_long g.1.0.1, rw f.own_long g.1.1.0.1, rw f.strikes_long g.1.1.1.0.1, rw f.spans_long g.1.1.1.1.0.1, rw f.tails_long g.1.1.1.1.1.0.1, ) in
+    let sizes : let t = c.loop-at in (length t.heads * 8 < 2 ^ 63) × (length t.own * 8 < 2 ^ 63) × (length t.strikes * 8 < 2 ^ 63) × (length t.spans * 8 < 2 ^ 63) × (length t.tails * 8 < 2 ^ 63) = let f = c.loop-at.invariant in let g = c.well_formed in (rw f.heads_long g.1.0.1, rw f.own_long g.1.1.0.1, rw f.strikes_long g.1.1.1.0.1, rw f.spans_long g.1.1.1.1.0.1, rw f.tails_long g.1.1.1.1.1.0.1) in
     let writable : let t = c.loop-at in (t.i < length t.heads) × (t.i < length t.own) × (t.i < length t.strikes) × (2 * t.i + 1 < length t.spans) = edge-room _ _ _ _ _ _ _ _ _ _ _ _ _ _ _ c.loop-at.invariant c.requires c.loop-at-test.true in
     let w = writable.3 in let z = sizes.3 in omega arith
 
 pub offset_bounds-spans-i-in-loop-at : goal.offset_bounds-spans-i-in-loop-at
 offset_bounds-spans-i-in-loop-at c =
-    let sizes : let t = c.loop-at in (length t.heads * 8 < 2 ^ 63) × (length t.own * 8 < 2 ^ 63) × (length t.strikes * 8 < 2 ^ 63) × (length t.spans * 8 < 2 ^ 63) × (length t.tails * 8 < 2 ^ 63) = let f = c.loop-at.invariant in let g = c.well_formed in ( rw f.heads_long g.1.0.1, rw f.own_long g.1.1.0.1, rw f.strikes_long g.1.1.1.0.1, rw f.spans_long g.1.1.1.1.0.1, rw f.tails_long g.1.1.1.1.1.0.1, ) in
+    let sizes : let t = c.loop-at in (length t.heads * 8 < 2 ^ 63) × (length t.own * 8 < 2 ^ 63) × (length t.strikes * 8 < 2 ^ 63) × (length t.spans * 8 < 2 ^ 63) × (length t.tails * 8 < 2 ^ 63) = let f = c.loop-at.invariant in let g = c.well_formed in (rw f.heads_long g.1.0.1, rw f.own_long g.1.1.0.1, rw f.strikes_long g.1.1.1.0.1, rw f.spans_long g.1.1.1.1.0.1, rw f.tails_long g.1.1.1.1.1.0.1) in
     let writable : let t = c.loop-at in (t.i < length t.heads) × (t.i < length t.own) × (t.i < length t.strikes) × (2 * t.i + 1 < length t.spans) = edge-room _ _ _ _ _ _ _ _ _ _ _ _ _ _ _ c.loop-at.invariant c.requires c.loop-at-test.true in
     let w = writable.3 in let z = sizes.3 in omega arith
 
@@ -140,17 +140,17 @@ bounds-spans-i-in-loop-at c =
 
 pub overflow_add-i : goal.overflow_add-i
 overflow_add-i c =
-    let sizes : let t = c.loop-at in (length t.heads * 8 < 2 ^ 63) × (length t.own * 8 < 2 ^ 63) × (length t.strikes * 8 < 2 ^ 63) × (length t.spans * 8 < 2 ^ 63) × (length t.tails * 8 < 2 ^ 63) = let f = c.loop-at.invariant in let g = c.well_formed in ( rw f.heads_long g.1.0.1, rw f.own_long g.1.1.0.1, rw f.strikes_long g.1.1.1.0.1, rw f.spans_long g.1.1.1.1.0.1, rw f.tails_long g.1.1.1.1.1.0.1, ) in
+    let sizes : let t = c.loop-at in (length t.heads * 8 < 2 ^ 63) × (length t.own * 8 < 2 ^ 63) × (length t.strikes * 8 < 2 ^ 63) × (length t.spans * 8 < 2 ^ 63) × (length t.tails * 8 < 2 ^ 63) = let f = c.loop-at.invariant in let g = c.well_formed in (rw f.heads_long g.1.0.1, rw f.own_long g.1.1.0.1, rw f.strikes_long g.1.1.1.0.1, rw f.spans_long g.1.1.1.1.0.1, rw f.tails_long g.1.1.1.1.1.0.1) in
     let writable : let t = c.loop-at in (t.i < length t.heads) × (t.i < length t.own) × (t.i < length t.strikes) × (2 * t.i + 1 < length t.spans) = edge-room _ _ _ _ _ _ _ _ _ _ _ _ _ _ _ c.loop-at.invariant c.requires c.loop-at-test.true in
     let w = writable.0 in let z = sizes.0 in omega arith
 
 pub overflow_add-k : goal.overflow_add-k
-overflow_add-k c = let f = (loop-again c).scanning.few_listed in omega arith
+overflow_add-k c = let f = (filling_next _ _ _ _ _ _ _ _ _ _ _ _ _ _ _ c.loop-at.invariant c.requires c.loop-at-test.true _ _ _ c.line_at-line.ensures _ _ _ _ _ c.in-Edge.is).1.scanning.few_listed in omega arith
 
 pub loop-at-smaller : goal.loop-at-smaller
 loop-at-smaller c =
     let later : c.loop-at.at < c.in-Edge.next = (filling_next _ _ _ _ _ _ _ _ _ _ _ _ _ _ _ c.loop-at.invariant c.requires c.loop-at-test.true _ _ _ c.line_at-line.ensures _ _ _ _ _ c.in-Edge.is).0 in
-    let h = later in let w = (loop-again c).scanning.within in omega arith
+    let h = later in let w = (filling_next _ _ _ _ _ _ _ _ _ _ _ _ _ _ _ c.loop-at.invariant c.requires c.loop-at-test.true _ _ _ c.line_at-line.ensures _ _ _ _ _ c.in-Edge.is).1.scanning.within in omega arith
 
 -- the line is in the columns
 pub loop-at-preserved : goal.loop-at-preserved

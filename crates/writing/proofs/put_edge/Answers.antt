@@ -1,6 +1,6 @@
 -- `writing::put_edge` meets its contract: one piece, and another in the room behind it. Assumes nothing.
 use mathlib.Core.Path.{sym, ap}
-use mathlib.Core.List.{◌∷◌, ◌++◌}
+use mathlib.Core.List.{[], ◌∷◌, ◌++◌}
 use Prim.Native.Nat.{◌≤◌}
 use native.Mathlib.Omega.{arith}
 use borrow.Author.Rules.{rules}
@@ -22,7 +22,9 @@ slice_bounds-put_tail-count c =
     within (digits c.args.head.0 ++ (32 ∷ own_text c.args.own.0 c.args.mark.0)) _ _ _ c.put_stem-at.ensures (tail_text c.args.tail.now ++ 10 ∷ []) whole
 
 pub slice_bounds-put_tail-start : goal.slice_bounds-put_tail-start
-slice_bounds-put_tail-start c = let r = sub-put-tail c in search (rules, r)
+slice_bounds-put_tail-start c =
+    let whole : length ((digits c.args.head.0 ++ (32 ∷ own_text c.args.own.0 c.args.mark.0)) ++ (tail_text c.args.tail.now ++ 10 ∷ [])) ≤ length c.args.room.now = let e = ap length (line_split (edge c.args.head.0 c.args.own.0 c.args.mark.0 c.args.tail.now)) in let p = c.requires in omega arith in
+    let r = within (digits c.args.head.0 ++ (32 ∷ own_text c.args.own.0 c.args.mark.0)) _ _ _ c.put_stem-at.ensures (tail_text c.args.tail.now ++ 10 ∷ []) whole in search (rules, r)
 
 pub put_tail-width-requires : goal.put_tail-width-requires
 put_tail-width-requires c =
@@ -31,12 +33,9 @@ put_tail-width-requires c =
 
 pub overflow_add-result : goal.overflow_add-result
 overflow_add-result c =
-    let n = (returns c).count in
-    let w = c.requires in
+    let whole : length ((digits c.args.head.0 ++ (32 ∷ own_text c.args.own.0 c.args.mark.0)) ++ (tail_text c.args.tail.now ++ 10 ∷ [])) ≤ length c.args.room.now = let e = ap length (line_split (edge c.args.head.0 c.args.own.0 c.args.mark.0 c.args.tail.now)) in let p = c.requires in omega arith in
+    let n = (written_part (digits c.args.head.0 ++ (32 ∷ own_text c.args.own.0 c.args.mark.0)) _ _ _ c.put_stem-at.ensures (tail_text c.args.tail.now ++ 10 ∷ []) _ _ whole c.put_tail-width.ensures).count in
     omega (arith, c.well_formed)
-
-pub shape_of-room : goal.shape_of-room
-shape_of-room c = (returns c).long
 
 pub returns : goal.returns
 returns c =

@@ -19,7 +19,7 @@ slice_bounds-put_number-count c =
     within c.args.lead.now _ _ _ c.put_bytes-at.ensures (digits c.args.v) whole
 
 pub slice_bounds-put_number-start : goal.slice_bounds-put_number-start
-slice_bounds-put_number-start c = let r = sub-put-number c in search (rules, r)
+slice_bounds-put_number-start c = let r = within c.args.lead.now _ _ _ c.put_bytes-at.ensures (digits c.args.v) c.requires in search (rules, r)
 
 pub put_number-width-requires : goal.put_number-width-requires
 put_number-width-requires c =
@@ -28,12 +28,9 @@ put_number-width-requires c =
 
 pub overflow_add-result : goal.overflow_add-result
 overflow_add-result c =
-    let n = (returns c).count in
+    let n = (written_part c.args.lead.now _ _ _ c.put_bytes-at.ensures (digits c.args.v) _ _ c.requires c.put_number-width.ensures).count in
     let w = c.requires in
     omega (arith, c.well_formed)
-
-pub shape_of-room : goal.shape_of-room
-shape_of-room c = (returns c).long
 
 pub returns : goal.returns
 returns c =

@@ -1,5 +1,5 @@
 -- `writing::put_spaced` meets its contract. Assumes nothing.
-use mathlib.Core.List.{◌∷◌}
+use mathlib.Core.List.{[], ◌∷◌}
 use native.Mathlib.Omega.{arith}
 use borrow.Author.Rules.{rules}
 use lib.ListN.{set}
@@ -22,9 +22,6 @@ pub put_number-width-requires : goal.put_number-width-requires
 put_number-width-requires c =
     let spaced : Written (32 ∷ []) c.args.room.now 1 (set c.args.room.now 0 32) = let p = c.requires in written_byte [] _ 0 _ (written_none _) 32 (omega arith) in
     lent-room _ _ _ _ spaced (digits c.args.v) c.requires
-
-pub shape_of-room : goal.shape_of-room
-shape_of-room c = (returns c).long
 
 pub returns : goal.returns
 returns c =

@@ -19,7 +19,7 @@ slice_bounds-put_own-count c =
     within (digits c.args.head.0) _ _ _ c.put_number-at.ensures (32 ∷ own_text c.args.own.0 c.args.mark.0) whole
 
 pub slice_bounds-put_own-start : goal.slice_bounds-put_own-start
-slice_bounds-put_own-start c = let r = sub-put-own c in search (rules, r)
+slice_bounds-put_own-start c = let r = within (digits c.args.head.0) _ _ _ c.put_number-at.ensures (32 ∷ own_text c.args.own.0 c.args.mark.0) c.requires in search (rules, r)
 
 pub put_own-width-requires : goal.put_own-width-requires
 put_own-width-requires c =
@@ -28,12 +28,9 @@ put_own-width-requires c =
 
 pub overflow_add-result : goal.overflow_add-result
 overflow_add-result c =
-    let n = (returns c).count in
+    let n = (written_part (digits c.args.head.0) _ _ _ c.put_number-at.ensures (32 ∷ own_text c.args.own.0 c.args.mark.0) _ _ c.requires c.put_own-width.ensures).count in
     let w = c.requires in
     omega (arith, c.well_formed)
-
-pub shape_of-room : goal.shape_of-room
-shape_of-room c = (returns c).long
 
 pub returns : goal.returns
 returns c =

@@ -26,7 +26,7 @@ put_spaced-at-requires c = (tail_room _ _ _ _ _ c.loop-j-test.true c.loop-j.inva
 
 pub overflow_add-at : goal.overflow_add-at
 overflow_add-at c =
-    let w = (loop-again c).1.count in
+    let w = (tail_next _ _ _ _ _ _ _ c.loop-j-test.true c.loop-j.invariant.1 c.requires c.put_spaced-at.ensures).count in
     let a = listed_within c.args.tail.now (c.loop-j.j + 1) in
     let p = c.requires in
     omega arith
@@ -43,9 +43,6 @@ pub overflow_add-result : goal.overflow_add-result
 overflow_add-result c =
     let ended : c.loop-j.at + 1 ≤ length c.loop-j.room = let w = c.loop-j.invariant.1 in let n = w.count in let l = w.long in let a = listed_within c.args.tail.now c.loop-j.j in let p = c.requires in omega arith in
     let e = ended in let l = c.loop-j.invariant.1.long in omega (arith, c.well_formed)
-
-pub shape_of-room : goal.shape_of-room
-shape_of-room c = (returns c).long
 
 pub returns : goal.returns
 returns c = tail_ends _ _ _ _ _ c.loop-j-test.false c.loop-j.invariant.1 c.requires
