@@ -22,18 +22,6 @@ renew-requires c =
     let right : same_entries came (entries_of c.args.measure table_of) ≡ true = sym c.answers_right.ensures ∙ c.if-not-answers_right.false in
     change_renewable table_of came c.args.line.0 c.args.figure.0 c.requires c.args.measure right
 
-pub shape_of-weights : goal.shape_of-weights
-shape_of-weights c = c.renew.auto.1.1.1.1.1.1.0
-
-pub shape_of-depths : goal.shape_of-depths
-shape_of-depths c = c.renew.auto.1.1.1.1.1.1.1.0
-
-pub shape_of-edges : goal.shape_of-edges
-shape_of-edges c = c.renew.auto.1.1.1.1.1.1.1.1.0
-
-pub shape_of-pieces : goal.shape_of-pieces
-shape_of-pieces c = c.renew.auto.1.1.1.1.1.1.1.1.1.0
-
 pub returns : goal.returns
 returns c =
     let came : Entries = let a = c.args in entries a.weights.now a.depths.now a.edges.now a.pieces.now in

@@ -11,15 +11,3 @@ returns-then-line_rests c =
     let table_of : Columns = let a = c.args in lent a.heads.now a.own.now a.strikes.now a.spans.now a.tails.now a.depths.now in
     let rested : rests c.args.measure table_of (answers c.args.weights.now c.args.depths.now c.args.edges.now) c.args.line.0 ≡ true = sym c.line_rests.ensures ∙ c.if-line_rests.true in
     c.requires.stays rested
-
-pub shape_of-weights : goal.shape_of-weights
-shape_of-weights c = c.label.auto.1.1.1.1.1.1.0
-
-pub shape_of-depths : goal.shape_of-depths
-shape_of-depths c = c.label.auto.1.1.1.1.1.1.1.0
-
-pub shape_of-edges : goal.shape_of-edges
-shape_of-edges c = c.label.auto.1.1.1.1.1.1.1.1.0
-
-pub shape_of-pieces : goal.shape_of-pieces
-shape_of-pieces c = c.label.auto.1.1.1.1.1.1.1.1.1.0

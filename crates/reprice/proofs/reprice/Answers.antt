@@ -30,21 +30,6 @@ change-requires c =
     let accepted : line_acceptance table_of came c.args.line.0 ≡ Accepted = sym c.check_line-a.ensures ∙ c.in-Accepted.is in
     line_changeable table_of came c.args.line.0 (line_numbered table_of came c.args.line.0 accepted) c.args.figure.0 c.if-figure.false
 
-pub shape_of-own : goal.shape_of-own
-shape_of-own c = c.change.auto.1.1.1.0
-
-pub shape_of-weights : goal.shape_of-weights
-shape_of-weights c = c.change.auto.1.1.1.1.1.1.1.0
-
-pub shape_of-depths : goal.shape_of-depths
-shape_of-depths c = c.change.auto.1.1.1.1.1.1.1.1.0
-
-pub shape_of-edges : goal.shape_of-edges
-shape_of-edges c = c.change.auto.1.1.1.1.1.1.1.1.1.0
-
-pub shape_of-pieces : goal.shape_of-pieces
-shape_of-pieces c = c.change.auto.1.1.1.1.1.1.1.1.1.1.0
-
 pub returns : goal.returns
 returns c =
     let came : Entries = let a = c.args in entries a.weights.now a.depths.now a.edges.now a.pieces.now in

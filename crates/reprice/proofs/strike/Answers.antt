@@ -23,21 +23,6 @@ put_mark-requires c =
     let accepted : line_acceptance table_of came c.args.line.0 ≡ Accepted = sym c.check_line-a.ensures ∙ c.in-Accepted.is in
     line_markable table_of came c.args.line.0 (line_numbered table_of came c.args.line.0 accepted) _ (omega arith)
 
-pub shape_of-strikes : goal.shape_of-strikes
-shape_of-strikes c = c.put_mark.auto.1.1.1.1.0
-
-pub shape_of-weights : goal.shape_of-weights
-shape_of-weights c = c.put_mark.auto.1.1.1.1.1.1.1.0
-
-pub shape_of-depths : goal.shape_of-depths
-shape_of-depths c = c.put_mark.auto.1.1.1.1.1.1.1.1.0
-
-pub shape_of-edges : goal.shape_of-edges
-shape_of-edges c = c.put_mark.auto.1.1.1.1.1.1.1.1.1.0
-
-pub shape_of-pieces : goal.shape_of-pieces
-shape_of-pieces c = c.put_mark.auto.1.1.1.1.1.1.1.1.1.1.0
-
 pub returns : goal.returns
 returns c =
     let came : Entries = let a = c.args in entries a.weights.now a.depths.now a.edges.now a.pieces.now in
