@@ -1,4 +1,4 @@
-# shellcheck shell=bash disable=SC2154,SC2094 # tests/programs sets the variables
+# shellcheck shell=bash disable=SC2154,SC2094 # tests/fronts sets the variables
 # The examples of docs/FORMAT.md: a line `$ ./desk WORDS` in a block of its own, and after it what is printed.
 
 examples=0
