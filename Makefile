@@ -22,35 +22,37 @@ manuals: $(manuals) ## make the man pages, target/man/*
 
 -include front.mk
 
-# The files of a crate and of the crates that it needs, and their folders, whose time changes when a file goes.
+# The files of a crate and of the crates that it needs, and their folders, whose time changes when a file goes. What rt keeps in out/ is no source.
 needs = $(shell tac crates.txt | awk -F '[: ]+' -v crate=$(1) 'BEGIN { need[crate] } $$1 in need { print $$1; for (i = 2; i <= NF; i++) need[$$i] }')
-sources = crates.txt $(shell find $(addprefix crates/,$(needs)) -mindepth 1 -not -path '*/must-fail*')
+sources = crates.txt $(shell find $(addprefix crates/,$(needs)) -mindepth 1 \( -name out -o -name must-fail \) -prune -o -print)
 $(foreach crate,tozbierdu counter,$(eval target/staticlib/lib$(crate).a: $(call sources,$(crate))))
 $(foreach crate,parts listing walk,$(eval target/bin/$(crate): $(call sources,$(crate))))
 
 # What is built gets the time at which its check began: a source that changes during the check is newer.
 begin = @command -v rt >/dev/null || { echo '$@ is missing or older than its sources, and rt, which proves and builds it, is not on the path' >&2; exit 2; }; \
-	mkdir -p target/begun && touch target/begun/$*
-end = @touch -r target/begun/$* $@
+	mkdir -p target/begun && touch target/begun/$(@F)
+end = @touch -r target/begun/$(@F) $@
 
 target/staticlib/lib%.a:
 	$(begin)
 	rt staticlib $*
 	$(end)
 
-# rt does not link a program again whose proof it has.
+# A program is what rt ci left in its crate, or else rt run, which proves, builds and runs it.
+made = crates/$*/out/$*
 target/bin/%:
 	$(begin)
-	@[ -x $@ ] || rm -f target/stamp/$*
-	rt check $*
+	@if [ ! -x $(made) ] || [ "$$(find crates/*/* crates.txt -name out -prune -o -newer $(made) -print -quit)" ]; then \
+		echo 'rt run in crates/$*' && cd crates/$* && rt run </dev/null >/dev/null; fi
+	@mkdir -p $(@D) && cp $(made) $@.new && mv $@.new $@
 	$(end)
 
 target/man/price.1: target/front/bin/price
 target/man/desk.1: target/front/bin/desk
 target/man/tozbierdu.3: include/tozbierdu.h
-target/man/%: docs/manual docs/man/text.awk docs/man/help.awk docs/man/header.awk VERSION
+target/man/%: docs/pages docs/man/text.awk docs/man/help.awk docs/man/header.awk VERSION
 	@mkdir -p target/man
-	bash docs/manual $* >$@.new && mv $@.new $@
+	bash docs/pages $* >$@.new && mv $@.new $@
 
 install: all ## install the programs, man pages, header, archives and tozbierdu.pc; PREFIX=/usr/local LIBDIR=PREFIX/lib DESTDIR=
 	sh packaging/install
@@ -61,7 +63,7 @@ uninstall: ## remove the files that `make install`, with the same PREFIX, LIBDIR
 dist: all ## make a tarball for machines without the toolchain, target/tozbierdu-VERSION-x86_64.tar.gz
 	sh packaging/dist
 
-check: ## run the gate: prove everything from nothing, then test
+check: ## run the gate: prove every crate, then test
 	bash .ci/run
 
 test: ## run the tests on what is built, without proofs

@@ -1,6 +1,6 @@
 # shellcheck shell=bash
 # shellcheck disable=SC2154 # root comes from the wrapper
-# What the wrappers price and desk in the repository share: they set root, the repository's folder. Installed programs need none of this.
+# What the wrappers price and desk beside this file share: they set root, the repository's folder. Installed programs need none of this.
 
 # start NAME CRATE WORD...: runs the front NAME, after building it and the proved program of CRATE if they are missing or older than their sources
 start() {
@@ -34,10 +34,11 @@ asks_for_help() {
 # fresh PROGRAM SOURCE...: the program is there, and nothing that it is made of is newer
 fresh() {
     local newer
-    [ -x "$1" ] && newer=$(find "${@:2}" -newer "$1" -print -quit) && [ -z "$newer" ]
+    [ -x "$1" ] && newer=$(find "${@:2}" -name out -prune -o -newer "$1" -print -quit) && [ -z "$newer" ]
 }
 
-proved_fresh() { fresh "$root/target/bin/$1" "$root/crates" "$root/crates.txt"; } # CRATE
+# What rt keeps in the crates' out/ is no source.
+proved_fresh() { fresh "$root/target/bin/$1" "$root"/crates/*/* "$root/crates.txt"; } # CRATE
 front_fresh() { fresh "$root/target/front/bin/$me" "$root"/src/front/*.[ch] "$root/src/front/refusals.awk" "$root/docs/REFUSALS.md" "$root/VERSION" "$root/front.mk"; }
 
 build_front() {
@@ -61,13 +62,15 @@ crates_of() {
 
 # Copies what rt prints into a log; on a terminal, shows how many crates are proved.
 progress() { # CRATE LOG
-    local line done=0 all
+    local line name='' done=0 all
     all=$(crates_of "$1")
     while IFS= read -r line; do
         printf '%s\n' "$line" >>"$2"
-        [[ $line =~ ^rt:\ ([a-z]+)\ proved ]] || continue
+        [[ ! $line =~ ^crate\ ([a-z_]+): ]] || name=${BASH_REMATCH[1]}
+        [[ $line =~ ^logic=proved && $name ]] || continue
         done=$((done + 1))
-        [ ! -t 2 ] || printf '\r%s: crate %d of %d proved (%s)\e[K' "$me" "$done" "$all" "${BASH_REMATCH[1]}" >&2
+        [ ! -t 2 ] || printf '\r%s: crate %d of %d proved (%s)\e[K' "$me" "$done" "$all" "$name" >&2
+        name=''
     done
     [ ! -t 2 ] || [ "$done" -eq 0 ] || printf '\n' >&2
 }
@@ -79,7 +82,12 @@ wait_for_others() {
     flock -n 9 || { say 'another run is proving the programs: waiting for it' && flock 9; }
 }
 
-# The program gets the time at which its check began: a source that changed meanwhile is newer.
+# The program as rt leaves it becomes target/bin/CRATE, with the time at which its check began: a source that changed meanwhile is newer.
+keep() { # CRATE BEGUN
+    local made=$root/crates/$1/out/$1 kept=$root/target/bin/$1
+    [ -x "$made" ] && mkdir -p -- "$root/target/bin" && cp -- "$made" "$kept.new" && touch -r "$2" -- "$kept.new" && mv -- "$kept.new" "$kept"
+}
+
 prove() { # CRATE
     local work built
     command -v rt >/dev/null || fail 'the Rattle toolchain is needed to build this program, and there is no rt on the path'
@@ -88,8 +96,8 @@ prove() { # CRATE
     work=$(mktemp -d) || fail 'cannot create a folder for temporary files'
     : >"$work/begun"
     say 'the program is proved and built now: the first time this takes 3 to 15 minutes, depending on the machine'
-    (cd -- "$root" && rt check "$1") 2>&1 </dev/null | progress "$1" "$work/log"
-    [ "${PIPESTATUS[*]}" = '0 0' ] && [ -x "$root/target/bin/$1" ] && touch -r "$work/begun" -- "$root/target/bin/$1"
+    (cd -- "$root/crates/$1" && rt run) 2>&1 </dev/null | progress "$1" "$work/log"
+    [ "${PIPESTATUS[*]}" = '0 0' ] && keep "$1" "$work/begun"
     built=$?
     [ "$built" -eq 0 ] || cat -- "$work/log" >&2
     rm -rf -- "$work"

@@ -1,4 +1,4 @@
-# shellcheck shell=bash disable=SC2154,SC2016 # tests/programs sets the variables
+# shellcheck disable=SC2086,SC2116
 # What the listing program prints.
 
 # The paper's table, in cost, in days and in grade -----------------------------------------------------------------------------------------------
@@ -139,8 +139,7 @@ while IFS='|' read -r _ mistake text refusal _; do
     [[ $refusal == *refused* ]] || continue
     text=${text#*\`} refusal=${refusal#*\`}
     printf '%b' "${text%\`*}" >"$work/text"
-    mistake=${mistake# }
-    prints "${mistake% }" "$work/text" <<<"${refusal%\`*}"
+    prints "$(echo $mistake)" "$work/text" <<<"${refusal%\`*}"
     tried=$((tried + 1))
 done <docs/FORMAT.md
 holds 'docs/FORMAT.md has mistakes' "it has $tried" [ "$tried" -gt 20 ]

@@ -1,4 +1,4 @@
-# shellcheck shell=bash disable=SC2154,SC2016,SC2094 # tests/programs sets the variables
+# shellcheck disable=SC2094
 # The listing program's standard input and output.
 
 # pieces of three bytes, with a pause after each: a short read is not the end
@@ -27,15 +27,9 @@ input=$work/long ends 'a read that would fail after 65,536 bytes' 0 '' env FAIL_
 # A write that fails. The pipe's reader has gone before anything is written.
 unwritten='listing: the output could not be written'
 mkfifo "$work/pipe"
-# shellcheck disable=SC2094 # both ends are opened here
 exec 4<>"$work/pipe" 5>"$work/pipe" 4>&-
 # 128 + 13 is what a shell makes of the signal for a closed pipe
 input=$work/full ends 'a closed pipe ends it quietly' 141 '' env --default-signal=PIPE bash -c '"$1" >&5; exit $?' - "$listing" </dev/null
 input=$work/full ends 'a closed pipe where the signal is ignored' 0 "$unwritten" env --ignore-signal=PIPE bash -c '"$1" >&5' - "$listing" </dev/null
 exec 5>&-
 input=$work/worked ends 'a full disk' 0 "$unwritten" bash -c '"$1" >/dev/full' - "$listing" </dev/null
-
-# The table comes on standard input alone: an argument is misuse, and nothing is read or printed.
-misused='listing: it takes no arguments; run listing < FILE'
-input=$work/worked ends 'a file as an argument' 0 "$misused" "$listing" "$work/worked" </dev/null
-input=$work/worked ends 'an empty argument' 0 "$misused" "$listing" '' </dev/null

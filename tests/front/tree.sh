@@ -1,4 +1,4 @@
-# shellcheck shell=bash disable=SC2154,SC2016 # tests/programs sets the variables, and bash -c expands the scripts
+# shellcheck shell=bash disable=SC2154,SC2016 # tests/fronts sets the variables, and bash -c expands the scripts
 # desk FILE bill PART --tree: levels, quantities and extended costs.
 
 desk 'a bill as a tree' 0 '' "$week" bill 3 --tree <<'END_OF_ROWS'

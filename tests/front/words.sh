@@ -1,4 +1,4 @@
-# shellcheck shell=bash disable=SC2154,SC2016 # tests/programs sets the variables, and bash -c expands the scripts
+# shellcheck shell=bash disable=SC2154,SC2016 # tests/fronts sets the variables, and bash -c expands the scripts
 # Words that are no command, options, help and versions.
 
 # misused WORDS COMMAND..: the command on the week is misuse, and standard error is like WORDS

@@ -1,4 +1,4 @@
-# shellcheck shell=bash disable=SC2154,SC2016 # tests/programs sets the variables, and bash -c expands the scripts
+# shellcheck shell=bash disable=SC2154,SC2016 # tests/fronts sets the variables, and bash -c expands the scripts
 # desk FILE graph [PART]: the graph's text, and with Graphviz its picture.
 
 desk 'the graph of a part' 0 '' "$week" graph 3 <<'END_OF_GRAPH'

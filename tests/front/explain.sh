@@ -1,4 +1,4 @@
-# shellcheck shell=bash disable=SC2154,SC2016 # tests/programs sets the variables, and bash -c expands the scripts
+# shellcheck shell=bash disable=SC2154,SC2016 # tests/fronts sets the variables, and bash -c expands the scripts
 # Refusals in the user's terms: file, line and column, what docs/REFUSALS.md says under "at the desk", the line, and a remedy.
 
 price 'price explains a refusal' 1 "price: examples/broken.parts, line 4, column 9: $(meaning 14)
@@ -98,5 +98,5 @@ desk: line 1 is stock 1 3 0 0 1000001<LF>
 desk: the opening count of part 4 is too great" 'stock 1 3 0 0 1000001\n1 999998\n'
 
 # no word of the library reaches a desk
-lent=$(awk -F ' *[|] *' '$2 ~ /^[0-9]+$/ && $5 ~ /lend|room|span|libcounter|call /' docs/REFUSALS.md)
+lent=$(awk -F ' *[|] *' '$2 ~ /^[0-9]+$/ && $6 ~ /lend|room|span|libcounter|call /' docs/REFUSALS.md)
 holds 'what desks read speaks of nothing to lend' "$lent" [ -z "$lent" ]

@@ -1,4 +1,4 @@
-# shellcheck shell=bash disable=SC2154,SC2016 # tests/programs sets the variables, and bash -c expands the scripts
+# shellcheck shell=bash disable=SC2154,SC2016 # tests/fronts sets the variables, and bash -c expands the scripts
 # --write and who may read and write the file: owner, group, mode and access list. Other users and groups are tried by root alone, in a folder that they reach.
 
 if [ "$(id -u)" -ne 0 ] || ! setpriv --reuid 12345 --regid 12345 --groups 23456 true 2>/dev/null; then

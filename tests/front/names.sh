@@ -1,4 +1,4 @@
-# shellcheck shell=bash disable=SC2154,SC2016 # tests/programs sets the variables, and bash -c expands the scripts
+# shellcheck shell=bash disable=SC2154,SC2016 # tests/fronts sets the variables, and bash -c expands the scripts
 # --names: the parts' names as a last field, and files of names that are wrong.
 
 printf '0 motor\n2 drive "A", left\n1 seal\n3 pompa główna\n' >"$work/names"

@@ -1,4 +1,4 @@
-# shellcheck shell=bash disable=SC2154,SC2016 # tests/programs sets the variables, and bash -c expands the scripts
+# shellcheck shell=bash disable=SC2154,SC2016 # tests/fronts sets the variables, and bash -c expands the scripts
 # desk FILE letter CHANGES: every change, or none.
 
 desk 'a letter is carried out' 0 '' "$week" letter examples/may.letter <examples/letter.parts

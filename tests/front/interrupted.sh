@@ -1,8 +1,8 @@
-# shellcheck shell=bash disable=SC2154,SC2016 # tests/programs sets the variables, and bash -c expands the scripts
+# shellcheck shell=bash disable=SC2154,SC2016 # tests/fronts sets the variables, and bash -c expands the scripts
 # --write that is interrupted: the status is 0 exactly if the file is the new one, and nothing lies beside it. The program itself runs, without its wrapper.
 
 watching=$work/watching.so
-gcc -std=c99 -Wall -Wextra -Werror -shared -fPIC -o "$watching" tests/program/watching.c || exit 2
+gcc -std=c99 -Wall -Wextra -Werror -shared -fPIC -o "$watching" tests/front/watching.c || exit 2
 export TOZBIERDU_LIBEXEC=$PWD/target/bin
 front=$PWD/target/front/bin/desk
 folder=$work/interrupted
@@ -41,7 +41,7 @@ ends 'a signal that is ignored' 0 '' bash -c 'trap "" TERM; "$@"; exit $?' - env
 holds 'interrupts nothing' "it holds $(shown "$table"), beside it $(beside)" eval 'cmp -s "$table" "$work/new" && [ -z "$(beside)" ]'
 
 # at many moments: some runs end with the old file and some with the new one
-read -r old new wrong < <(python3 tests/program/interrupt.py "$front" "$table" "$week" "$work/new")
+read -r old new wrong < <(python3 tests/front/interrupt.py "$front" "$table" "$week" "$work/new")
 holds 'interrupted by TERM, the status is 0 exactly if the file is new' "$wrong" [ -z "$wrong" ]
 holds 'some runs end with the old file and some with the new one' "$old old, $new new" [ "${old:-0}" -gt 0 -a "${new:-0}" -gt 0 ]
 echo "of $((old + new)) interrupted runs $old left the old file and $new the new one"

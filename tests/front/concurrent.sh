@@ -1,4 +1,4 @@
-# shellcheck shell=bash disable=SC2154,SC2016 # tests/programs sets the variables, and bash -c expands the scripts
+# shellcheck shell=bash disable=SC2154,SC2016 # tests/fronts sets the variables, and bash -c expands the scripts
 # --write by two programs at once: no change that ended with 0 is missing. The program itself runs, without its wrapper.
 
 export TOZBIERDU_LIBEXEC=$PWD/target/bin

@@ -1,4 +1,4 @@
-# shellcheck shell=bash disable=SC2154,SC2016 # tests/programs sets the variables, and bash -c expands the scripts
+# shellcheck shell=bash disable=SC2154,SC2016 # tests/fronts sets the variables, and bash -c expands the scripts
 # --csv and --header. CSV is that of RFC 4180: CR LF ends a row, and rows have equally many fields.
 
 # csv NAME COMMAND..: desk with these words and --csv prints what this function is given, with CR LF
