@@ -50,7 +50,9 @@ slice_bounds-put_edge-count c =
     (next_room _ _ _ _ _ _ _ _ c.loop-i.invariant c.put_header-at.ensures c.requires.fits c.loop-i-test.true c.tail_of-tail.ensures).0
 
 pub slice_bounds-put_edge-start : goal.slice_bounds-put_edge-start
-slice_bounds-put_edge-start c = let r = sub-put-edge c in search (rules, r)
+slice_bounds-put_edge-start c =
+    let r = (next_room _ _ _ _ _ _ _ _ c.loop-i.invariant c.put_header-at.ensures c.requires.fits c.loop-i-test.true c.tail_of-tail.ensures).0 in
+    search (rules, r)
 
 pub put_edge-at-requires : goal.put_edge-at-requires
 put_edge-at-requires c =
@@ -58,7 +60,10 @@ put_edge-at-requires c =
 
 pub overflow_add-at : goal.overflow_add-at
 overflow_add-at c =
-    let a = place _ _ _ _ _ _ _ _ (loop-again c) c.put_header-at.ensures c.requires.fits in
+    let table : Columns = columns c.args.n c.args.heads.now c.args.own.now c.args.strikes.now c.args.spans.now c.args.tails.now in
+    let e = tail_line table c.loop-i.i c.tail_of-tail.ensures in
+    let again = putting_next _ _ _ _ _ _ c.loop-i.invariant _ _ c.loop-i-test.true (written_as _ _ _ e c.put_edge-at.ensures) in
+    let a = place _ _ _ _ _ _ _ _ again c.put_header-at.ensures c.requires.fits in
     omega (arith, c.well_formed)
 
 pub loop-i-preserved : goal.loop-i-preserved
@@ -66,9 +71,6 @@ loop-i-preserved c =
     let table : Columns = columns c.args.n c.args.heads.now c.args.own.now c.args.strikes.now c.args.spans.now c.args.tails.now in
     let e = tail_line table c.loop-i.i c.tail_of-tail.ensures in
     putting_next _ _ _ _ _ _ c.loop-i.invariant _ _ c.loop-i-test.true (written_as _ _ _ e c.put_edge-at.ensures)
-
-pub shape_of-room : goal.shape_of-room
-shape_of-room c = (returns c).long
 
 pub returns : goal.returns
 returns c = putting_all _ _ _ _ _ _ _ _ c.loop-i.invariant c.loop-i-test.false c.put_header-at.ensures c.requires.fits

@@ -59,7 +59,10 @@ pub overflow_add-width : goal.overflow_add-width
 overflow_add-width c =
     let table : Columns = columns c.args.n c.args.heads.now c.args.own.now c.args.strikes.now c.args.spans.now c.args.tails.now in
     let here : EdgeHere table c.loop-i.i = edge_here _ _ c.requires c.loop-i-test.true in
-    let m = loop-again c in let e = here in omega arith
+    let l = c.edge_width-width.ensures ∙ ap length (tail_line table c.loop-i.i c.tail_of-tail.ensures) in
+    let m = measured_next _ _ _ _ _ c.requires c.loop-i-test.true l c.loop-i.invariant in
+    let e = here in
+    omega arith
 
 pub loop-i-preserved : goal.loop-i-preserved
 loop-i-preserved c =

@@ -27,8 +27,12 @@ returns-then-width-room c =
     let h = c.if-width-room.true in
     write_short _ _ (omega arith) ∙ write_accepted _ _ _ accepted
 
--- LEFT put_text-requires: call of accepted
--- record { accepted = accepted c.before.before.before; fits = roomy c.before }
+pub put_text-requires : goal.put_text-requires
+put_text-requires c =
+    let table : Columns = columns c.args.n c.args.heads.now c.args.own.now c.args.strikes.now c.args.spans.now c.args.tails.now in
+    let accepted : acceptance table ≡ Accepted = sym c.check_table-checked.ensures ∙ c.in_default.is in
+    let roomy : length (render c.args.measure table) ≤ length c.args.room.now = let w = c.text_width-width.ensures in let h = c.if-width-room.false in omega arith in
+    record { accepted = accepted; fits = roomy }
 
 pub returns : goal.returns
 returns c =
