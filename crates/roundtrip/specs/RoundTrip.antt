@@ -5,7 +5,6 @@ use Rattle.weights.specs.declared.Measure.{Measure}
 use Rattle.refusal.specs.declared.Header.{Header}
 use Rattle.refusal.specs.declared.Reading.TheVariants as reading
 use Rattle.columns.specs.Columns.{Columns}
-use Rattle.text.specs.Tables.{Table}
 use Rattle.columns.specs.Filled.{filled}
 use Rattle.readtable.specs.Read.{ReadOutcome, read_outcome}
 

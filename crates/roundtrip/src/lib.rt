@@ -1,4 +1,3 @@
 // That reading and writing undo each other: the theorems are in specs/.
 
 #![tactic(auto)]
-
