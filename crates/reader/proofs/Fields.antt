@@ -13,7 +13,6 @@ use Rattle.weights.specs.declared.Measure.{Measure}
 use Rattle.weights.specs.declared.Measure.TheVariants.{Cost, Days, Grade}
 use Rattle.weights.specs.declared.Mark.{Mark}
 use Rattle.weights.specs.Figures.{greatest, standing, struck_mark}
-use Rattle.weights.specs.Choice.{pick}
 use Rattle.columns.specs.Acceptance.{most_vertices}
 use Rattle.text.specs.Render.{digits, word, first_word, measure_text, header, mark_text, own_text}
 use Rattle.text.specs.Machine.{digit_of}
