@@ -20,9 +20,6 @@ slice_bounds-counts-end c =
     let opened : let a = c.args in Opened a.measure table_of came a.parts.now a.received.now a.stock.now a.outcomes.now = let a = c.args in open_accepted a.measure table_of came a.parts.now a.received.now a.stock.now a.outcomes.now accepted in
     let o = opened in omega (arith, o.level, o.recorded.vertices)
 
-pub slice_bounds-replay_on-end : goal.slice_bounds-replay_on-end
-slice_bounds-replay_on-end c = sym (length-take-le _ _ (array-borrow-prefix-counts c))
-
 pub slice_bounds-numbers-end : goal.slice_bounds-numbers-end
 slice_bounds-numbers-end c =
     let came : Entries = let a = c.args in entries a.weights.now a.depths.now a.edges.now a.pieces.now in
@@ -31,9 +28,6 @@ slice_bounds-numbers-end c =
     let opened : let a = c.args in Opened a.measure table_of came a.parts.now a.received.now a.stock.now a.outcomes.now = let a = c.args in open_accepted a.measure table_of came a.parts.now a.received.now a.stock.now a.outcomes.now accepted in
     let o = opened in omega (arith, o.recorded.events)
 
-pub slice_bounds-replay_on-end-2 : goal.slice_bounds-replay_on-end-2
-slice_bounds-replay_on-end-2 c = sym (length-take-le _ _ (array-borrow-prefix-numbers c))
-
 pub replay_on-requires : goal.replay_on-requires
 replay_on-requires c =
     let came : Entries = let a = c.args in entries a.weights.now a.depths.now a.edges.now a.pieces.now in
@@ -41,8 +35,8 @@ replay_on-requires c =
     let accepted : let a = c.args in open_acceptance a.measure table_of came a.parts.now a.received.now a.stock.now a.outcomes.now ≡ Accepted = sym c.check_open-a.ensures ∙ c.in-Accepted.is in
     let opened : let a = c.args in Opened a.measure table_of came a.parts.now a.received.now a.stock.now a.outcomes.now = let a = c.args in open_accepted a.measure table_of came a.parts.now a.received.now a.stock.now a.outcomes.now accepted in
     let o = opened in
-    let counts = length-take-le _ _ (array-borrow-prefix-counts c) in
-    let numbers = length-take-le _ _ (array-borrow-prefix-numbers c) in
+    let counts = length-take-le _ _ (omega (arith, o.level, o.recorded.vertices)) in
+    let numbers = length-take-le _ _ (omega (arith, o.recorded.events)) in
     (opened_replayable o, record { counts = counts; numbers = numbers ∙ sym o.recorded.outcomes })
 
 pub returns : goal.returns

@@ -10,22 +10,22 @@ use Rattle.inventory.proofs.replay_on.Goals as goal
 
 pub replay_events-a-requires : goal.replay_events-a-requires
 replay_events-a-requires c =
-    let copied : c.put.new.NEW1.0 ≡ c.args.stock.now = c.put.ensures ∙ filled-all _ _ (sym c.requires.1.counts) in
+    let copied : c.put.new.column ≡ c.args.stock.now = c.put.ensures ∙ filled-all _ _ (sym c.requires.1.counts) in
     copies_replayable c.requires.0 c.requires.1 copied
 
 pub returns-in-Refused : goal.returns-in-Refused
 returns-in-Refused c =
-    let copied : c.put.new.NEW1.0 ≡ c.args.stock.now = c.put.ensures ∙ filled-all _ _ (sym c.requires.1.counts) in
+    let copied : c.put.new.column ≡ c.args.stock.now = c.put.ensures ∙ filled-all _ _ (sym c.requires.1.counts) in
     let lists : ℕ → List ℕ = chosen_tail c.args.spans.now c.args.tails.now c.args.depths.now c.args.edges.now in
-    let run : let k = c.replay_events-a in ran k.result k.new.1.1.1.1.1.1.0 k.new.1.1.1.1.1.1.1.0 ≡ replay_from lists 0 c.args.parts.now c.args.received.now c.args.stock.now = c.replay_events-a.ensures ∙ ap (replay_from lists 0 c.args.parts.now c.args.received.now) copied in
+    let run : let k = c.replay_events-a in ran k.result k.new.stock k.new.outcomes ≡ replay_from lists 0 c.args.parts.now c.args.received.now c.args.stock.now = c.replay_events-a.ensures ∙ ap (replay_from lists 0 c.args.parts.now c.args.received.now) copied in
     copies_left _ _ _ _ _ _ run c.in-Refused.is
 
 pub returns : goal.returns
 returns c =
-    let copied : c.put.new.NEW1.0 ≡ c.args.stock.now = c.put.ensures ∙ filled-all _ _ (sym c.requires.1.counts) in
+    let copied : c.put.new.column ≡ c.args.stock.now = c.put.ensures ∙ filled-all _ _ (sym c.requires.1.counts) in
     let lists : ℕ → List ℕ = chosen_tail c.args.spans.now c.args.tails.now c.args.depths.now c.args.edges.now in
-    let run : let k = c.replay_events-a in ran k.result k.new.1.1.1.1.1.1.0 k.new.1.1.1.1.1.1.1.0 ≡ replay_from lists 0 c.args.parts.now c.args.received.now c.args.stock.now = c.replay_events-a.ensures ∙ ap (replay_from lists 0 c.args.parts.now c.args.received.now) copied in
+    let run : let k = c.replay_events-a in ran k.result k.new.stock k.new.outcomes ≡ replay_from lists 0 c.args.parts.now c.args.received.now c.args.stock.now = c.replay_events-a.ensures ∙ ap (replay_from lists 0 c.args.parts.now c.args.received.now) copied in
     let k = c.replay_events-a.auto in
-    let l : length c.replay_events-a.new.outcomes.1.1.1.1.1.0 ≡ length c.args.stock.now = k.1.1.1.1.1.1.0 ∙ ap length copied in
-    let n : length c.replay_events-a.new.outcomes.1.1.1.1.1.1.0 ≡ length c.args.outcomes.now = k.1.1.1.1.1.1.1.0 ∙ c.requires.1.numbers in
+    let l : length c.replay_events-a.new.stock ≡ length c.args.stock.now = k.stock ∙ ap length copied in
+    let n : length c.replay_events-a.new.outcomes ≡ length c.args.outcomes.now = k.outcomes ∙ c.requires.1.numbers in
     copies_kept _ _ _ _ _ _ run c.in-Accepted.is (c.put-2.ensures ∙ filled-all _ _ l) (c.put-3.ensures ∙ filled-all _ _ n)
