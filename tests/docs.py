@@ -97,14 +97,15 @@ def missing_names(path, words, crates):
 
 
 def check_names():
-    crates = {line.split(":")[0] for line in read("crates.txt").splitlines() if re.match(r"\w+:", line)}
+    # a static library has that word behind its name
+    crates = set(re.findall(r"^(\w+)[^:#\n]*:", read("crates.txt"), re.M))
     words = words_of_code() | other_names()
     for path in DOCUMENTS:
         holds(f"links of {path}", sorted(broken_links(path)))
         holds(f"names that {path} cites", [n for n in missing_names(path, words, crates) if n not in COMMANDS])
     listed = set(re.findall(r"`(\w+)`", " ".join(re.findall(r"^\| (`.*?) \|", read("docs/ARCHITECTURE.md"), re.M))))
     holds("crates that ARCHITECTURE lists", sorted(crates ^ (listed & crates)) or sorted(listed - crates))
-    picture = set(re.findall(r"[a-z]+", "".join(re.findall(r"^    (?:data|samples|theory|settling|calls|text|programs|outside| ) .*$", read("docs/ARCHITECTURE.md"), re.M))))
+    picture = set(re.findall(r"[a-z_]+", "".join(re.findall(r"^    (?:data|samples|theory|settling|calls|text|programs|outside| ) .*$", read("docs/ARCHITECTURE.md"), re.M))))
     holds("crates in ARCHITECTURE's picture", sorted(crates - picture))
 
 
