@@ -3,10 +3,13 @@
 #![tactic(auto)]
 
 ghost use Rattle.std.specs.Prelude.{◌≡◌, length};
-ghost use Rattle.io.specs.Counts.{IsPrefixLen};
-ghost use Rattle.input.specs.Input.{buffer_length, Ended};
+ghost use Rattle.input.specs.Input.{buffer_length, IsPrefixLen, Ended};
 
-use libc::STDIN_FILENO;
+use report::MOST_INPUT;
+use std::io;
+
+// One byte more than an input may have.
+pub const BUFFER_LENGTH: usize = MOST_INPUT + 1;
 
 // A reading at its end: how many bytes came, and the last answer of `read`.
 #[derive(Clone, Copy)]
@@ -16,7 +19,7 @@ pub struct Read {
 }
 
 // Reads until the buffer is full, the input ends or a read fails, also after a short read.
-pub fn read_from(fd: i32, buf: &mut [u8]) -> Read
+pub fn read_from<R: io::Read>(reader: &mut R, buf: &mut [u8]) -> Read
     requires { length buf.old ≡ buffer_length }
     ensures prefix_len { IsPrefixLen result.count buf.new }
     ensures ended { Ended result.count result.last }
@@ -24,8 +27,13 @@ pub fn read_from(fd: i32, buf: &mut [u8]) -> Read
     let mut at: usize = 0;
     let mut last: isize = 0;
     while at < buf.len() {
-        last = libc::read(fd, &mut buf[at..]);
-        let more = io::count(last, &buf[at..]);
+        let Ok(more) = reader.read(&mut buf[at..]) else {
+            return Read {
+                count: at,
+                last: -1,
+            };
+        };
+        last = more as isize;
         if more == 0 {
             return Read { count: at, last };
         }
@@ -35,10 +43,11 @@ pub fn read_from(fd: i32, buf: &mut [u8]) -> Read
 }
 
 // Standard input.
-pub fn read_input(buf: &mut [u8]) -> Read
+pub fn read_input(rt: &impl Input, buf: &mut [u8]) -> Read
     requires { length buf.old ≡ buffer_length }
     ensures prefix_len { IsPrefixLen result.count buf.new }
     ensures ended { Ended result.count result.last }
 {
-    read_from(STDIN_FILENO, buf)
+    let mut reader = rt.reader();
+    read_from(&mut reader, buf)
 }

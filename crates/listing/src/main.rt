@@ -8,8 +8,7 @@ ghost use Rattle.std.specs.Prelude.{◌≡◌, length};
 ghost use Rattle.columns.specs.Filled.{filled};
 ghost use Rattle.input.specs.Printed.{printed};
 
-use input::read_input;
-use libc::{STDERR_FILENO, STDOUT_FILENO};
+use input::{BUFFER_LENGTH, read_input};
 use report::MOST_OUTPUT;
 
 // Puts at the room's start what is printed of the bytes that were read. After a read that failed
@@ -24,18 +23,18 @@ fn conclude(input: &[u8], last: isize, room: &mut [u8; MOST_OUTPUT]) -> usize
     report::report(input, room)
 }
 
-fn main() {
-    let mut input = io::large_buffer();
-    let read = read_input(&mut input);
+fn main(rt: HostRuntime) {
+    let mut input = [0u8; BUFFER_LENGTH];
+    let read = read_input(&rt, &mut input);
     let count = read.count;
     let answer = read.last;
     let mut room = [0u8; MOST_OUTPUT];
     let width = conclude(&input[..count], answer, &mut room);
-    let written = io::write_all(STDOUT_FILENO, &room[..width]);
+    let written = rt.write_all(&room[..width]);
     if answer < 0 {
-        io::write_all(STDERR_FILENO, b"listing: the input could not be read\n");
+        let _ = rt.eprintln("listing: the input could not be read");
     }
-    if !written {
-        io::write_all(STDERR_FILENO, b"listing: the output could not be written\n");
+    if written.is_err() {
+        let _ = rt.eprintln("listing: the output could not be written");
     }
 }

@@ -8,8 +8,7 @@ ghost use Rattle.text.specs.Machine.{parse};
 ghost use Rattle.walk.specs.Walked.{walked_of};
 
 use columns::{MOST_EDGES, MOST_LISTED};
-use input::read_input;
-use libc::STDOUT_FILENO;
+use input::{BUFFER_LENGTH, read_input};
 use reader::line_from;
 use reading::{FirstLine, Line, first_line};
 use weights::{Mark, Vertex, Weight};
@@ -21,35 +20,36 @@ enum Walked {
     Stopped(u64),
 }
 
-fn put_number(v: u64) {
-    io::print_decimal(STDOUT_FILENO, v);
+// What is printed is let go where it can not be written.
+fn put_number(rt: &impl Print, v: u64) {
+    let _ = rt.print(v);
 }
 
 // The own figure, of a struck line behind `-`.
-fn put_own(own: Weight, mark: Mark) {
+fn put_own(rt: &impl Print, own: Weight, mark: Mark) {
     if mark.is_struck() {
-        io::write_all(STDOUT_FILENO, b"-");
+        let _ = rt.print("-");
     }
-    put_number(own.0);
+    put_number(rt, own.0);
 }
 
-fn put_line(head: Vertex, own: Weight, mark: Mark, listed: usize) {
-    put_number(head.0);
-    io::write_all(STDOUT_FILENO, b" ");
-    put_own(own, mark);
-    io::write_all(STDOUT_FILENO, b" ");
-    put_number(listed as u64);
-    io::write_all(STDOUT_FILENO, b"\n");
+fn put_line(rt: &impl Print, head: Vertex, own: Weight, mark: Mark, listed: usize) {
+    put_number(rt, head.0);
+    let _ = rt.print(" ");
+    put_own(rt, own, mark);
+    let _ = rt.print(" ");
+    put_number(rt, listed as u64);
+    let _ = rt.print("\n");
 }
 
-fn put_stop(line: u64) {
-    io::write_all(STDOUT_FILENO, b"stopped at text line ");
-    put_number(line);
-    io::write_all(STDOUT_FILENO, b"\n");
+fn put_stop(rt: &impl Print, line: u64) {
+    let _ = rt.print("stopped at text line ");
+    put_number(rt, line);
+    let _ = rt.print("\n");
 }
 
 // The reader holds every number to its limit; the lines and the parts in all are counted here.
-fn walk(text: &[u8]) -> Walked
+fn walk(rt: &impl Print, text: &[u8]) -> Walked
     ensures { result ≡ walked_of (parse text.now) }
 {
     let first = first_line(text);
@@ -68,7 +68,7 @@ fn walk(text: &[u8]) -> Walked
         let Line::Edge(head, own, mark, count, next) = line else {
             return Walked::Stopped(here);
         };
-        put_line(head, own, mark, count);
+        put_line(rt, head, own, mark, count);
         edges += 1;
         listed += count;
         at = next;
@@ -76,24 +76,24 @@ fn walk(text: &[u8]) -> Walked
     Walked::End
 }
 
-fn main() {
-    let mut input = io::large_buffer();
-    let read = read_input(&mut input);
+fn main(rt: HostRuntime) {
+    let mut input = [0u8; BUFFER_LENGTH];
+    let read = read_input(&rt, &mut input);
     let length = read.count;
     let last = read.last;
     if length == input.len() {
-        io::write_all(STDOUT_FILENO, b"refused 17 0\n");
+        let _ = rt.print("refused 17 0\n");
         return;
     }
-    io::write_all(STDOUT_FILENO, b"head own listed\n");
+    let _ = rt.print("head own listed\n");
     // After a read that failed no byte counts: the start of a text is not the text.
     if last < 0 {
-        put_stop(1);
+        put_stop(&rt, 1);
         return;
     }
-    let walked = walk(&input[..length]);
+    let walked = walk(&rt, &input[..length]);
     match walked {
         Walked::End => {}
-        Walked::Stopped(line) => put_stop(line),
+        Walked::Stopped(line) => put_stop(&rt, line),
     }
 }
