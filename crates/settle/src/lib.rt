@@ -88,8 +88,7 @@ pub fn settle(
     edges: &mut [u64],
     pieces: &mut [u64],
 ) -> Acceptance
-    ensures {
-        let c = columns n heads.now own.now strikes.now spans.now tails.now in
+    ensures { let c = columns n heads.now own.now strikes.now spans.now tails.now in
         let a = entries weights.old depths.old edges.old pieces.old in
         let a' = entries weights.new depths.new edges.new pieces.new in
         record { result = result; left = a' } ≡ settled measure c a }

@@ -36,9 +36,6 @@ bounds-edges-v c =
     let inside : cell c.args.heads.now c.args.e.0 < length c.args.depths.now = c.requires.0.inside c.args.e.0 c.requires.1 in
     omega (arith, inside, c.requires.0.edges)
 
-pub overflow_cast-height : goal.overflow_cast-height
-overflow_cast-height c = omega (arith, c.shared_slice_known-12-1.given c.args.e.0)
-
 pub returns : goal.returns
 unfolding edge_fits
 returns c = c.keeps_up.ensures

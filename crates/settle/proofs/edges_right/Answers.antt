@@ -2,7 +2,6 @@ use mathlib.Core.Path.{◌≡◌, refl, sym, ◌∙◌, ap}
 use mathlib.Core.Bool.{Bool, true}
 use Prim.Native.Nat.{ℕ}
 use native.Mathlib.Omega.{arith}
-use borrow.Author.Tests.{not-true, not-false}
 use lib.ListN.{length}
 use Rattle.weights.specs.Measures.{algebra}
 use Rattle.columns.specs.Columns.{answers}
@@ -22,12 +21,12 @@ edge_right-requires c = (c.requires, c.loop-i-test.true)
 pub returns-then-not-edge_right : goal.returns-then-not-edge_right
 returns-then-not-edge_right c =
     let tested : ℕ → Bool = let a = c.args in edge_fits a.heads.now a.values.now a.heights.now (labels (answers a.weights.now a.depths.now a.edges.now)) (algebra a.measure) in
-    sym (every_stop tested _ _ c.loop-i-test.true (sym c.edge_right.ensures ∙ not-true _ c.if-not-edge_right.true))
+    sym (every_stop tested _ _ c.loop-i-test.true (sym c.edge_right.ensures ∙ c.if-not-edge_right.true))
 
 pub loop-i-preserved : goal.loop-i-preserved
 loop-i-preserved c =
     let tested : ℕ → Bool = let a = c.args in edge_fits a.heads.now a.values.now a.heights.now (labels (answers a.weights.now a.depths.now a.edges.now)) (algebra a.measure) in
-    (omega arith, every_more tested _ (sym c.edge_right.ensures ∙ not-false _ c.if-not-edge_right.false) c.loop-i.invariant.1)
+    (omega arith, every_more tested _ (sym c.edge_right.ensures ∙ c.if-not-edge_right.false) c.loop-i.invariant.1)
 
 pub returns : goal.returns
 returns c =

@@ -2,7 +2,6 @@
 -- Assumes nothing.
 use mathlib.Core.Path.{sym, ◌∙◌}
 use lib.ListN.{length}
-use borrow.Author.Tests.{not-true, not-false}
 use Rattle.columns.specs.Columns.{Answers, Columns, columns, answers}
 use Rattle.columns.specs.Lent.{Turning}
 use Rattle.columns.proofs.Usable.{same_table}
@@ -13,13 +12,13 @@ pub returns-then-not-all_below : goal.returns-then-not-all_below
 returns-then-not-all_below c =
     let came : Answers = let a = c.args in answers a.weights.now a.depths.now a.edges.now in
     let table_of : Columns = let a = c.args in columns a.n a.heads.now a.own.now a.strikes.now a.spans.now a.tails.now in
-    too_deep c.args.measure table_of came c.requires (sym c.all_below.ensures ∙ not-true _ c.if-not-all_below.true)
+    too_deep c.args.measure table_of came c.requires (sym c.all_below.ensures ∙ c.if-not-all_below.true)
 
 pub right_few-requires : goal.right_few-requires
 right_few-requires c =
     let came : Answers = let a = c.args in answers a.weights.now a.depths.now a.edges.now in
     let table_of : Columns = let a = c.args in columns a.n a.heads.now a.own.now a.strikes.now a.spans.now a.tails.now in
-    let turning : Turning (same_table table_of (length came.depths)) came = usable c.args.measure table_of came c.requires (sym c.all_below.ensures ∙ not-false _ c.if-not-all_below.false) in
+    let turning : Turning (same_table table_of (length came.depths)) came = usable c.args.measure table_of came c.requires (sym c.all_below.ensures ∙ c.if-not-all_below.false) in
     (turning, c.if-heads-le256.true)
 
 pub returns-then-heads-le256 : goal.returns-then-heads-le256
@@ -32,7 +31,7 @@ pub right_many-requires : goal.right_many-requires
 right_many-requires c =
     let came : Answers = let a = c.args in answers a.weights.now a.depths.now a.edges.now in
     let table_of : Columns = let a = c.args in columns a.n a.heads.now a.own.now a.strikes.now a.spans.now a.tails.now in
-    let turning : Turning (same_table table_of (length came.depths)) came = usable c.args.measure table_of came c.requires (sym c.all_below.ensures ∙ not-false _ c.if-not-all_below.false) in
+    let turning : Turning (same_table table_of (length came.depths)) came = usable c.args.measure table_of came c.requires (sym c.all_below.ensures ∙ c.if-not-all_below.false) in
     turning
 
 pub returns : goal.returns

@@ -38,11 +38,6 @@ offset_bounds-heights-j c = omega (arith, c.if-e-heads.false, c.requires.0.heigh
 pub bounds-heights-j : goal.bounds-heights-j
 bounds-heights-j c = omega (arith, c.if-e-heads.false, c.requires.0.heights)
 
-pub overflow_cast-height : goal.overflow_cast-height
-overflow_cast-height c =
-    let a = c.args in
-    omega (arith, c.shared_slice_known-6-1.given (cell a.edges.now a.v.0))
-
 pub returns : goal.returns
 unfolding vertex_fits
 returns c =

@@ -2,7 +2,6 @@ use mathlib.Core.Path.{◌≡◌, refl, sym, ◌∙◌, ap}
 use mathlib.Core.Bool.{Bool, true}
 use Prim.Native.Nat.{ℕ}
 use native.Mathlib.Omega.{arith}
-use borrow.Author.Tests.{not-true, not-false}
 use lib.ListN.{length}
 use Rattle.columns.specs.Columns.{answers}
 use Rattle.provenance.specs.BestFirst.{labels}
@@ -21,12 +20,12 @@ vertex_right-requires c = (c.requires, c.loop-i-test.true)
 pub returns-then-not-vertex_right : goal.returns-then-not-vertex_right
 returns-then-not-vertex_right c =
     let tested : ℕ → Bool = let a = c.args in vertex_fits a.heads.now a.values.now a.heights.now (labels (answers a.weights.now a.depths.now a.edges.now)) in
-    sym (every_stop tested _ _ c.loop-i-test.true (sym c.vertex_right.ensures ∙ not-true _ c.if-not-vertex_right.true))
+    sym (every_stop tested _ _ c.loop-i-test.true (sym c.vertex_right.ensures ∙ c.if-not-vertex_right.true))
 
 pub loop-i-preserved : goal.loop-i-preserved
 loop-i-preserved c =
     let tested : ℕ → Bool = let a = c.args in vertex_fits a.heads.now a.values.now a.heights.now (labels (answers a.weights.now a.depths.now a.edges.now)) in
-    (omega arith, every_more tested _ (sym c.vertex_right.ensures ∙ not-false _ c.if-not-vertex_right.false) c.loop-i.invariant.1)
+    (omega arith, every_more tested _ (sym c.vertex_right.ensures ∙ c.if-not-vertex_right.false) c.loop-i.invariant.1)
 
 pub returns : goal.returns
 returns c =

@@ -75,19 +75,22 @@ bounds-next-l c =
     let numbered : c.loop-l.l < length c.args.heads.now = along_line _ _ _ _ _ along c.loop-l-test.true in
     omega (arith, numbered, c.requires.linked.long)
 
--- LEFT key_in_order-key-requires: call of numbered
--- let i = c.before in
---     let s = entry i.before in
---     let u = s.pre.usable in
---     let l = i.before.loop.l in
---     let g = edge_in u l (numbered i) in
---     record {
---       numbered = omega (arith, numbered i, few s);
---       own = g.own;
---       figure = ((table_accepted (table_of s) u.accepted).each l (numbered i)).1.own;
---       placed = g.placed;
---       tail = passable g s.pre.light;
---     }
+pub key_in_order-key-requires : goal.key_in_order-key-requires
+key_in_order-key-requires c =
+    let table_of : Columns = let a = c.args in lent a.heads.now a.own.now a.strikes.now a.spans.now a.tails.now a.depths.now in
+    let few : length c.args.heads.now ≤ most_edges = (table_accepted table_of c.requires.usable.accepted).edges in
+    let low : c.args.v.0 < most_vertices = let u = c.requires.usable in omega (arith, c.requires.inside, u.vertices, (table_accepted table_of u.accepted).few) in
+    let along : let a = c.args in Along a.measure table_of (cell a.weights.now) (cell a.depths.now) a.v.0 c.loop-l.l c.loop-l.best = c.loop-l.invariant c.args.v.0 low refl in
+    let numbered : c.loop-l.l < length c.args.heads.now = along_line _ _ _ _ _ along c.loop-l-test.true in
+    let u = c.requires.usable in
+    let g = edge_in u c.loop-l.l numbered in
+    record {
+      numbered = omega (arith, numbered, few);
+      own = g.own;
+      figure = ((table_accepted table_of u.accepted).each c.loop-l.l numbered).1.own;
+      placed = g.placed;
+      tail = passable g c.requires.light;
+    }
 
 pub loop-l-smaller : goal.loop-l-smaller
 loop-l-smaller c =
@@ -102,7 +105,7 @@ pub loop-l-preserved : goal.loop-l-preserved
 loop-l-preserved c =
     let table_of : Columns = let a = c.args in lent a.heads.now a.own.now a.strikes.now a.spans.now a.tails.now a.depths.now in
     let few : length c.args.heads.now ≤ most_edges = (table_accepted table_of c.requires.usable.accepted).edges in
-    let fits : e < length c.args.heads.now → let a = c.args in Fitting (offer (algebra a.measure) (hypergraph table_of) (cell a.own.now) (cell a.weights.now) (cell a.depths.now) e) = λ e h. offer_fits c.args.measure _ _ _ _ _ e c.requires.usable.shallow (omega (arith, few)) in
+    let fits : (e : ℕ) → e < length c.args.heads.now → let a = c.args in Fitting (offer (algebra a.measure) (hypergraph table_of) (cell a.own.now) (cell a.weights.now) (cell a.depths.now) e) = λ e h. offer_fits c.args.measure _ _ _ _ _ e c.requires.usable.shallow (omega (arith, few)) in
     let a = c.args in
     let w = cell a.weights.now in
     let d = cell a.depths.now in
@@ -114,7 +117,7 @@ pub returns-then-best : goal.returns-then-best
 returns-then-best c =
     let table_of : Columns = let a = c.args in lent a.heads.now a.own.now a.strikes.now a.spans.now a.tails.now a.depths.now in
     let few : length c.args.heads.now ≤ most_edges = (table_accepted table_of c.requires.usable.accepted).edges in
-    let fits : e < length c.args.heads.now → let a = c.args in Fitting (offer (algebra a.measure) (hypergraph table_of) (cell a.own.now) (cell a.weights.now) (cell a.depths.now) e) = λ e h. offer_fits c.args.measure _ _ _ _ _ e c.requires.usable.shallow (omega (arith, few)) in
+    let fits : (e : ℕ) → e < length c.args.heads.now → let a = c.args in Fitting (offer (algebra a.measure) (hypergraph table_of) (cell a.own.now) (cell a.weights.now) (cell a.depths.now) e) = λ e h. offer_fits c.args.measure _ _ _ _ _ e c.requires.usable.shallow (omega (arith, few)) in
     let offered : Offer = let a = c.args in visited a.measure table_of a.weights.now a.depths.now a.v.0 in
     let fitting : Fitting offered = fitting_best c.args.measure table_of _ _ c.args.v.0 fits (length c.args.heads.now) (omega arith) in
     let low : c.args.v.0 < most_vertices = let u = c.requires.usable in omega (arith, c.requires.inside, u.vertices, (table_accepted table_of u.accepted).few) in
@@ -126,7 +129,7 @@ pub returns : goal.returns
 returns c =
     let table_of : Columns = let a = c.args in lent a.heads.now a.own.now a.strikes.now a.spans.now a.tails.now a.depths.now in
     let few : length c.args.heads.now ≤ most_edges = (table_accepted table_of c.requires.usable.accepted).edges in
-    let fits : e < length c.args.heads.now → let a = c.args in Fitting (offer (algebra a.measure) (hypergraph table_of) (cell a.own.now) (cell a.weights.now) (cell a.depths.now) e) = λ e h. offer_fits c.args.measure _ _ _ _ _ e c.requires.usable.shallow (omega (arith, few)) in
+    let fits : (e : ℕ) → e < length c.args.heads.now → let a = c.args in Fitting (offer (algebra a.measure) (hypergraph table_of) (cell a.own.now) (cell a.weights.now) (cell a.depths.now) e) = λ e h. offer_fits c.args.measure _ _ _ _ _ e c.requires.usable.shallow (omega (arith, few)) in
     let offered : Offer = let a = c.args in visited a.measure table_of a.weights.now a.depths.now a.v.0 in
     let fitting : Fitting offered = fitting_best c.args.measure table_of _ _ c.args.v.0 fits (length c.args.heads.now) (omega arith) in
     let low : c.args.v.0 < most_vertices = let u = c.requires.usable in omega (arith, c.requires.inside, u.vertices, (table_accepted table_of u.accepted).few) in

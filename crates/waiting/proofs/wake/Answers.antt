@@ -28,11 +28,6 @@ returns-then-depths-h-ne0 c =
 pub bounds-at-i : goal.bounds-at-i
 bounds-at-i c = omega (arith, edge-room c.requires.0 c.args.e.0 c.requires.1.waiter.numbered, c.requires.1.sizes.at)
 
-pub overflow_cast-place : goal.overflow_cast-place
-overflow_cast-place c =
-    omega
-    (arith, c.slice_known-7-1.given c.args.e.0)
-
 pub bounds-joined-i : goal.bounds-joined-i
 bounds-joined-i c = omega (arith, edge-room c.requires.0 c.args.e.0 c.requires.1.waiter.numbered, c.requires.1.sizes.joined)
 
