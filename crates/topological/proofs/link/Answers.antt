@@ -87,7 +87,7 @@ loop-i-preserved-then-not-struck c =
     let l = c.loop-i in
     let h = here in (
       omega (arith, h.line),
-      (length-set l.next _ _ ∙ l.inv.1.0, linked_more (l.i - 1) linked h.line h.head (sym c.is_struck-struck.ensures ∙ c.if-not-struck.true)),
+      (length-set l.next _ _ ∙ l.invariant.1.0, linked_more (l.i - 1) linked h.line h.head (sym c.is_struck-struck.ensures ∙ c.if-not-struck.true)),
     )
 
 pub loop-i-smaller : goal.loop-i-smaller

@@ -48,7 +48,7 @@ loop-i-preserved c =
     let sized : let l = c.loop-i in Sized (length c.args.depths.now) (answers l.weights l.depths l.edges) = walk-sized c.args.measure table_of c.requires.accepted c.loop-i.i c.loop-i.invariant.1 c.loop-i.invariant.0 in
     let below : c.loop-i.i < length c.args.depths.now = omega (arith, c.loop-i-test.true, sized.depths) in
     let l = c.loop-i in
-    (omega (arith, below), walk_more c.args.measure table_of c.requires.accepted l.i l.inv.1 l.inv.0 below c.visit-o.ensures c.store.ensures)
+    (omega (arith, below), walk_more c.args.measure table_of c.requires.accepted l.i l.invariant.1 l.invariant.0 below c.visit-o.ensures c.store.ensures)
 
 pub shape_of-weights : goal.shape_of-weights
 shape_of-weights c =
