@@ -1,6 +1,6 @@
 -- `report::put_refused` meets its contract, by whether the refusal has a column. Assumes nothing.
 use mathlib.Core.Path.{◌≡◌, sym}
-use mathlib.Core.List.{◌∷◌}
+use mathlib.Core.List.{[], ◌∷◌}
 use native.Mathlib.Omega.{arith}
 use Rattle.writing.proofs.Written.{written_as}
 use Rattle.report.specs.Report.{refused_with, refused_line}
@@ -10,11 +10,8 @@ use Rattle.report.proofs.put_refused.Goals as goal
 
 pub put_numbers-requires : goal.put_numbers-requires
 put_numbers-requires c =
-    let w = refused_with_two _ _ c.number-number.type-inv c.place-place.type-inv in
+    let w = refused_with_two _ _ c.number-number.type_inv c.place-place.type_inv in
     omega (arith, w, c.requires)
-
-pub shape_of-room-then-column-eq0 : goal.shape_of-room-then-column-eq0
-shape_of-room-then-column-eq0 c = (returns c).long
 
 pub returns-then-column-eq0 : goal.returns-then-column-eq0
 returns-then-column-eq0 c =
@@ -23,11 +20,8 @@ returns-then-column-eq0 c =
 
 pub put_numbers-requires-2 : goal.put_numbers-requires-2
 put_numbers-requires-2 c =
-    let w = refused_with_three _ _ _ c.number-number.type-inv c.place-place.type-inv c.column-column.type-inv in
+    let w = refused_with_three _ _ _ c.number-number.type_inv c.place-place.type_inv c.column-column.type_inv in
     omega (arith, w, c.requires)
-
-pub shape_of-room : goal.shape_of-room
-shape_of-room c = (returns-2 c).long
 
 pub returns : goal.returns
 returns c =

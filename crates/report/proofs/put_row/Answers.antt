@@ -1,6 +1,6 @@
 -- `report::put_row` meets its contract: part and state, and the numbers in the room behind them. Assumes nothing.
 use mathlib.Core.Path.{sym, ap}
-use mathlib.Core.List.{List, ◌∷◌, ◌++◌}
+use mathlib.Core.List.{List, [], ◌∷◌, ◌++◌}
 use Prim.Native.Nat.{ℕ, ◌≤◌}
 use native.Mathlib.Omega.{arith}
 use borrow.Author.Rules.{rules}
@@ -26,7 +26,11 @@ slice_bounds-put_tail-count c =
     within front _ _ _ c.put_stem-at.ensures back whole
 
 pub slice_bounds-put_tail-start : goal.slice_bounds-put_tail-start
-slice_bounds-put_tail-start c = let r = sub-put-tail c in search (rules, r)
+slice_bounds-put_tail-start c =
+    let back : List ℕ = tail_text (c.args.entry.weight.0 ∷ c.args.entry.depth ∷ c.args.entry.edge.0 ∷ c.args.entry.pieces ∷ []) ++ 10 ∷ [] in
+    let front : List ℕ = digits c.args.v.0 ++ (32 ∷ state_word c.args.entry.state) in
+    let whole : length (front ++ back) ≤ length c.args.room.now = let e = ap length (row_split c.args.v.0 c.args.entry) in let p = c.requires in omega arith in
+    let r = within front _ _ _ c.put_stem-at.ensures back whole in search (rules, r)
 
 pub put_tail-width-requires : goal.put_tail-width-requires
 put_tail-width-requires c =
@@ -37,12 +41,11 @@ put_tail-width-requires c =
 
 pub overflow_add-result : goal.overflow_add-result
 overflow_add-result c =
-    let n = (returns c).count in
-    let w = c.requires in
+    let back : List ℕ = tail_text (c.args.entry.weight.0 ∷ c.args.entry.depth ∷ c.args.entry.edge.0 ∷ c.args.entry.pieces ∷ []) ++ 10 ∷ [] in
+    let front : List ℕ = digits c.args.v.0 ++ (32 ∷ state_word c.args.entry.state) in
+    let whole : length (front ++ back) ≤ length c.args.room.now = let e = ap length (row_split c.args.v.0 c.args.entry) in let p = c.requires in omega arith in
+    let n = (written_part front _ _ _ c.put_stem-at.ensures back _ _ whole c.put_tail-width.ensures).count in
     omega (arith, c.well_formed)
-
-pub shape_of-room : goal.shape_of-room
-shape_of-room c = (returns c).long
 
 pub returns : goal.returns
 returns c =

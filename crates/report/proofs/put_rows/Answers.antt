@@ -19,7 +19,9 @@ slice_bounds-put_row-count c =
     c.entry-entry.ensures
 
 pub slice_bounds-put_row-start : goal.slice_bounds-put_row-start
-slice_bounds-put_row-start c = let r = sub-put-row c in search (rules, r)
+slice_bounds-put_row-start c =
+    let r = row_starts (entries c.args.weights.now c.args.depths.now c.args.edges.now c.args.pieces.now) _ _ c.loop-i.i (length c.args.depths.now) c.loop-i.at c.loop-i-test.true c.loop-i.invariant.1 c.requires c.entry-entry.result c.entry-entry.ensures in
+    search (rules, r)
 
 pub put_row-at-requires : goal.put_row-at-requires
 put_row-at-requires c =
@@ -28,7 +30,7 @@ put_row-at-requires c =
 
 pub overflow_add-at : goal.overflow_add-at
 overflow_add-at c =
-    let w = (loop-again c).1.count in
+    let w = (row_next (entries c.args.weights.now c.args.depths.now c.args.edges.now c.args.pieces.now) _ _ c.loop-i.i (length c.args.depths.now) c.loop-i.at c.loop-i-test.true c.loop-i.invariant.1 c.requires c.entry-entry.result c.entry-entry.ensures _ _ c.put_row-at.ensures).count in
     let b =
     rows_within (entries c.args.weights.now c.args.depths.now c.args.edges.now c.args.pieces.now) (c.loop-i.i + 1)
     (length c.args.depths.now) (let t = c.loop-i-test.true in omega arith) in
@@ -36,13 +38,12 @@ overflow_add-at c =
     omega (arith, c.well_formed)
 
 pub loop-i-preserved : goal.loop-i-preserved
-loop-i-preserved c =
-    (
-      omega arith,
-      row_next (entries c.args.weights.now c.args.depths.now c.args.edges.now c.args.pieces.now) _ _ c.loop-i.i
-          (length c.args.depths.now) c.loop-i.at c.loop-i-test.true c.loop-i.invariant.1 c.requires c.entry-entry.result
-          c.entry-entry.ensures _ _ c.put_row-at.ensures,
-    )
+loop-i-preserved c = (
+  omega arith,
+  row_next (entries c.args.weights.now c.args.depths.now c.args.edges.now c.args.pieces.now) _ _ c.loop-i.i
+      (length c.args.depths.now) c.loop-i.at c.loop-i-test.true c.loop-i.invariant.1 c.requires c.entry-entry.result
+      c.entry-entry.ensures _ _ c.put_row-at.ensures,
+)
 
 pub shape_of-room : goal.shape_of-room
 shape_of-room c = c.loop-i.invariant.1.long

@@ -24,7 +24,11 @@ slice_bounds-put_state-count c =
     within front _ _ _ c.put_number-at.ensures back whole
 
 pub slice_bounds-put_state-start : goal.slice_bounds-put_state-start
-slice_bounds-put_state-start c = let r = sub-put-state c in search (rules, r)
+slice_bounds-put_state-start c =
+    let back : List ℕ = 32 ∷ state_word c.args.state in
+    let front : List ℕ = digits c.args.v.0 in
+    let whole : length (front ++ back) ≤ length c.args.room.now = c.requires in
+    let r = within front _ _ _ c.put_number-at.ensures back whole in search (rules, r)
 
 pub put_state-width-requires : goal.put_state-width-requires
 put_state-width-requires c =
@@ -35,12 +39,11 @@ put_state-width-requires c =
 
 pub overflow_add-result : goal.overflow_add-result
 overflow_add-result c =
-    let n = (returns c).count in
-    let w = c.requires in
+    let back : List ℕ = 32 ∷ state_word c.args.state in
+    let front : List ℕ = digits c.args.v.0 in
+    let whole : length (front ++ back) ≤ length c.args.room.now = c.requires in
+    let n = (written_part front _ _ _ c.put_number-at.ensures back _ _ whole c.put_state-width.ensures).count in
     omega (arith, c.well_formed)
-
-pub shape_of-room : goal.shape_of-room
-shape_of-room c = (returns c).long
 
 pub returns : goal.returns
 returns c =

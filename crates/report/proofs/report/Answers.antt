@@ -2,6 +2,7 @@
 use mathlib.Core.Path.{◌≡◌}
 use Prim.Native.Nat.{◌≤◌}
 use native.Mathlib.Omega.{arith}
+use borrow.Author.Rules.{rules}
 use lib.ListN.{length}
 use Rattle.refusal.specs.declared.Refusal.TheVariants.{InputLength}
 use Rattle.settle.specs.Settling.{settled}
@@ -11,34 +12,31 @@ use Rattle.report.proofs.Reports.{report_long}
 use Rattle.report.proofs.Laws.{reported, report_refused, report-table, table-lent}
 use Rattle.report.proofs.report.Goals as goal
 
-pub put_refused-requires : goal.put_refused-requires
-put_refused-requires c = let l = c.put_refused-arg-1.given.0.1 in omega arith
-
 pub returns-then-input-gt-MOST_INPUT : goal.returns-then-input-gt-MOST_INPUT
 returns-then-input-gt-MOST_INPUT c =
     let long : report c.args.input.now ≡ refused_line InputLength = report_long c.args.input.now (let h = c.if-input-gt-MOST_INPUT.true in omega arith) in
-    reported _ _ _ _ _ long c.put_refused.ensures
-
-pub put_refused-requires-in-Refused : goal.put_refused-requires-in-Refused
-put_refused-requires-in-Refused c = let l = c.put_refused-arg-in-Refused-1.given.0.1 in omega arith
+    let r = reported _ _ _ _ _ long c.put_refused.ensures in
+    record { value = r.0; room_after = r.1 }
 
 pub returns-in-Refused : goal.returns-in-Refused
 unfolding read_input
 returns-in-Refused c =
     let short : length c.args.input.now ≤ most_input = let h = c.if-input-gt-MOST_INPUT.false in omega arith in
     let wrong : report c.args.input.now ≡ refused_line c.in-Refused.r = report_refused _ short _ _ _ _ _ _ c.read_table-reading.ensures _ c.in-Refused.is in
-    reported _ _ _ _ _ wrong c.put_refused-in-Refused.ensures
+    let r = reported _ _ _ _ _ wrong c.put_refused-in-Refused.ensures in
+    record { value = r.0; room_after = r.1 }
 
 pub put_read-requires : goal.put_read-requires
 unfolding read_input
 put_read-requires c =
     let short : length c.args.input.now ≤ most_input = let h = c.if-input-gt-MOST_INPUT.false in omega arith in
     table-lent _ short _ _ _ _ _ _
-    c.read_table-reading.ensures _ _ c.put_read-arg-1.given.0.1 c.in-Table.is
+    c.read_table-reading.ensures _ _ (search rules) c.in-Table.is
 
 pub returns-in-Table : goal.returns-in-Table
 unfolding read_input
 returns-in-Table c =
     let short : length c.args.input.now ≤ most_input = let h = c.if-input-gt-MOST_INPUT.false in omega arith in
-    let whole : let g = c.in-Table.header in let l = c.read_table-reading.new in report c.args.input.now ≡ priced g.vertices (settled g.measure (lent_columns g l.1.0 l.1.1.0 l.1.1.1.0 l.1.1.1.1.0 l.1.1.1.1.1.0) (blank_entries g.vertices)) = report-table _ short _ _ _ _ _ _ c.read_table-reading.ensures _ c.in-Table.is in
-    reported _ _ _ _ _ whole c.put_read.ensures
+    let whole : let g = c.in-Table.header in let l = c.read_table-reading.new in report c.args.input.now ≡ priced g.vertices (settled g.measure (lent_columns g l.heads l.own l.strikes l.spans l.tails) (blank_entries g.vertices)) = report-table _ short _ _ _ _ _ _ c.read_table-reading.ensures _ c.in-Table.is in
+    let r = reported _ _ _ _ _ whole c.put_read.ensures in
+    record { value = r.0; room_after = r.1 }
