@@ -1,5 +1,6 @@
 use mathlib.Core.Path.{◌≡◌, refl, sym, ◌∙◌, ap}
-use Prim.Native.Nat.{ℕ, ◌+◌}
+use mathlib.Core.List.{List}
+use Prim.Native.Nat.{ℕ, ◌+◌, ◌*◌}
 use native.Mathlib.Omega.{arith}
 use lib.ListN.{length, length-set}
 use Rattle.uses.specs.Uses.{pairs_in}
@@ -8,24 +9,25 @@ use Rattle.uses.proofs.Pairs.{length_pairs}
 use Rattle.uses.proofs.Placing.{placed_to, place_none, place_all, running_mono, running_next, place_count, place_more}
 use Rattle.uses.proofs.place.Goals as goal
 
+-- the index keeps its length
+level : {index₀ index : List ℕ} {v : ℕ} → length index₀ ≡ 2 * pairs_in index₀ → index ≡ placed_to index₀ v (pairs_in index₀) → length index ≡ length index₀
+level even p = ap length p ∙ length_pairs _ _ _ ∙ sym even
+
 pub loop-v-init : goal.loop-v-init
 unfolding running
 loop-v-init c = (omega arith, (refl, place_none _ _ c.requires.even))
 
 pub bounds-index-v : goal.bounds-index-v
 bounds-index-v c =
-    let level : length c.loop-v.index ≡ length c.args.index.now = ap length c.loop-v.invariant.1.1 ∙ length_pairs _ _ _ ∙ sym c.requires.even in
-    omega (arith, level)
+    omega (arith, level c.requires.even c.loop-v.invariant.1.1)
 
 pub bounds-index-v-in-loop-v : goal.bounds-index-v-in-loop-v
 bounds-index-v-in-loop-v c =
-    let level : length c.loop-v.index ≡ length c.args.index.now = ap length c.loop-v.invariant.1.1 ∙ length_pairs _ _ _ ∙ sym c.requires.even in
-    omega (arith, level)
+    omega (arith, level c.requires.even c.loop-v.invariant.1.1)
 
 pub bounds-index-v-in-loop-v-2 : goal.bounds-index-v-in-loop-v-2
 bounds-index-v-in-loop-v-2 c =
-    let level : length c.loop-v.index ≡ length c.args.index.now = ap length c.loop-v.invariant.1.1 ∙ length_pairs _ _ _ ∙ sym c.requires.even in
-    simp length-set (omega (arith, level))
+    simp length-set (omega (arith, level c.requires.even c.loop-v.invariant.1.1))
 
 pub overflow_add-sum : goal.overflow_add-sum
 overflow_add-sum c =
@@ -50,8 +52,7 @@ loop-v-preserved c =
 
 pub shape_of-index : goal.shape_of-index
 shape_of-index c =
-    let level : length c.loop-v.index ≡ length c.args.index.now = ap length c.loop-v.invariant.1.1 ∙ length_pairs _ _ _ ∙ sym c.requires.even in
-    level
+    level c.requires.even c.loop-v.invariant.1.1
 
 pub returns : goal.returns
 returns c =
