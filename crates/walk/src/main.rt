@@ -61,7 +61,8 @@ fn walk(rt: &impl Print, text: &[u8]) -> Walked
     let mut listed: usize = 0;
     while at < text.len() {
         let here = edges as u64 + 2;
-        if edges >= MOST_EDGES {
+        let full = edges >= MOST_EDGES;
+        if full {
             return Walked::Stopped(here);
         }
         let line = line_from(text, at, n, MOST_LISTED - listed);

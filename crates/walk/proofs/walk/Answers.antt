@@ -16,45 +16,45 @@ told : (s : List ℕ) (P : Parse) → scan s ≡ P → walked_of P ≡ walked_of
 told s P e = ap walked_of (sym e ∙ scan_is_parse s)
 
 pub returns-in_default : goal.returns-in_default
-returns-in_default c = told _ (Wrong 1) (scan_unopened _ _ (unopened _ _ (sym c.in_default.is ∙ c.first_line-first.ensures)).1)
+returns-in_default g c = told _ (Wrong 1) (scan_unopened _ _ (unopened _ _ (sym c.in_default.is ∙ c.first_line-first.ensures)).1)
 
 pub loop-at-init : goal.loop-at-init
-loop-at-init c = (_, scan-begun _ _ _ _ (opened _ _ _ _ (sym c.in-Read.is ∙ c.first_line-first.ensures)))
+loop-at-init g c = (_, scan-begun _ _ _ _ (opened _ _ _ _ (sym c.in-Read.is ∙ c.first_line-first.ensures)))
 
 pub overflow_add-here : goal.overflow_add-here
-overflow_add-here c = let f = c.loop-at.invariant.1.few in omega arith
+overflow_add-here g c = let f = c.loop-at.invariant.1.few in omega arith
 
-pub returns-then-edges-ge-MOST_EDGES : goal.returns-then-edges-ge-MOST_EDGES
-returns-then-edges-ge-MOST_EDGES c =
-    told _ (Wrong (c.loop-at.edges + 2)) (scan_full _ _ _ _ _ _ c.loop-at.invariant.1 c.loop-at-test.true c.if-edges-ge-MOST_EDGES.true)
+pub returns-then-full : goal.returns-then-full
+returns-then-full g c =
+    told _ (Wrong (c.loop-at.edges + 2)) (scan_full _ _ _ _ _ _ c.loop-at.invariant.1 c.loop-at-test.true c.if-full.true)
 
 pub overflow_sub-listed : goal.overflow_sub-listed
-overflow_sub-listed c = c.loop-at.invariant.1.few_listed
+overflow_sub-listed g c = c.loop-at.invariant.1.few_listed
 
 pub returns-in_default-line : goal.returns-in_default-line
-returns-in_default-line c =
-    let r = line_refused _ _ _ _ _ _ c.loop-at.invariant.1 c.loop-at-test.true c.if-edges-ge-MOST_EDGES.false longest_tail refl _ _ c.line_from-line.ensures _ c.in_default-line.is in
+returns-in_default-line g c =
+    let r = line_refused _ _ _ _ _ _ c.loop-at.invariant.1 c.loop-at-test.true c.if-full.false longest_tail refl _ _ c.line_from-line.ensures _ c.in_default-line.is in
     ap walked_of (sym r.2.wrong)
 
 pub overflow_add-edges : goal.overflow_add-edges
-overflow_add-edges c =
-    let next-line : let f = c.first-1.given.0 in let r = c.line-1.given.0.1.1.1 in let text = c.args.text.now in (c.loop-at.at < r.1.0) × (r.0 ≤ most_listed - c.loop-at.listed) × Scanning text f.0 c.loop-at.invariant.0 r.1.0 (c.loop-at.edges + 1) (c.loop-at.listed + r.0) = line-next _ _ _ _ _ _ c.loop-at.invariant.1 c.loop-at-test.true c.if-edges-ge-MOST_EDGES.false longest_tail refl _ _ c.line_from-line.ensures _ _ _ _ _ c.in-Edge.is in
-    let f = next-line.2.few in omega arith
+overflow_add-edges g c =
+    let more = line-next _ _ _ _ _ _ c.loop-at.invariant.1 c.loop-at-test.true c.if-full.false longest_tail refl _ _ c.line_from-line.ensures _ _ _ _ _ c.in-Edge.is in
+    let f = more.2.few in omega arith
 
 pub overflow_add-listed : goal.overflow_add-listed
-overflow_add-listed c =
-    let next-line : let f = c.first-1.given.0 in let r = c.line-1.given.0.1.1.1 in let text = c.args.text.now in (c.loop-at.at < r.1.0) × (r.0 ≤ most_listed - c.loop-at.listed) × Scanning text f.0 c.loop-at.invariant.0 r.1.0 (c.loop-at.edges + 1) (c.loop-at.listed + r.0) = line-next _ _ _ _ _ _ c.loop-at.invariant.1 c.loop-at-test.true c.if-edges-ge-MOST_EDGES.false longest_tail refl _ _ c.line_from-line.ensures _ _ _ _ _ c.in-Edge.is in
-    let f = next-line.2.few_listed in omega arith
+overflow_add-listed g c =
+    let more = line-next _ _ _ _ _ _ c.loop-at.invariant.1 c.loop-at-test.true c.if-full.false longest_tail refl _ _ c.line_from-line.ensures _ _ _ _ _ c.in-Edge.is in
+    let f = more.2.few_listed in omega arith
 
 pub loop-at-smaller : goal.loop-at-smaller
-loop-at-smaller c =
-    let next-line : let f = c.first-1.given.0 in let r = c.line-1.given.0.1.1.1 in let text = c.args.text.now in (c.loop-at.at < r.1.0) × (r.0 ≤ most_listed - c.loop-at.listed) × Scanning text f.0 c.loop-at.invariant.0 r.1.0 (c.loop-at.edges + 1) (c.loop-at.listed + r.0) = line-next _ _ _ _ _ _ c.loop-at.invariant.1 c.loop-at-test.true c.if-edges-ge-MOST_EDGES.false longest_tail refl _ _ c.line_from-line.ensures _ _ _ _ _ c.in-Edge.is in
-    let n = next-line in let h = n.0 in let w = n.2.within in omega arith
+loop-at-smaller g c =
+    let more = line-next _ _ _ _ _ _ c.loop-at.invariant.1 c.loop-at-test.true c.if-full.false longest_tail refl _ _ c.line_from-line.ensures _ _ _ _ _ c.in-Edge.is in
+    let n = more in let h = n.0 in let w = n.2.within in omega arith
 
 pub loop-at-preserved : goal.loop-at-preserved
-loop-at-preserved c =
-    let next-line : let f = c.first-1.given.0 in let r = c.line-1.given.0.1.1.1 in let text = c.args.text.now in (c.loop-at.at < r.1.0) × (r.0 ≤ most_listed - c.loop-at.listed) × Scanning text f.0 c.loop-at.invariant.0 r.1.0 (c.loop-at.edges + 1) (c.loop-at.listed + r.0) = line-next _ _ _ _ _ _ c.loop-at.invariant.1 c.loop-at-test.true c.if-edges-ge-MOST_EDGES.false longest_tail refl _ _ c.line_from-line.ensures _ _ _ _ _ c.in-Edge.is in
-    (_, next-line.2)
+loop-at-preserved g c =
+    let more = line-next _ _ _ _ _ _ c.loop-at.invariant.1 c.loop-at-test.true c.if-full.false longest_tail refl _ _ c.line_from-line.ensures _ _ _ _ _ c.in-Edge.is in
+    (_, more.2)
 
 pub returns : goal.returns
-returns c = let g = c.loop-at.invariant.1 in told _ (Whole g.so_far) (scan_end _ _ _ _ _ _ g c.loop-at-test.false)
+returns g c = let i = c.loop-at.invariant.1 in told _ (Whole i.so_far) (scan_end _ _ _ _ _ _ i c.loop-at-test.false)
