@@ -25,7 +25,7 @@ manuals: $(manuals) ## make the man pages, target/man/*
 # The files of a crate and of the crates that it needs, and their folders, whose time changes when a file goes. What rt keeps in out/ is no source.
 needs = $(shell tac crates.txt | awk -F '[: ]+' -v crate=$(1) 'BEGIN { need[crate] } $$1 in need { print $$1; for (i = 2; i <= NF; i++) need[$$i] }')
 sources = crates.txt $(shell find $(addprefix crates/,$(needs)) -mindepth 1 \( -name out -o -name must-fail \) -prune -o -print)
-$(foreach crate,tozbierdu counter,$(eval target/staticlib/lib$(crate).a: $(call sources,$(crate))))
+$(foreach crate,tozbierdu counter,$(eval target/staticlib/lib$(crate).a: $(call sources,$(crate)_c)))
 $(foreach crate,parts listing walk,$(eval target/bin/$(crate): $(call sources,$(crate))))
 
 # What is built gets the time at which its check began: a source that changes during the check is newer.
@@ -33,9 +33,11 @@ begin = @command -v rt >/dev/null || { echo '$@ is missing or older than its sou
 	mkdir -p target/begun && touch target/begun/$(@F)
 end = @touch -r target/begun/$(@F) $@
 
+# A crate is a library or an archive: the archive of crate NAME is that of crate NAME_c, which exports NAME's calls.
 target/staticlib/lib%.a:
 	$(begin)
-	rt staticlib $*
+	cd crates/$*_c && rt lib
+	@mkdir -p $(@D) && cp crates/$*_c/out/lib$*_c.a $@.new && mv $@.new $@
 	$(end)
 
 # A program is what rt ci left in its crate, or else rt run, which proves, builds and runs it.

@@ -1,5 +1,5 @@
-// The calls of a counter program that is written in C. The measure comes as a number and is checked
-// before everything; each call gives one number.
+// The calls of a counter program that is written in C, whose archive the crate `counter_c` builds. The
+// measure comes as a number and is checked before everything; each call gives one number.
 
 #![tactic(auto)]
 

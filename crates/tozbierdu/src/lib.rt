@@ -1,5 +1,6 @@
-// The archive for programs in C: every call, under a name that begins with `tozbierdu_`. A measure
-// comes as a number and is checked before everything; each call gives one number.
+// The calls of the archive for programs in C, which the crate `tozbierdu_c` builds: every call, under
+// a name that begins with `tozbierdu_`. A measure comes as a number and is checked before everything;
+// each call gives one number.
 
 #![tactic(auto)]
 
