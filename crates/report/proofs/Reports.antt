@@ -19,7 +19,7 @@ use Rattle.columns.specs.Acceptance.{most_edges, most_listed, acceptance, lent_a
 use Rattle.columns.proofs.Accepted.{table_accepted, columns_accept}
 use Rattle.settle.specs.Settling.{entries_of, settled}
 use Rattle.settle.proofs.Demands.{settled_result_lem}
-use Rattle.text.specs.Tables.{Table, heads_of, owns_of, marks_of, spans_from, tails_of, closed}
+use Rattle.text.specs.Tables.{heads_of, owns_of, marks_of, spans_from, tails_of, closed}
 use Rattle.text.specs.Render.{render, Permitted}
 use Rattle.text.specs.Machine.{Parse, Whole, Wrong, parse}
 use Rattle.text.proofs.Digits.{pick_by}
