@@ -110,8 +110,8 @@ pub loop-i-preserved : goal.loop-i-preserved
 loop-i-preserved c = (
   omega arith,
   elim c.if-mark-number.branch [
-    then-mark-number w ↦ w.index-is ∙ counted_new c.requires c.loop-i.i c.loop-i-test.true c.loop-i.invariant.1 w.if-mark-number.true
-  | else-mark-number w ↦ w.index-is ∙ counted_again c.requires c.loop-i.i c.loop-i-test.true c.loop-i.invariant.1 w.if-mark-number.false
+    | then-mark-number w ↦ w.index-is ∙ counted_new c.requires c.loop-i.i c.loop-i-test.true c.loop-i.invariant.1 w.if-mark-number.true
+    | else-mark-number w ↦ w.index-is ∙ counted_again c.requires c.loop-i.i c.loop-i-test.true c.loop-i.invariant.1 w.if-mark-number.false
   ],
 )
 

@@ -11,7 +11,7 @@ use Rattle.uses.proofs.Filling.{fill_none, filling, fill_more}
 use Rattle.uses.proofs.fill.Goals as goal
 
 -- the index keeps its length
-module _ {first second first' second' : ℕ → ℕ} {n : ℕ} {index₀ index : List ℕ} (p : index₀ ≡ pairs first second n) (q : index ≡ pairs first' second' n) where
+module _ (first second first' second' : ℕ → ℕ) (n : ℕ) {index₀ index : List ℕ} (p : index₀ ≡ pairs first second n) (q : index ≡ pairs first' second' n) where
   level : length index ≡ length index₀
   level = ap length q ∙ length_pairs _ _ _ ∙ sym (ap length p ∙ length_pairs _ _ _)
 
@@ -24,15 +24,15 @@ loop-i-init c = (omega arith, fill_none _ _ _ _ _ c.requires.offsets)
 pub fill_edge-requires : goal.fill_edge-requires
 fill_edge-requires c =
     let h : c.loop-i.i < pairs_in c.args.spans.now = omega arith in
-    filling c.requires.readable h (as_many c.requires.offsets c.loop-i.invariant.1.lengths) c.requires.room c.loop-i.invariant.1
+    filling c.requires.readable h (as_many _ _ _ _ _ c.requires.offsets c.loop-i.invariant.1.lengths) c.requires.room c.loop-i.invariant.1
 
 pub loop-i-preserved : goal.loop-i-preserved
 loop-i-preserved c =
-    (omega arith, fill_more _ _ _ _ c.loop-i.i (as_many c.requires.offsets c.loop-i.invariant.1.lengths) c.loop-i.invariant.1 c.fill_edge.ensures)
+    (omega arith, fill_more _ _ _ _ c.loop-i.i (as_many _ _ _ _ _ c.requires.offsets c.loop-i.invariant.1.lengths) c.loop-i.invariant.1 c.fill_edge.ensures)
 
 pub shape_of-index : goal.shape_of-index
 shape_of-index c =
-    level c.requires.offsets c.loop-i.invariant.1.lengths
+    level _ _ _ _ _ c.requires.offsets c.loop-i.invariant.1.lengths
 
 pub shape_of-list : goal.shape_of-list
 shape_of-list c = c.loop-i.invariant.1.laid.level

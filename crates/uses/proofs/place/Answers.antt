@@ -10,8 +10,8 @@ use Rattle.uses.proofs.Placing.{placed_to, place_none, place_all, running_mono, 
 use Rattle.uses.proofs.place.Goals as goal
 
 -- the index keeps its length
-level : {index₀ index : List ℕ} {v : ℕ} → length index₀ ≡ 2 * pairs_in index₀ → index ≡ placed_to index₀ v (pairs_in index₀) → length index ≡ length index₀
-level even p = ap length p ∙ length_pairs _ _ _ ∙ sym even
+level : (index₀ : List ℕ) (v : ℕ) {index : List ℕ} → length index₀ ≡ 2 * pairs_in index₀ → index ≡ placed_to index₀ v (pairs_in index₀) → length index ≡ length index₀
+level index₀ v even p = ap length p ∙ length_pairs _ _ _ ∙ sym even
 
 pub loop-v-init : goal.loop-v-init
 unfolding running
@@ -19,15 +19,15 @@ loop-v-init c = (omega arith, (refl, place_none _ _ c.requires.even))
 
 pub bounds-index-v : goal.bounds-index-v
 bounds-index-v c =
-    omega (arith, level c.requires.even c.loop-v.invariant.1.1)
+    omega (arith, level c.args.index.now c.loop-v.v c.requires.even c.loop-v.invariant.1.1)
 
 pub bounds-index-v-in-loop-v : goal.bounds-index-v-in-loop-v
 bounds-index-v-in-loop-v c =
-    omega (arith, level c.requires.even c.loop-v.invariant.1.1)
+    omega (arith, level c.args.index.now c.loop-v.v c.requires.even c.loop-v.invariant.1.1)
 
 pub bounds-index-v-in-loop-v-2 : goal.bounds-index-v-in-loop-v-2
 bounds-index-v-in-loop-v-2 c =
-    simp length-set (omega (arith, level c.requires.even c.loop-v.invariant.1.1))
+    simp length-set (omega (arith, level c.args.index.now c.loop-v.v c.requires.even c.loop-v.invariant.1.1))
 
 pub overflow_add-sum : goal.overflow_add-sum
 overflow_add-sum c =
@@ -52,7 +52,7 @@ loop-v-preserved c =
 
 pub shape_of-index : goal.shape_of-index
 shape_of-index c =
-    level c.requires.even c.loop-v.invariant.1.1
+    level c.args.index.now c.loop-v.v c.requires.even c.loop-v.invariant.1.1
 
 pub returns : goal.returns
 returns c =
