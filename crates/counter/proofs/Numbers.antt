@@ -151,6 +151,7 @@ data All (P : ℕ → Type 0) : List ℕ → Type 0 where
 each_of : {P : ℕ → Type 0} {n : ℕ} {ns : List ℕ} → All P ns → Memᴰ n ns → P n
 each_of {P} (All.more p ps) (Memᴰ.head e) = subst P (sym e) p
 each_of (All.more p ps) (Memᴰ.tail i) = each_of ps i
+each_of All.none i = elim i [ ]
 
 -- lent columns that are refused by number n: the paper's small examples
 record Shown (n : ℕ) : Type 0 where

@@ -25,8 +25,7 @@ pub extern "C" fn settle(
     edges: &mut [u64],
     pieces: &mut [u64],
 ) -> u64
-    ensures {
-        let c = columns n heads.now own.now strikes.now spans.now tails.now in
+    ensures { let c = columns n heads.now own.now strikes.now spans.now tails.now in
         let a = entries weights.old depths.old edges.old pieces.old in
         let a' = entries weights.new depths.new edges.new pieces.new in
         record { result = result; left = a' } ≡ settled_result (measure_of measure) c a }
@@ -59,8 +58,7 @@ pub extern "C" fn reprice(
     line: u64,
     figure: u64,
 ) -> u64
-    ensures {
-        let c = columns n heads.now own.old strikes.now spans.now tails.now in
+    ensures { let c = columns n heads.now own.old strikes.now spans.now tails.now in
         let a = entries weights.old depths.old edges.old pieces.old in
         let a' = entries weights.new depths.new edges.new pieces.new in
         record { result = result; own = own.new; left = a' } ≡ repriced_result (measure_of measure) c a line figure }
@@ -119,8 +117,7 @@ pub extern "C" fn bill(
     part: u64,
     room: &mut [u64],
 ) -> u64
-    ensures {
-        let c = columns n heads.now own.now strikes.now spans.now tails.now in
+    ensures { let c = columns n heads.now own.now strikes.now spans.now tails.now in
         let a = entries weights.now depths.now edges.now pieces.now in
         record { result = result; left = room.new } ≡ billed_result (measure_of measure) c a part room.old }
 {

@@ -84,8 +84,7 @@ pub extern "C" fn tozbierdu_settle(
     edges: &mut [u64],
     pieces: &mut [u64],
 ) -> u64
-    ensures {
-        let c = columns n heads.now own.now strikes.now spans.now tails.now in
+    ensures { let c = columns n heads.now own.now strikes.now spans.now tails.now in
         let a = entries weights.old depths.old edges.old pieces.old in
         let a' = entries weights.new depths.new edges.new pieces.new in
         record { result = result; left = a' } ≡ settled_result (measure_of measure) c a }
@@ -111,8 +110,7 @@ pub extern "C" fn tozbierdu_reprice(
     line: u64,
     figure: u64,
 ) -> u64
-    ensures {
-        let c = columns n heads.now own.old strikes.now spans.now tails.now in
+    ensures { let c = columns n heads.now own.old strikes.now spans.now tails.now in
         let a = entries weights.old depths.old edges.old pieces.old in
         let a' = entries weights.new depths.new edges.new pieces.new in
         record { result = result; own = own.new; left = a' } ≡ repriced_result (measure_of measure) c a line figure }
@@ -138,8 +136,7 @@ pub extern "C" fn tozbierdu_bill(
     part: u64,
     room: &mut [u64],
 ) -> u64
-    ensures {
-        let c = columns n heads.now own.now strikes.now spans.now tails.now in
+    ensures { let c = columns n heads.now own.now strikes.now spans.now tails.now in
         let a = entries weights.now depths.now edges.now pieces.now in
         record { result = result; left = room.new } ≡ billed_result (measure_of measure) c a part room.old }
 {
@@ -163,8 +160,7 @@ pub extern "C" fn tozbierdu_strike(
     pieces: &mut [u64],
     line: u64,
 ) -> u64
-    ensures {
-        let c = columns n heads.now own.now strikes.old spans.now tails.now in
+    ensures { let c = columns n heads.now own.now strikes.old spans.now tails.now in
         let a = entries weights.old depths.old edges.old pieces.old in
         let a' = entries weights.new depths.new edges.new pieces.new in
         record { result = result; strikes = strikes.new; left = a' } ≡ stricken_result (measure_of measure) c a line }
@@ -207,8 +203,7 @@ pub extern "C" fn tozbierdu_restore(
     pieces: &mut [u64],
     line: u64,
 ) -> u64
-    ensures {
-        let c = columns n heads.now own.now strikes.old spans.now tails.now in
+    ensures { let c = columns n heads.now own.now strikes.old spans.now tails.now in
         let a = entries weights.old depths.old edges.old pieces.old in
         let a' = entries weights.new depths.new edges.new pieces.new in
         record { result = result; strikes = strikes.new; left = a' } ≡ restored_result (measure_of measure) c a line }
@@ -338,8 +333,7 @@ pub extern "C" fn tozbierdu_write_table(
     tails: &[u64],
     room: &mut [u8],
 ) -> u64
-    ensures {
-        let c = columns n heads.now own.now strikes.now spans.now tails.now in
+    ensures { let c = columns n heads.now own.now strikes.now spans.now tails.now in
         record { result = result; left = room.new } ≡ written_result (measure_of measure) c room.old }
 {
     let choice = refusal::measure_numbered(measure);
@@ -363,8 +357,7 @@ pub extern "C" fn tozbierdu_index_table(
     index: &mut [u64],
     list: &mut [u64],
 ) -> u64
-    ensures {
-        let c = columns n heads.now own.now strikes.now spans.now tails.now in
+    ensures { let c = columns n heads.now own.now strikes.now spans.now tails.now in
         let x = table_indexed c index.old list.old in
         record { result = result; index = index.new; list = list.new } ≡ indexed_result x }
 {
@@ -524,8 +517,7 @@ pub extern "C" fn tozbierdu_settle_ordered(
     edges: &mut [u64],
     pieces: &mut [u64],
 ) -> u64
-    ensures {
-        let c = columns n heads.now own.now strikes.now spans.now tails.now in
+    ensures { let c = columns n heads.now own.now strikes.now spans.now tails.now in
         let a = entries weights.old depths.old edges.old pieces.old in
         let a' = entries weights.new depths.new edges.new pieces.new in
         record { result = result; left = a' } ≡ ordered_result (measure_of measure) c a }
@@ -560,8 +552,7 @@ pub extern "C" fn tozbierdu_replay(
     stock: &mut [u64],
     outcomes: &mut [u64],
 ) -> u64
-    ensures {
-        let c = columns n heads.now own.now strikes.now spans.now tails.now in
+    ensures { let c = columns n heads.now own.now strikes.now spans.now tails.now in
         let a = entries weights.now depths.now edges.now pieces.now in
         record { result = result; stock = stock.new; outcomes = outcomes.new } ≡ replayed_result (measure_of measure) c a parts.now received.now stock.old outcomes.old }
 {
