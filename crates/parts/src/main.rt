@@ -5,16 +5,20 @@
 #![tactic(auto)]
 
 ghost use Rattle.std.specs.Prelude.{◌≡◌, ◌≤◌, length};
-ghost use Rattle.io.specs.Counts.{IsPrefixLen};
-ghost use Rattle.input.specs.Input.{buffer_length};
+ghost use Rattle.input.specs.Input.{buffer_length, IsPrefixLen};
 
 use command::takes_second;
-use input::{Read, read_from, read_input};
-use libc::{STDERR_FILENO, STDOUT_FILENO};
+use input::{BUFFER_LENGTH, Read, read_from, read_input};
 use reply::Status;
+use std::env::{Env, FillError};
+use std::fs;
+use std::rt::Files;
 
 // Longer than the line of every command.
 const MOST_WORDS: usize = 512;
+
+// As long as a file's name may be.
+const MOST_NAME: usize = 4096;
 
 // The length of the line of words, and the argument that names the second input's file, or 0.
 #[derive(Clone, Copy)]
@@ -23,17 +27,25 @@ struct Line {
     named: usize,
 }
 
+// How many arguments there are, the program's own name among them.
+fn argument_count(rt: &impl Env) -> usize {
+    for i in 0..usize::MAX {
+        if let Err(FillError::NotPresent) = rt.arg(i, &mut []) {
+            return i;
+        }
+    }
+    usize::MAX
+}
+
 // Puts an argument into the line at a place, and a space behind it; the place behind that, or 0 where
 // they do not fit.
-fn put_argument(i: usize, words: &mut [u8], at: usize) -> usize
+fn put_argument(rt: &impl Env, i: usize, words: &mut [u8], at: usize) -> usize
     requires { at ≤ length words.old }
     ensures { result ≤ length words.new }
 {
-    let width = os::arg(i, &mut words[at..]);
-    let error = os::errno();
-    if error != 0 {
+    let Ok(width) = rt.arg(i, &mut words[at..]) else {
         return 0;
-    }
+    };
     let stop = at + width;
     if stop >= words.len() {
         return 0;
@@ -44,13 +56,13 @@ fn put_argument(i: usize, words: &mut [u8], at: usize) -> usize
 
 // The arguments before one as a line: a space between two, and an LF behind the last. Where they do
 // not fit, the line is empty, which is no command.
-fn gather(count: usize, words: &mut [u8]) -> usize
+fn gather(rt: &impl Env, count: usize, words: &mut [u8]) -> usize
     ensures { result ≤ length words.new }
 {
     let mut at: usize = 0;
     let mut i: usize = 1;
     while i < count {
-        at = put_argument(i, words, at);
+        at = put_argument(rt, i, words, at);
         if at == 0 {
             return 0;
         }
@@ -64,10 +76,10 @@ fn gather(count: usize, words: &mut [u8]) -> usize
 }
 
 // The line of every argument. That of a command whose second input is not named is left empty.
-fn gather_all(count: usize, words: &mut [u8]) -> Line
+fn gather_all(rt: &impl Env, count: usize, words: &mut [u8]) -> Line
     ensures { result.stop ≤ length words.new }
 {
-    let stop = gather(count, words);
+    let stop = gather(rt, count, words);
     if takes_second(&words[..stop]) {
         return Line { stop: 0, named: 0 };
     }
@@ -76,42 +88,40 @@ fn gather_all(count: usize, words: &mut [u8]) -> Line
 
 // Where every argument but the last is the line of a command with a second input, the last names its
 // file.
-fn gather_line(words: &mut [u8]) -> Line
+fn gather_line(rt: &impl Env, words: &mut [u8]) -> Line
     ensures { result.stop ≤ length words.new }
 {
-    let count = os::arg_count();
+    let count = argument_count(rt);
     if count <= 2 {
-        return gather_all(count, words);
+        return gather_all(rt, count, words);
     }
     let named = count - 1;
-    let stop = gather(named, words);
+    let stop = gather(rt, named, words);
     if takes_second(&words[..stop]) {
         return Line { stop, named };
     }
-    gather_all(count, words)
+    gather_all(rt, count, words)
 }
 
 // Reads the file that an argument names; of argument 0, which names none, nothing.
-fn read_second(named: usize, second: &mut [u8]) -> Read
+fn read_second(rt: &(impl Env + Files), named: usize, second: &mut [u8]) -> Read
     requires { length second.old ≡ buffer_length }
     ensures { IsPrefixLen result.count second.new }
 {
     if named == 0 {
         return Read { count: 0, last: 0 };
     }
-    let mut path = io::buffer();
-    let width = os::arg(named, &mut path);
-    let error = os::errno();
-    if error != 0 {
+    let mut name = [0u8; MOST_NAME];
+    let Ok(width) = rt.arg(named, &mut name) else {
         return Read { count: 0, last: -1 };
-    }
-    let fd = os::open_read(&path[..width]);
-    if fd < 0 {
+    };
+    let Ok(path) = str::from_utf8(&name[..width]) else {
         return Read { count: 0, last: -1 };
-    }
-    let read = read_from(fd, second);
-    libc::close(fd);
-    read
+    };
+    let Ok(mut file) = fs::open(rt, path) else {
+        return Read { count: 0, last: -1 };
+    };
+    read_from(&mut file, second)
 }
 
 // Whether the words are a command is known before an input is waited for.
@@ -127,49 +137,49 @@ fn is_command(words: &[u8]) -> bool {
 }
 
 // The reply is printed.
-fn print_reply(words: &[u8], input: &[u8], second: &[u8]) {
+fn print_reply(rt: &(impl Print + Eprint), words: &[u8], input: &[u8], second: &[u8]) {
     let mut room = desk::blank_room();
     let reply = desk::reply(words, input, second, &mut room);
     let width = reply.width;
     let status = reply.status;
-    let written = io::write_all(STDOUT_FILENO, &room[..width]);
-    if !written {
-        io::write_all(STDERR_FILENO, b"parts: the output could not be written\n");
+    let written = rt.write_all(&room[..width]);
+    if written.is_err() {
+        let _ = rt.eprintln("parts: the output could not be written");
     }
     if let Status::RefusedSecond = status {
-        io::write_all(STDERR_FILENO, b"parts: that is the second file's\n");
+        let _ = rt.eprintln("parts: that is the second file's");
     }
 }
 
 // Standard input is read, and answered.
-fn answer(words: &[u8], second: &[u8]) {
-    let mut input = io::large_buffer();
-    let read = read_input(&mut input);
+fn answer(rt: &(impl Input + Print + Eprint), words: &[u8], second: &[u8]) {
+    let mut input = [0u8; BUFFER_LENGTH];
+    let read = read_input(rt, &mut input);
     let count = read.count;
     let last = read.last;
     if last < 0 {
-        io::write_all(STDERR_FILENO, b"parts: the input could not be read\n");
+        let _ = rt.eprintln("parts: the input could not be read");
         return;
     }
-    print_reply(words, &input[..count], second);
+    print_reply(rt, words, &input[..count], second);
 }
 
-fn main() {
+fn main(rt: HostRuntime) {
     let mut words = [0u8; MOST_WORDS];
-    let line = gather_line(&mut words);
+    let line = gather_line(&rt, &mut words);
     let stop = line.stop;
     let named = line.named;
     if !is_command(&words[..stop]) {
-        io::write_all(STDERR_FILENO, b"parts: these words are no command\n");
+        let _ = rt.eprintln("parts: these words are no command");
         return;
     }
-    let mut second = io::large_buffer();
-    let read = read_second(named, &mut second);
+    let mut second = [0u8; BUFFER_LENGTH];
+    let read = read_second(&rt, named, &mut second);
     let count = read.count;
     let last = read.last;
     if last < 0 {
-        io::write_all(STDERR_FILENO, b"parts: the second file could not be read\n");
+        let _ = rt.eprintln("parts: the second file could not be read");
         return;
     }
-    answer(&words[..stop], &second[..count]);
+    answer(&rt, &words[..stop], &second[..count]);
 }
