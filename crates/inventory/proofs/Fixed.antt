@@ -74,13 +74,14 @@ module _ (c : Columns) (a : Answers) where
 
   -- a record that ends does not stop, and one that stops has one refusal
   pub ends_or_stops : {i : ℕ} {vs ks s os t : List ℕ} {r : Refusal} → Replays c a vs ks s os t → Stops c a i vs ks s r → ⊥
+  ends_or_stops Replays.none x = elim x [ ]
   ends_or_stops (Replays.more h l x r) (Stops.vertex n) = omega arith
   ends_or_stops (Replays.more h l (Happens.received k e m f) r) (Stops.receipt h' p n) = omega (arith, e, m, n)
   ends_or_stops (Replays.more h l (Happens.issued z e f) r) (Stops.receipt h' p n) = omega arith
   ends_or_stops (Replays.more h l (Happens.built z e d k f) r) (Stops.receipt h' p n) = omega arith
   ends_or_stops (Replays.more h l (Happens.late z e m) r) (Stops.receipt h' p n) = omega arith
   ends_or_stops {i} {r = q} (Replays.more {vs = vs} {ks = ks} h l x r) (Stops.later h' l' x' w) =
-      ends_or_stops r (subst (λ (z : List ℕ). Stops c a (i + 1) vs ks z q) (sym (happens_once l l' x x').1) w)
+      ends_or_stops {i = i + 1} r (subst (λ (z : List ℕ). Stops c a (i + 1) vs ks z q) (sym (happens_once l l' x x').1) w)
 
   -- an event that happens is no receipt above the limit
   no_excess : {v k o : ℕ} {s t : List ℕ} → Happens c a v k s o t → 0 < k → most_stock < cell s v + k → ⊥
