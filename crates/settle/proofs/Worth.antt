@@ -14,9 +14,8 @@ use Rattle.weights.proofs.States.{over_state}
 use Rattle.refusal.specs.declared.Acceptance.TheVariants.{Accepted}
 use Rattle.columns.specs.Columns.{Entries, Columns, own_at}
 use Rattle.provenance.specs.BestFirst.{labels}
-use Rattle.provenance.specs.Hypergraph.{Derivation, weight}
 use Rattle.provenance.specs.Labelling.{Made}
-use Rattle.provenance.specs.Means.{Means, Derivable, underivable, derivable}
+use Rattle.provenance.specs.Means.{Means, underivable, derivable}
 use Rattle.provenance.specs.Semirings.{grade_of, valuation}
 use Rattle.provenance.specs.Program.{part, program}
 use Rattle.tables.specs.Table.{hypergraph}

@@ -1,7 +1,6 @@
 -- `settle::vertex_right` meets its contract: each return is one case of the test. Assumes nothing.
 use native.Mathlib.Omega.{arith}
 use borrow.Author.Tests.{eq-eqb, ne_eqb, lt-ltb, le-ltb}
-use Rattle.columns.specs.Columns.{cell}
 use Rattle.settle.specs.Comparing.{vertex_fits}
 use Rattle.settle.proofs.vertex_right.Goals as goal
 

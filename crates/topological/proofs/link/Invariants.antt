@@ -1,7 +1,7 @@
 -- `topological::link` meets its contract. The invariant: the lines from i on are linked. Assumes nothing.
 use mathlib.Core.Path.{◌≡◌}
 use mathlib.Core.List.{List}
-use Prim.Native.Nat.{ℕ, ◌≤◌, ◌<◌, ◌-◌}
+use Prim.Native.Nat.{ℕ, ◌≤◌, ◌<◌}
 use lib.ListN.{length}
 use Rattle.columns.specs.Columns.{cell}
 use Rattle.columns.specs.Acceptance.{most_vertices, most_edges}
