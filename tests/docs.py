@@ -71,7 +71,7 @@ def words_of_code():
     files += glob.glob("include/*.h") + glob.glob("src/**/*.[ch]", recursive=True) + glob.glob("bench/**/*.[ch]", recursive=True)
     words = set()
     for path in files:
-        words.update(re.split(r"[\s(){};,.:\[\]⌜⌝&*'\"]+", read(path)))
+        words.update(re.split(r"[\s(){}<>;,.:\[\]⌜⌝&*'\"]+", read(path)))
     return words
 
 
