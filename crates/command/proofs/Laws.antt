@@ -2,7 +2,7 @@
 use mathlib.Core.Path.{◌≡◌, sym, ◌∙◌, ap}
 use mathlib.Core.List.{List}
 use mathlib.Core.Bool.{true, false}
-use Prim.Native.Nat.{ℕ, zero, suc, ◌+◌, ◌-◌, ◌≤◌, ◌<◌}
+use Prim.Native.Nat.{ℕ, zero, suc, ◌+◌, ◌-◌, ◌<◌}
 use native.Mathlib.Omega.{arith}
 use lib.ListN.{length, get_or, set, length-set}
 use Rattle.command.specs.declared.Name.{Name}
@@ -14,7 +14,7 @@ use Rattle.command.specs.declared.Numbers.{Numbers}
 use Rattle.command.specs.declared.Next.{Next}
 use Rattle.command.specs.declared.Next.TheVariants.{Number, End, Neither}
 use Rattle.command.specs.declared.Numbers.TheVariants.{Count, Wrong}
-use Rattle.command.specs.Command.{Gathered, gathered, next_at, on_next, numbers_from, takes, as_command, line, line_with, line_of, CommandLine, name_in, command_in}
+use Rattle.command.specs.Command.{Gathered, gathered, next_at, on_next, numbers_from, takes, as_command, line, line_with, line_of, name_in, command_in}
 
 module _ (s : List ℕ) (at i : ℕ) (c : List ℕ) where
   pub at_end : (left : ℕ) → next_at s at ≡ End → numbers_from left s at i c ≡ gathered (Count i) c

@@ -2,8 +2,7 @@
 use mathlib.Core.Path.{◌≡◌, refl}
 use mathlib.Core.Bool.{true, false}
 use mathlib.Core.List.{[], ◌∷◌, ◌++◌}
-use Prim.Native.Nat.{ℕ}
-use lib.ListN.{replicate, set}
+use lib.ListN.{replicate}
 use Rattle.text.specs.Machine.{digit_of}
 use Rattle.cursor.specs.Cursor.{digits_from, number_of, number_at, separator_at}
 use Rattle.reading.specs.Lines.{agreeing}

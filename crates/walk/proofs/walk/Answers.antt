@@ -1,12 +1,12 @@
 use mathlib.Core.Path.{◌≡◌, refl, sym, ◌∙◌, ap}
 use mathlib.Core.List.{List}
-use Prim.Native.Nat.{ℕ, ◌+◌, ◌-◌, ◌≤◌, ◌<◌}
+use Prim.Native.Nat.{ℕ, ◌+◌}
 use native.Mathlib.Omega.{arith}
-use Rattle.columns.specs.Acceptance.{most_listed, longest_tail}
+use Rattle.columns.specs.Acceptance.{longest_tail}
 use Rattle.text.specs.Machine.{Parse, Whole, Wrong, parse}
 use Rattle.reading.specs.Lines.{scan}
 use Rattle.reading.proofs.Scanned.{scan_is_parse}
-use Rattle.reading.proofs.Scanning.{Scanning, scan_unopened, scan-begun, scan_full, scan_end}
+use Rattle.reading.proofs.Scanning.{scan_unopened, scan-begun, scan_full, scan_end}
 use Rattle.reading.proofs.Laws.{opened, unopened, line_refused, line-next}
 use Rattle.walk.specs.Walked.{walked_of}
 use Rattle.walk.proofs.walk.Goals as goal
