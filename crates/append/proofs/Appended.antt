@@ -1,16 +1,15 @@
 -- What appending leaves: the longer table with its index and its answers, and behind them what stood there; on a refusal everything. Assumes nothing.
 use mathlib.Core.Path.{◌≡◌, refl, sym, ◌∙◌, ap, subst₂}
-use mathlib.Core.List.{List, ◌++◌}
-use Prim.Native.Nat.{ℕ, ◌+◌, ◌*◌, ◌≤◌}
+use mathlib.Core.List.{List}
+use Prim.Native.Nat.{ℕ, ◌+◌, ◌*◌}
 use native.Mathlib.Omega.{arith}
-use lib.ListN.{length, take, drop}
+use lib.ListN.{length, drop}
 use lib.Seq.{drop_at}
 use Rattle.weights.specs.declared.Measure.{Measure}
 use Rattle.refusal.specs.declared.Refusal.{Refusal}
 use Rattle.refusal.specs.declared.Counts.{Counts}
 use Rattle.refusal.specs.declared.Acceptance.{Acceptance}
 use Rattle.refusal.specs.declared.Acceptance.TheVariants.{Accepted, Refused}
-use Rattle.refusal.specs.declared.Appending.{Appending}
 use Rattle.refusal.specs.declared.Appending.TheVariants as appending
 use Rattle.columns.specs.Columns.{Entries, Columns}
 use Rattle.columns.specs.Filled.{filled}
@@ -22,7 +21,6 @@ use Rattle.settle.specs.Settling.{entries_of}
 use Rattle.settle.proofs.Demands.{entries_mean, entries_sized}
 use Rattle.settle.proofs.Exactly.{yes_exactly, demand_entry}
 use Rattle.settle.proofs.States.{answers_state}
-use Rattle.uses.specs.Uses.{use_offset, use_count}
 use Rattle.uses.proofs.Pairs.{length_pairs}
 use Rattle.indextable.specs.Index.{index_of}
 use Rattle.indextable.specs.Told.{Told}

@@ -1,8 +1,7 @@
 -- The paper's table ("A table priced whole") with the line `4 7 1 1` appended, columns, index and list lent with places to spare: line 6, span 6 2; part 4, which was
 -- unmade, is 607 by it. Assumes nothing.
 use mathlib.Core.Path.{◌≡◌, refl}
-use mathlib.Core.List.{List, [], ◌∷◌}
-use Prim.Native.Nat.{ℕ}
+use mathlib.Core.List.{[], ◌∷◌}
 use Rattle.weights.specs.declared.Measure.TheVariants.{Cost}
 use Rattle.weights.specs.Lists.{member}
 use Rattle.weights.specs.Measures.{fold, weigh}

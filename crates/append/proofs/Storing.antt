@@ -2,10 +2,9 @@
 use mathlib.Core.Path.{◌≡◌, refl, sym, ◌∙◌, ap, ap₂, subst, subst₂}
 use mathlib.Core.List.{List, [], ◌∷◌, ◌++◌, append_assoc}
 use Prim.Native.Nat.{ℕ, zero, suc, ◌+◌, ◌-◌, ◌*◌, ◌≤◌, ◌<◌}
-use native.Mathlib.Numerals.{add-one}
 use native.Mathlib.Omega.{arith}
-use lib.ListN.{length, get_or, set, take, drop, length-set, length-append, length-drop, take-append-drop}
-use lib.Seq.{get_or-take, take-take, take_at, length-take-le}
+use lib.ListN.{length, set, take, drop, length-append, take-append-drop}
+use lib.Seq.{get_or-take, take-take, length-take-le}
 use Rattle.weights.specs.declared.Measure.{Measure}
 use Rattle.refusal.specs.declared.Refusal.{Refusal}
 use Rattle.refusal.specs.declared.Counts.{Counts}
@@ -20,7 +19,7 @@ use Rattle.columns.proofs.Filled.{length-filled, take-filled, filled-set, filled
 use Rattle.columns.proofs.Longer.{end_within, longer-count, longer-listed, longer_accepted}
 use Rattle.settle.specs.Settling.{entries_of}
 use Rattle.indextable.specs.Index.{index_of}
-use Rattle.append.specs.Appending.{new_end, new_counts, over, Grown, leaves, grown, append_acceptance, appended}
+use Rattle.append.specs.Appending.{new_end, new_counts, over, leaves, append_acceptance, appended}
 use Rattle.append.specs.Growing.{Storable, Appendable, Renewable}
 
 -- a column is its start and what stands behind it

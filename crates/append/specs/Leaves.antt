@@ -5,7 +5,7 @@ use Rattle.weights.specs.declared.Measure.{Measure}
 use Rattle.refusal.specs.declared.Counts.{Counts}
 use Rattle.refusal.specs.declared.Acceptance.TheVariants.{Accepted}
 use Rattle.refusal.specs.declared.Verdict.TheVariants.{Yes}
-use Rattle.columns.specs.Columns.{Entries, Columns}
+use Rattle.columns.specs.Columns.{Columns}
 use Rattle.columns.specs.Acceptance.{acceptance}
 use Rattle.columns.specs.Longer.{NewLine, in_use_of, longer, OneMore}
 use Rattle.provenance.specs.BestFirst.{labels}

@@ -164,8 +164,7 @@ fn change(
     requires { let c = columns n heads.now own.old strikes.now spans.now tails.now in
         let a = entries weights.old depths.old edges.old pieces.old in
         Changeable c a line.0 figure.0 }
-    ensures {
-        let c = columns n heads.now own.old strikes.now spans.now tails.now in
+    ensures { let c = columns n heads.now own.old strikes.now spans.now tails.now in
         let a = entries weights.old depths.old edges.old pieces.old in
         let a' = entries weights.new depths.new edges.new pieces.new in
         record { result = result; own = own.new; left = a' } ≡ changed measure c a line.0 figure.0 (answers_acceptance measure c a) }
@@ -202,8 +201,7 @@ fn put_mark(
     requires { let c = columns n heads.now own.now strikes.old spans.now tails.now in
         let a = entries weights.old depths.old edges.old pieces.old in
         Markable c a line.0 mark.0 }
-    ensures {
-        let c = columns n heads.now own.now strikes.old spans.now tails.now in
+    ensures { let c = columns n heads.now own.now strikes.old spans.now tails.now in
         let a = entries weights.old depths.old edges.old pieces.old in
         let a' = entries weights.new depths.new edges.new pieces.new in
         record { result = result; strikes = strikes.new; left = a' } ≡ marked measure c a line.0 mark.0 (answers_acceptance measure c a) }
@@ -238,8 +236,7 @@ pub fn reprice(
     line: Hyperedge,
     figure: Weight,
 ) -> Acceptance
-    ensures {
-        let c = columns n heads.now own.old strikes.now spans.now tails.now in
+    ensures { let c = columns n heads.now own.old strikes.now spans.now tails.now in
         let a = entries weights.old depths.old edges.old pieces.old in
         let a' = entries weights.new depths.new edges.new pieces.new in
         record { result = result; own = own.new; left = a' } ≡ repriced measure c a line.0 figure.0 }
@@ -275,8 +272,7 @@ pub fn strike(
     pieces: &mut [u64],
     line: Hyperedge,
 ) -> Acceptance
-    ensures {
-        let c = columns n heads.now own.now strikes.old spans.now tails.now in
+    ensures { let c = columns n heads.now own.now strikes.old spans.now tails.now in
         let a = entries weights.old depths.old edges.old pieces.old in
         let a' = entries weights.new depths.new edges.new pieces.new in
         record { result = result; strikes = strikes.new; left = a' } ≡ stricken measure c a line.0 }
@@ -321,8 +317,7 @@ pub fn restore(
     pieces: &mut [u64],
     line: Hyperedge,
 ) -> Acceptance
-    ensures {
-        let c = columns n heads.now own.now strikes.old spans.now tails.now in
+    ensures { let c = columns n heads.now own.now strikes.old spans.now tails.now in
         let a = entries weights.old depths.old edges.old pieces.old in
         let a' = entries weights.new depths.new edges.new pieces.new in
         record { result = result; strikes = strikes.new; left = a' } ≡ restored measure c a line.0 }
