@@ -14,7 +14,6 @@ use Rattle.refusal.specs.declared.Refusal.TheVariants.{NoSuchVertex, WrongAnswer
 use Rattle.refusal.specs.declared.Acceptance.{Acceptance}
 use Rattle.refusal.specs.declared.Acceptance.TheVariants as answer
 use Rattle.refusal.specs.declared.Extent.TheVariants.{Refused}
-use Rattle.provenance.specs.Hypergraph.{depth}
 use Rattle.columns.specs.Columns.{Entries, Columns}
 use Rattle.provenance.specs.BestFirst.{labels}
 use Rattle.columns.specs.Acceptance.{test, lent_acceptance}

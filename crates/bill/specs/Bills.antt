@@ -10,7 +10,6 @@ use Rattle.provenance.specs.Means.{Follows}
 use Rattle.columns.specs.Columns.{Entries, Columns, own_at}
 use Rattle.provenance.specs.BestFirst.{labels}
 use Rattle.provenance.specs.Support.{ChosenDerivation}
-use Rattle.provenance.proofs.Support.{chosen}
 use Rattle.provenance.specs.Counting.{count}
 use Rattle.provenance.specs.Paths.{Greatest}
 use Rattle.tables.specs.Table.{hypergraph}

@@ -1,6 +1,6 @@
 -- Counts of a make-up: its nodes, and how often a line stands in it. And what own figures along a list of lines come to. The paper's "Make-ups, figures, depth"
 -- (Cost, Days) and document 02's 2026-10 (grade), said of bills. Assumes nothing: these are definitions.
-use Rattle.std.specs.Prelude.{List, [], ◌∷◌, ℕ, ◌+◌, min, max}
+use Rattle.std.specs.Prelude.{List, [], ◌∷◌, ℕ, ◌+◌, min}
 use Rattle.weights.specs.Figures.{greatest, capped}
 use Rattle.provenance.specs.Hypergraph.{Hypergraph, Derivation, Derivations, node, none, more}
 use Rattle.provenance.specs.Counting.{once, total}

@@ -320,8 +320,7 @@ pub fn bill(
     part: Vertex,
     room: &mut [u64],
 ) -> Extent
-    ensures {
-        let c = columns n heads.now own.now strikes.now spans.now tails.now in
+    ensures { let c = columns n heads.now own.now strikes.now spans.now tails.now in
         let a = entries weights.now depths.now edges.now pieces.now in
         record { result = result; left = room.new } ≡ billed measure c a part.0 room.old }
 {

@@ -18,27 +18,7 @@ use Rattle.inventory.specs.declared.Fulfilment.TheVariants.{Received, Issued, Bu
 use Rattle.inventory.specs.declared.Step.{Step}
 use Rattle.inventory.specs.declared.Step.TheVariants.{Done, Refused}
 use Rattle.inventory.specs.Shelf.{most_stock, chosen_tail}
-use Rattle.inventory.specs.Replaying.{
-  outcome_number,
-  suffices,
-  consumed,
-  Fulfilled,
-  fulfilled,
-  build,
-  fulfil,
-  Stepped,
-  stepped,
-  ordered,
-  receive,
-  apply_event,
-  Run,
-  finished,
-  stopped,
-  resumed,
-  after,
-  replay_from,
-  chosen_list,
-}
+use Rattle.inventory.specs.Replaying.{outcome_number, suffices, consumed, Fulfilled, fulfilled, build, fulfil, stepped, ordered, receive, apply_event, Run, finished, stopped, resumed, after, replay_from, chosen_list}
 use Rattle.inventory.specs.Record.{depth_of, list_of, Missing, Happens, Replays, Stops}
 use Rattle.inventory.proofs.Taking.{suffices_enough, holds_short, taken, consumed_exact, length-consumed}
 

@@ -171,8 +171,7 @@ fn apply_event(
     stock: &mut [u64],
 ) -> Step
     requires { (Buildable spans.now tails.now depths.now edges.now (length stock.old)) × (Low stock.old) }
-    ensures {
-        let lists = chosen_tail spans.now tails.now depths.now edges.now in
+    ensures { let lists = chosen_tail spans.now tails.now depths.now edges.now in
         record { result = result; stock = stock.new } ≡ apply_event lists i.0 v.0 pieces stock.old }
 {
     if v.0 >= stock.len() as u64 {
@@ -240,8 +239,7 @@ fn replay_on(
     numbers: &mut [u64],
 ) -> Acceptance
     requires { (Replayable spans.now tails.now depths.now edges.now parts.now received.now stock.old outcomes.old) × (Copied stock.old outcomes.old counts.old numbers.old) }
-    ensures {
-        let lists = chosen_tail spans.now tails.now depths.now edges.now in
+    ensures { let lists = chosen_tail spans.now tails.now depths.now edges.now in
         let run = replay_from lists 0 parts.now received.now stock.old in
         record { result = result; stock = stock.new; outcomes = outcomes.new } ≡ concluded run stock.old outcomes.old }
 {
@@ -356,8 +354,7 @@ pub fn replay(
     stock: &mut [u64],
     outcomes: &mut [u64],
 ) -> Acceptance
-    ensures {
-        let c = columns n heads.now own.now strikes.now spans.now tails.now in
+    ensures { let c = columns n heads.now own.now strikes.now spans.now tails.now in
         let a = entries weights.now depths.now edges.now pieces.now in
         record { result = result; stock = stock.new; outcomes = outcomes.new } ≡ replayed measure c a parts.now received.now stock.old outcomes.old }
 {

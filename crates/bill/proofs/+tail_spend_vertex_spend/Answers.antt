@@ -1,14 +1,14 @@
 use mathlib.Core.Path.{◌≡◌, sym, ◌∙◌, ap, subst}
 use mathlib.Core.List.{List}
-use Prim.Native.Nat.{ℕ, ◌+◌, ◌-◌, ◌*◌, ◌≤◌, ◌<◌}
+use Prim.Native.Nat.{ℕ, ◌-◌, ◌≤◌, ◌<◌}
 use native.Mathlib.Omega.{arith}
 use lib.ListN.{length, get_or, set}
 use Rattle.columns.specs.Columns.{tail_of}
 use Rattle.bill.specs.declared.Budget.{Budget}
 use Rattle.bill.specs.declared.Budget.TheVariants.{Left}
-use Rattle.bill.specs.Walk.{vertex_bill, tail_bill, AllGrounded, Grounded, Known, KnownStill, spend}
-use Rattle.bill.proofs.Walks.{Below, each_at, grounded, bought, is_left, root_unpaid, root_paid, line_paid, none_paid, all_paid, next_paid, next_unpaid}
-use Rattle.bill.proofs.Lengths.{still_known, known_on, vertex_known, known_paid, known_more}
+use Rattle.bill.specs.Walk.{vertex_bill, tail_bill, AllGrounded, Grounded, KnownStill, spend}
+use Rattle.bill.proofs.Walks.{Below, each_at, grounded, bought, is_left, root_unpaid, root_paid, line_paid, none_paid, next_paid, next_unpaid}
+use Rattle.bill.proofs.Lengths.{still_known, known_on, vertex_known, known_more}
 use Rattle.bill.proofs.+tail_spend_vertex_spend.Goals as goal
 
 -- a part of a tail that is grounded

@@ -9,8 +9,8 @@ loop-k-preserved c =
     let a = c.args in
     let n = count_next a.v.0 a.list.now c.loop-k.k c.loop-k-test.true in
     elim c.if-list-k.branch [
-      then-list-k w ↦ omega (arith, n, w.times-is, once_same w.if-list-k.true)
-    | else-list-k w ↦ omega (arith, n, w.times-is, once_other w.if-list-k.false)
+      | then-list-k w ↦ omega (arith, n, w.times-is, once_same w.if-list-k.true)
+      | else-list-k w ↦ omega (arith, n, w.times-is, once_other w.if-list-k.false)
     ]
 
 pub returns : goal.returns

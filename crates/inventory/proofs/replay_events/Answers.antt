@@ -1,6 +1,6 @@
 use mathlib.Core.Path.{◌≡◌, refl, sym, ◌∙◌, ap, subst}
 use mathlib.Core.List.{List}
-use Prim.Native.Nat.{ℕ, ◌+◌, ◌<◌}
+use Prim.Native.Nat.{ℕ, ◌+◌}
 use native.Mathlib.Omega.{arith}
 use lib.ListN.{length, set, take, drop, length-set}
 use Rattle.columns.specs.Columns.{cell}
@@ -35,9 +35,9 @@ loop-i-preserved c =
     -- the counts as the event leaves them: as many as there were
     let s : List ℕ = c.apply_event-step.new.stock in
     let still : length s ≡ length a.stock.now =
-        ap (λ (x : Stepped). length x.stock) c.apply_event-step.ensures
-        ∙ length_applied lists i (cell a.parts.now i) (cell a.received.now i) c.loop-i.stock
-        ∙ c.loop-i.invariant.1 in
+    ap (λ (x : Stepped). length x.stock) c.apply_event-step.ensures
+    ∙ length_applied lists i (cell a.parts.now i) (cell a.received.now i) c.loop-i.stock
+    ∙ c.loop-i.invariant.1 in
     let rest = replay_from lists (i + 1) (drop (i + 1) a.parts.now) (drop (i + 1) a.received.now) s in (
       omega arith,
       still,
