@@ -95,15 +95,18 @@ module _ {A : Algebra} {H : Hypergraph} {own : ℕ → ℕ} {ls : ℕ → Label}
   mutual
     unfolding Path Follows
 
-    -- a line stands at most once on any downward path of a chosen make-up, whatever its figure
-    pub line-once : {v : ℕ} (t : Derivation H v) → Follows ls t → (es : List ℕ) → Path t es → (e : ℕ) → count e es ≤ 1
-    line-once (node e s h ds) f es p k =
+    path_once : {v : ℕ} (t : Derivation H v) → Follows ls t → (es : List ℕ) → Path t es → (e : ℕ) → count e es ≤ 1
+    path_once (node e s h ds) f es p k =
         first_once (Hypergraph.deepest ds) e (λ xs. Onward ds xs) es p (omega (arith, root_deep e s h ds f)) (λ xs q. onward_shallow ds f.1 xs q)
         k (λ xs q. onward_once ds f.1 xs q k)
 
     onward_once : {vs : List ℕ} (ds : Derivations H vs) → AllFollow ls ds → (es : List ℕ) → Onward ds es → (e : ℕ) → count e es ≤ 1
     onward_once none f es p k = none-once es p k
-    onward_once (more d ds) f es p k = either_once p (λ q. line-once d f.0 es q k) (λ q. onward_once ds f.1 es q k)
+    onward_once (more d ds) f es p k = either_once p (λ q. path_once d f.0 es q k) (λ q. onward_once ds f.1 es q k)
+
+  -- a line stands at most once on any downward path of a chosen make-up, whatever its figure
+  pub line-once : {v : ℕ} (t : Derivation H v) → Follows ls t → (es : List ℕ) → Path t es → (e : ℕ) → count e es ≤ 1
+  line-once t f es p e = path_once t f es p e
 
 -- The greatest sum along a path ------------------------------------------------------------------------------------------------------------------
 
