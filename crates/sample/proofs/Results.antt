@@ -4,11 +4,9 @@ use mathlib.Core.List.{List}
 use Prim.Native.Nat.{ℕ, ◌+◌, ◌≤◌, ◌<◌}
 use lib.ListN.{length, get_or}
 use borrow.Author.Tests.{le-leb, lt-leb, eq-eqb, ne_eqb}
-use Rattle.cursor.specs.declared.Found.{Found}
 use Rattle.cursor.specs.declared.Found.TheVariants as found
 use Rattle.cursor.specs.declared.Token.{Token}
 use Rattle.cursor.specs.Cursor.{number_at}
-use Rattle.sample.specs.declared.Next.{Next}
 use Rattle.sample.specs.declared.Next.TheVariants.{Number, Wrong, End}
 use Rattle.sample.specs.Sample.{number_limit, on_found, result_at}
 

@@ -9,11 +9,11 @@ use lib.Seq.{take_all, take_at, drop_at, drop-drop, get_or-drop, get_or_at, sets
 use Rattle.text.specs.Render.{digits}
 use Rattle.text.specs.Machine.{digit_of}
 use Rattle.cursor.specs.declared.Found.TheVariants as found
-use Rattle.cursor.specs.Cursor.{token, number_at}
+use Rattle.cursor.specs.Cursor.{token}
 use Rattle.reader.proofs.Fields.{number_found}
 use Rattle.statistics.specs.Summaries.{summary_of}
 use Rattle.sample.specs.declared.Next.{Next}
-use Rattle.sample.specs.declared.Next.TheVariants.{Number, End}
+use Rattle.sample.specs.declared.Next.TheVariants.{Number}
 use Rattle.sample.specs.declared.Sample.TheVariants.{Count}
 use Rattle.sample.specs.Sample.{most_read, number_limit, result_at, Read, read, on_next, sample_from, summary_said, read_said, mean_said}
 use Rattle.sample.specs.Told.{sample_text, Readable, none, also, MeanTold}

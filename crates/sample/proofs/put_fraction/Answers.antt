@@ -1,6 +1,6 @@
 -- `sample::put_fraction` meets its contract: the numerator, and the denominator in the room behind it. Assumes nothing.
 use mathlib.Core.Path.{sym}
-use mathlib.Core.List.{List, ◌∷◌, ◌++◌}
+use mathlib.Core.List.{List, ◌∷◌, ◌++◌, []}
 use Prim.Native.Nat.{ℕ, ◌≤◌}
 use native.Mathlib.Omega.{arith}
 use borrow.Author.Rules.{rules}
@@ -27,9 +27,6 @@ slice_bounds-put_tail-count c =
     let whole : length (front ++ back) ≤ length c.args.room.now = let l = short in let p = c.requires in omega arith in
     within front _ _ _ c.put_number-at.ensures back whole
 
-pub slice_bounds-put_tail-start : goal.slice_bounds-put_tail-start
-slice_bounds-put_tail-start c = let r = sub-put-tail c in search (rules, r)
-
 pub put_tail-width-requires : goal.put_tail-width-requires
 put_tail-width-requires c =
     let back : List ℕ = tail_text (c.args.denominator ∷ []) ++ 10 ∷ [] in
@@ -38,12 +35,6 @@ put_tail-width-requires c =
     let whole : length (front ++ back) ≤ length c.args.room.now = let l = short in let p = c.requires in omega arith in
     lent-room front _ _ _ c.put_number-at.ensures back whole
 
-pub overflow_add-result : goal.overflow_add-result
-overflow_add-result c = let n = (returns c).1 in omega (arith, c.well_formed)
-
-pub shape_of-room : goal.shape_of-room
-shape_of-room c = (returns c).0.long
-
 pub returns : goal.returns
 returns c =
     let back : List ℕ = tail_text (c.args.denominator ∷ []) ++ 10 ∷ [] in
@@ -51,4 +42,10 @@ returns c =
     let short : length (front ++ back) ≤ most_fraction = fraction_most c.args.numerator c.args.denominator c.ranges.numerator.fits c.ranges.denominator.fits in
     let whole : length (front ++ back) ≤ length c.args.room.now = let l = short in let p = c.requires in omega arith in
     let w = written_part front _ _ _ c.put_number-at.ensures back _ _ whole c.put_tail-width.ensures in
-    (written_as _ _ _ (sym (fraction_split c.args.numerator c.args.denominator)) w, (let l = short in let n = w.count in omega arith))
+    record { written = written_as _ _ _ (sym (fraction_split c.args.numerator c.args.denominator)) w; upper_bound = let l = short in let n = w.count in omega arith }
+
+pub overflow_add-result : goal.overflow_add-result
+overflow_add-result c = let w = (returns c).upper_bound in omega (arith, c.well_formed)
+
+pub slice_bounds-put_tail-start : goal.slice_bounds-put_tail-start
+slice_bounds-put_tail-start c = let r = slice_bounds-put_tail-count c in search (rules, r)

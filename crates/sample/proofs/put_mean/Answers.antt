@@ -8,7 +8,7 @@ pub slice_bounds-column-end : goal.slice_bounds-column-end
 slice_bounds-column-end c = count_within _ _ _ c.read_sample-sample.ensures _ c.in-Count.is
 
 pub slice_bounds-summarize-end : goal.slice_bounds-summarize-end
-slice_bounds-summarize-end c = sym (length-take-le _ _ (array-share-prefix-column c))
+slice_bounds-summarize-end c = sym (length-take-le _ _ (count_within _ _ _ c.read_sample-sample.ensures _ c.in-Count.is))
 
 pub returns-in-Refused : goal.returns-in-Refused
 returns-in-Refused c = said_as _ _ _ (mean_refused _ _ _ c.read_sample-sample.ensures _ c.in-Refused.is) c.put_refusal.ensures
