@@ -2,13 +2,13 @@
 use mathlib.Core.Path.{◌≡◌, refl, sym, ◌∙◌, ap, ap₂, subst}
 use mathlib.Core.List.{List, [], ◌∷◌, ◌++◌, append_assoc, append-nil}
 use mathlib.Core.Bool.{true}
-use Prim.Native.Nat.{ℕ, zero, suc, ◌+◌, ◌*◌, ◌-◌, ◌≤◌, ◌<◌}
+use Prim.Native.Nat.{ℕ, zero, suc, ◌+◌, ◌≤◌, ◌<◌}
 use native.Mathlib.Nat.{add-zero, zero-add}
 use native.Mathlib.Omega.{arith}
 use lib.ListN.{length, get_or, drop, set, replicate, length-append, length-drop, length-replicate}
 use lib.Seq.{drop-append_seam, drop-drop, get_or-drop, append_snoc}
 use lib.Dec.{ltb}
-use borrow.Author.Tests.{lt-ltb, le-ltb, le-leb}
+use borrow.Author.Tests.{le-leb}
 use Rattle.weights.proofs.Choice.{both_true}
 use Rattle.columns.specs.Acceptance.{all_below}
 use Rattle.columns.proofs.Accepted.{below_at}
@@ -21,7 +21,7 @@ use Rattle.cursor.specs.declared.Found.TheVariants as found
 use Rattle.cursor.specs.declared.Token.{Token}
 use Rattle.cursor.specs.declared.Separator.{Separator}
 use Rattle.cursor.specs.declared.Separator.TheVariants as separator
-use Rattle.cursor.specs.Cursor.{token, digits_from, number_of, number_at, separator_at}
+use Rattle.cursor.specs.Cursor.{token, number_at, separator_at}
 use Rattle.reading.specs.Lines.{agreeing}
 use Rattle.reader.proofs.Fields.{number_found}
 use Rattle.ledger.specs.declared.Next.{Next}

@@ -204,8 +204,7 @@ fn read_events(text: &[u8], from: usize, parts: &mut [u64], received: &mut [u64]
 // The opening counts and the events of a text, put into columns.
 fn read_record(text: &[u8], shelf: &mut [u64], parts: &mut [u64], received: &mut [u64]) -> Record
     requires { length received.old ≡ length parts.old }
-    ensures {
-        let read = read_record text.now shelf.old parts.old received.old in
+    ensures { let read = read_record text.now shelf.old parts.old received.old in
         record { result = result; shelf = shelf.new; parts = parts.new; received = received.new } ≡ read }
 {
     let counts = read_shelf(text, shelf);

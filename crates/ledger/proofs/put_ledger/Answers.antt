@@ -9,5 +9,5 @@ use Rattle.ledger.proofs.put_ledger.Goals as goal
 pub returns : goal.returns
 unfolding ledger
 returns c =
-    let left : c.put_outcome_rows-at.result + most_stock_line ≤ length c.args.room.now = let a = c.put_outcome_rows-at.ensures.1 in let n = c.requires.1 in let p = c.requires.3 in omega arith in
-    written_behind _ _ _ _ c.put_outcome_rows-at.ensures.0 most_stock_line left _ _ _ c.put_stock-width.ensures.1 c.put_stock-width.ensures.0
+    let left : c.put_outcome_rows-at.result + most_stock_line ≤ length c.args.room.now = let a = c.put_outcome_rows-at.ensures.upper_bound in let n = c.requires.1 in let p = c.requires.3 in omega arith in
+    written_behind _ _ _ _ c.put_outcome_rows-at.ensures.written most_stock_line left _ _ _ c.put_stock-width.ensures.upper_bound c.put_stock-width.ensures.written

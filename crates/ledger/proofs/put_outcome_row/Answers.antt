@@ -21,7 +21,7 @@ slice_bounds-put_outcome-count c =
     behind_starts _ _ _ _ c.put_number-at.ensures most_outcome left
 
 pub slice_bounds-put_outcome-start : goal.slice_bounds-put_outcome-start
-slice_bounds-put_outcome-start c = let r = sub-put-outcome c in search (rules, r)
+slice_bounds-put_outcome-start c = let r = slice_bounds-put_outcome-count c in search (rules, r)
 
 pub put_outcome-width-requires : goal.put_outcome-width-requires
 put_outcome-width-requires c =
@@ -32,14 +32,14 @@ put_outcome-width-requires c =
 pub overflow_add-result : goal.overflow_add-result
 overflow_add-result c =
     let short : c.put_number-at.result ≤ 20 = let w = width_20 c.args.part c.ranges.part.fits in let n = c.put_number-at.ensures.count in omega arith in
-    let a = short in let b = c.put_outcome-width.ensures.1 in omega arith
-
-pub shape_of-room : goal.shape_of-room
-shape_of-room c = (returns c).0.long
+    let a = short in let b = c.put_outcome-width.ensures.upper_bound in omega arith
 
 pub returns : goal.returns
 returns c =
     let short : c.put_number-at.result ≤ 20 = let w = width_20 c.args.part c.ranges.part.fits in let n = c.put_number-at.ensures.count in omega arith in
     let left : c.put_number-at.result + most_outcome ≤ length c.args.room.now = let a = short in let p = c.requires in omega arith in
-    let w = written_behind _ _ _ _ c.put_number-at.ensures most_outcome left _ _ _ c.put_outcome-width.ensures.1 c.put_outcome-width.ensures.0 in
-    (written_as _ _ _ (sym (row_split c.args.part c.args.outcome)) w, (let a = short in let b = c.put_outcome-width.ensures.1 in omega arith))
+    let w = written_behind _ _ _ _ c.put_number-at.ensures most_outcome left _ _ _ c.put_outcome-width.ensures.upper_bound c.put_outcome-width.ensures.written in
+    record { written = written_as _ _ _ (sym (row_split c.args.part c.args.outcome)) w; upper_bound = let a = short in let b = c.put_outcome-width.ensures.upper_bound in omega arith }
+
+pub shape_of-room : goal.shape_of-room
+shape_of-room c = (returns c).written.long

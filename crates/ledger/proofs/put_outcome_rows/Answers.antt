@@ -18,28 +18,28 @@ slice_bounds-put_outcome_row-count c =
     row_starts c.args.parts.now c.args.outcomes.now _ _ g.i g.at c.requires.0 c.loop-i-test.true g.invariant.1 g.invariant.2 c.requires.1
 
 pub slice_bounds-put_outcome_row-start : goal.slice_bounds-put_outcome_row-start
-slice_bounds-put_outcome_row-start c = let r = sub-put-row c in search (rules, r)
+slice_bounds-put_outcome_row-start c = let r = slice_bounds-put_outcome_row-count c in search (rules, r)
 
 pub put_outcome_row-at-requires : goal.put_outcome_row-at-requires
 put_outcome_row-at-requires c =
     let g = c.loop-i in
     row_room c.args.parts.now c.args.outcomes.now _ _ g.i g.at c.requires.0 c.loop-i-test.true g.invariant.1 g.invariant.2 c.requires.1
 
-pub overflow_add-at : goal.overflow_add-at
-overflow_add-at c =
-    let a = (loop-again c).2 in
-    let h = c.loop-i-test.true in
-    let p = c.requires.1 in
-    omega (arith, c.well_formed)
-
 pub loop-i-preserved : goal.loop-i-preserved
 loop-i-preserved c =
     let g = c.loop-i in
     let e = c.put_outcome_row-at.ensures in (
       (let h = c.loop-i-test.true in omega arith),
-      row_next c.args.parts.now c.args.outcomes.now _ _ g.i g.at c.requires.0 c.loop-i-test.true g.invariant.1 g.invariant.2 c.requires.1 _ _ e.1 e.0,
-      (let a = g.invariant.2 in let b = e.1 in omega arith),
+      row_next c.args.parts.now c.args.outcomes.now _ _ g.i g.at c.requires.0 c.loop-i-test.true g.invariant.1 g.invariant.2 c.requires.1 _ _ e.upper_bound e.written,
+      (let a = g.invariant.2 in let b = e.upper_bound in omega arith),
     )
+
+pub overflow_add-at : goal.overflow_add-at
+overflow_add-at c =
+    let a = (loop-i-preserved c).2 in
+    let h = c.loop-i-test.true in
+    let p = c.requires.1 in
+    omega (arith, c.well_formed)
 
 pub shape_of-room : goal.shape_of-room
 shape_of-room c = c.loop-i.invariant.1.long
@@ -47,4 +47,4 @@ shape_of-room c = c.loop-i.invariant.1.long
 pub returns : goal.returns
 returns c =
     let g = c.loop-i in
-    (rows_all _ _ _ _ _ _ c.requires.0 c.loop-i-test.false g.invariant.1, (let a = g.invariant.0 in let b = g.invariant.2 in omega arith))
+    record { written = rows_all _ _ _ _ _ _ c.requires.0 c.loop-i-test.false g.invariant.1; upper_bound = let a = g.invariant.0 in let b = g.invariant.2 in omega arith }
