@@ -11,7 +11,6 @@ use Rattle.refusal.specs.declared.Acceptance.TheVariants as answer
 use Rattle.refusal.specs.declared.Verdict.{Verdict}
 use Rattle.refusal.specs.declared.Verdict.TheVariants as verdict
 use Rattle.refusal.specs.declared.Extent.{Extent}
-use Rattle.refusal.specs.declared.Extent.TheVariants.{Refused}
 use Rattle.refusal.specs.declared.Reading.{Reading}
 use Rattle.refusal.specs.declared.Reading.TheVariants as reading
 use Rattle.refusal.specs.declared.Appending.{Appending}
