@@ -6,6 +6,7 @@ use native.Mathlib.Omega.{arith}
 use lib.ListN.{length, set}
 use borrow.Author.Tests.{eq-eqb, ne_eqb}
 use Rattle.weights.specs.declared.Measure.{Measure}
+use Rattle.weights.specs.declared.Entry.{Entry}
 use Rattle.refusal.specs.declared.Refusal.{Refusal}
 use Rattle.refusal.specs.declared.Counts.{Counts}
 use Rattle.refusal.specs.declared.Appending.{Appending}
@@ -40,6 +41,7 @@ use Rattle.tozbierdu.specs.Results.{
   mark_result,
   stricken_result,
   restored_result,
+  entry_written,
   measure_number,
   header_written,
   read_left,
@@ -88,6 +90,13 @@ four (x ∷ (y ∷ [])) n m e l h = absurd (omega arith)
 four (x ∷ (y ∷ (z ∷ []))) n m e l h = absurd (omega arith)
 four (x ∷ (y ∷ (z ∷ (t ∷ [])))) n m e l h = refl
 four (x ∷ (y ∷ (z ∷ (t ∷ (u ∷ us))))) n m e l h = absurd (omega arith)
+
+module _ (e : Entry) (room : List ℕ) where
+  pub written : length room ≡ 4 → set (set (set (set room 0 e.weight.0) 1 e.depth) 2 e.edge.0) 3 e.pieces ≡ entry_written e room
+  written h = rw (eq-eqb (length room) 4 h) (four room e.weight.0 e.depth e.edge.0 e.pieces h)
+
+  pub unwritten : ¬ (length room ≡ 4) → room ≡ entry_written e room
+  unwritten n = rw (ne_eqb (length room) 4 n)
 
 module _ (h : Header) (room : List ℕ) where
   pub header_written_lem : {m : ℕ} → m ≡ measure_number h.measure → length room ≡ 4 → set (set (set (set room 0 h.vertices) 1 m) 2 h.edges) 3 h.listed ≡ header_written h room
