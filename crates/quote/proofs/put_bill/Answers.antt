@@ -21,7 +21,10 @@ slice_bounds-lines-end c =
     lines_within c.args.measure table_of came c.args.part.0 _ _ c.bill-extent.ensures _ c.in-Length.is
 
 pub slice_bounds-put_sheet-end : goal.slice_bounds-put_sheet-end
-slice_bounds-put_sheet-end c = sym (length-take-le _ _ (array-share-prefix-lines c))
+slice_bounds-put_sheet-end c =
+    let came : Entries = let a = c.args in entries a.weights.now a.depths.now a.edges.now a.pieces.now in
+    let table_of : Columns = let a = c.args in columns a.n a.heads.now a.own.now a.strikes.now a.spans.now a.tails.now in
+    sym (length-take-le _ _ (lines_within c.args.measure table_of came c.args.part.0 _ _ c.bill-extent.ensures _ c.in-Length.is))
 
 pub put_sheet-width-requires : goal.put_sheet-width-requires
 put_sheet-width-requires c =
@@ -29,7 +32,7 @@ put_sheet-width-requires c =
     let table_of : Columns = let a = c.args in columns a.n a.heads.now a.own.now a.strikes.now a.spans.now a.tails.now in
     let few : c.in-Length.k ≤ most_lines = lines_few c.args.measure table_of came c.args.part.0 _ _ c.bill-extent.ensures _ c.in-Length.is in
     let k = few in
-    let l = slice-aggregate-put-sheet c in
+    let l = length-take-le _ _ (lines_within c.args.measure table_of came c.args.part.0 _ _ c.bill-extent.ensures _ c.in-Length.is) in
     omega arith
 
 pub returns-in-Length : goal.returns-in-Length

@@ -1,4 +1,4 @@
-use mathlib.Core.List.{List}
+use mathlib.Core.List.{List, []}
 use Prim.Native.Nat.{ℕ}
 use native.Mathlib.Omega.{arith}
 use borrow.Author.Rules.{rules}
@@ -21,19 +21,12 @@ slice_bounds-put_row-count c =
     row_starts (table_of c.args.heads.now c.args.own.now) c.args.lines.now _ _ g.i g.at c.loop-i-test.true g.invariant.1 g.invariant.2 c.requires
 
 pub slice_bounds-put_row-start : goal.slice_bounds-put_row-start
-slice_bounds-put_row-start c = let r = sub-put-row c in search (rules, r)
+slice_bounds-put_row-start c = let r = slice_bounds-put_row-count c in search (rules, r)
 
 pub put_row-at-requires : goal.put_row-at-requires
 put_row-at-requires c =
     let g = c.loop-i in
     row_room (table_of c.args.heads.now c.args.own.now) c.args.lines.now _ _ g.i g.at c.loop-i-test.true g.invariant.1 g.invariant.2 c.requires
-
-pub overflow_add-at : goal.overflow_add-at
-overflow_add-at c =
-    let a = (loop-again c).2 in
-    let h = c.loop-i-test.true in
-    let p = c.requires in
-    omega (arith, c.well_formed)
 
 pub loop-i-preserved : goal.loop-i-preserved
 loop-i-preserved c =
@@ -41,9 +34,16 @@ loop-i-preserved c =
     let t = table_of c.args.heads.now c.args.own.now in
     let e = c.put_row-at.ensures in (
       (let h = c.loop-i-test.true in omega arith),
-      row_next t c.args.lines.now _ _ g.i g.at c.loop-i-test.true g.invariant.1 g.invariant.2 c.requires _ _ e.1 e.0,
-      (let a = g.invariant.2 in let b = e.1 in omega arith),
+      row_next t c.args.lines.now _ _ g.i g.at c.loop-i-test.true g.invariant.1 g.invariant.2 c.requires _ _ e.upper_bound e.fact,
+      (let a = g.invariant.2 in let b = e.upper_bound in omega arith),
     )
+
+pub overflow_add-at : goal.overflow_add-at
+overflow_add-at c =
+    let a = (loop-i-preserved c).2 in
+    let h = c.loop-i-test.true in
+    let p = c.requires in
+    omega (arith, c.well_formed)
 
 pub shape_of-room : goal.shape_of-room
 shape_of-room c = c.loop-i.invariant.1.long
@@ -51,4 +51,4 @@ shape_of-room c = c.loop-i.invariant.1.long
 pub returns : goal.returns
 returns c =
     let g = c.loop-i in
-    (rows_all _ _ _ _ _ _ c.loop-i-test.false g.invariant.1, (let a = g.invariant.0 in let b = g.invariant.2 in omega arith))
+    record { fact = rows_all _ _ _ _ _ _ c.loop-i-test.false g.invariant.1; upper_bound = let a = g.invariant.0 in let b = g.invariant.2 in omega arith }

@@ -1,5 +1,5 @@
 -- `quote::put_rows` meets its contract. The invariant: the rows of the lines so far are written, in at most as many times the bytes of a row. Assumes nothing.
-use mathlib.Core.List.{List}
+use mathlib.Core.List.{List, []}
 use Prim.Native.Nat.{ℕ, ◌-◌, ◌*◌, ◌≤◌}
 use lib.ListN.{length, take}
 use Rattle.columns.specs.Columns.{Columns, columns}
