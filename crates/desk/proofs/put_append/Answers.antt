@@ -18,114 +18,90 @@ use Rattle.desk.proofs.Appending.{append_refused, append_accepted, start_room, s
 use Rattle.desk.proofs.put_append.Goals as goal
 
 pub slice_bounds-settle-end-2 : goal.slice_bounds-settle-end-2
-slice_bounds-settle-end-2 c = sym (length-take-le c.args.header.edges c.args.heads.now c.requires.1.heads)
+slice_bounds-settle-end-2 c = sym (length-take-le c.args.header.edges c.args.heads.now c.requires.stands.heads)
 
 pub slice_bounds-settle-end-4 : goal.slice_bounds-settle-end-4
-slice_bounds-settle-end-4 c = sym (length-take-le c.args.header.edges c.args.own.now c.requires.1.own)
+slice_bounds-settle-end-4 c = sym (length-take-le c.args.header.edges c.args.own.now c.requires.stands.own)
 
 pub slice_bounds-settle-end-6 : goal.slice_bounds-settle-end-6
-slice_bounds-settle-end-6 c = sym (length-take-le c.args.header.edges c.args.strikes.now c.requires.1.strikes)
+slice_bounds-settle-end-6 c = sym (length-take-le c.args.header.edges c.args.strikes.now c.requires.stands.strikes)
 
 pub slice_bounds-settle-end-8 : goal.slice_bounds-settle-end-8
-slice_bounds-settle-end-8 c = sym (length-take-le (2 * c.args.header.edges) c.args.spans.now c.requires.1.spans)
+slice_bounds-settle-end-8 c = sym (length-take-le (2 * c.args.header.edges) c.args.spans.now c.requires.stands.spans)
 
 pub slice_bounds-settle-end-10 : goal.slice_bounds-settle-end-10
-slice_bounds-settle-end-10 c = sym (length-take-le c.args.header.listed c.args.tails.now c.requires.1.tails)
+slice_bounds-settle-end-10 c = sym (length-take-le c.args.header.listed c.args.tails.now c.requires.stands.tails)
 
 pub slice_bounds-settle-end-11 : goal.slice_bounds-settle-end-11
-slice_bounds-settle-end-11 c = zeros_long c.args.header.vertices c.requires.1.few
+slice_bounds-settle-end-11 c = zeros_long c.args.header.vertices c.requires.stands.few
 
 pub slice_bounds-settle-end-12 : goal.slice_bounds-settle-end-12
-slice_bounds-settle-end-12 c = zeros_long c.args.header.vertices c.requires.1.few
+slice_bounds-settle-end-12 c = zeros_long c.args.header.vertices c.requires.stands.few
 
 pub slice_bounds-settle-end-13 : goal.slice_bounds-settle-end-13
-slice_bounds-settle-end-13 c = zeros_long c.args.header.vertices c.requires.1.few
+slice_bounds-settle-end-13 c = zeros_long c.args.header.vertices c.requires.stands.few
 
 pub slice_bounds-settle-end-14 : goal.slice_bounds-settle-end-14
-slice_bounds-settle-end-14 c = zeros_long c.args.header.vertices c.requires.1.few
-
-pub shape_of-room-in-Refused : goal.shape_of-room-in-Refused
-shape_of-room-in-Refused c = c.put_refusal.auto.0
+slice_bounds-settle-end-14 c = zeros_long c.args.header.vertices c.requires.stands.few
 
 pub returns-in-Refused : goal.returns-in-Refused
 returns-in-Refused c =
-    let left : Entries = entries c.settle-answer.new.depths.1.1.1.1.1.1.0 c.settle-answer.new.depths.1.1.1.1.1.1.1.0 c.settle-answer.new.depths.1.1.1.1.1.1.1.1.0 c.settle-answer.new.depths.1.1.1.1.1.1.1.1.1.0 in
+    let left : Entries = entries c.settle-answer.new.weights c.settle-answer.new.depths c.settle-answer.new.edges c.settle-answer.new.pieces in
     let lent : ReadOutcome = read_outcome (reading.Table c.args.header) c.args.heads.now c.args.own.now c.args.strikes.now c.args.spans.now c.args.tails.now in
     let line : NewLine = new_line c.args.head.0 c.args.figure.0 standing c.args.needed.now in
     let said : Said = append_said c.args.header lent line in
-    let refused : said ≡ refused_by c.in-Refused.r = append_refused c.args.header lent line c.requires.1.few _ left c.settle-answer.ensures _ c.in-Refused.is in
+    let refused : said ≡ refused_by c.in-Refused.r = append_refused c.args.header lent line c.requires.stands.few _ left c.settle-answer.ensures _ c.in-Refused.is in
     replied_as _ _ _ (sym refused) c.put_refusal.ensures
 
 pub slice_bounds-weights-end-2 : goal.slice_bounds-weights-end-2
 slice_bounds-weights-end-2 c =
     let rest : List ℕ = drop c.args.header.vertices (replicate most_vertices 0) in
-    start_room c.args.header.vertices c.requires.1.few c.settle-answer.new.depths.1.1.1.1.1.1.0 rest c.settle-answer.auto.1.1.1.1.1.1.1.0
+    start_room c.args.header.vertices c.requires.stands.few c.settle-answer.new.weights rest c.settle-answer.auto.weights
 
 pub slice_bounds-put_indexed-end : goal.slice_bounds-put_indexed-end
 slice_bounds-put_indexed-end c =
     let rest : List ℕ = drop c.args.header.vertices (replicate most_vertices 0) in
-    start_long c.args.header.vertices c.requires.1.few c.settle-answer.new.depths.1.1.1.1.1.1.0 rest c.settle-answer.auto.1.1.1.1.1.1.1.0
+    start_long c.args.header.vertices c.requires.stands.few c.settle-answer.new.weights rest c.settle-answer.auto.weights
 
 pub slice_bounds-depths-end-2 : goal.slice_bounds-depths-end-2
 slice_bounds-depths-end-2 c =
     let rest : List ℕ = drop c.args.header.vertices (replicate most_vertices 0) in
-    start_room c.args.header.vertices c.requires.1.few c.settle-answer.new.depths.1.1.1.1.1.1.1.0 rest c.settle-answer.auto.1.1.1.1.1.1.1.1.0
+    start_room c.args.header.vertices c.requires.stands.few c.settle-answer.new.depths rest c.settle-answer.auto.depths
 
 pub slice_bounds-put_indexed-end-2 : goal.slice_bounds-put_indexed-end-2
 slice_bounds-put_indexed-end-2 c =
     let rest : List ℕ = drop c.args.header.vertices (replicate most_vertices 0) in
-    start_long c.args.header.vertices c.requires.1.few c.settle-answer.new.depths.1.1.1.1.1.1.1.0 rest c.settle-answer.auto.1.1.1.1.1.1.1.1.0
+    start_long c.args.header.vertices c.requires.stands.few c.settle-answer.new.depths rest c.settle-answer.auto.depths
 
 pub slice_bounds-edges-end-2 : goal.slice_bounds-edges-end-2
 slice_bounds-edges-end-2 c =
     let rest : List ℕ = drop c.args.header.vertices (replicate most_vertices 0) in
-    start_room c.args.header.vertices c.requires.1.few c.settle-answer.new.depths.1.1.1.1.1.1.1.1.0 rest c.settle-answer.auto.1.1.1.1.1.1.1.1.1.0
+    start_room c.args.header.vertices c.requires.stands.few c.settle-answer.new.edges rest c.settle-answer.auto.edges
 
 pub slice_bounds-put_indexed-end-3 : goal.slice_bounds-put_indexed-end-3
 slice_bounds-put_indexed-end-3 c =
     let rest : List ℕ = drop c.args.header.vertices (replicate most_vertices 0) in
-    start_long c.args.header.vertices c.requires.1.few c.settle-answer.new.depths.1.1.1.1.1.1.1.1.0 rest c.settle-answer.auto.1.1.1.1.1.1.1.1.1.0
+    start_long c.args.header.vertices c.requires.stands.few c.settle-answer.new.edges rest c.settle-answer.auto.edges
 
 pub slice_bounds-pieces-end-2 : goal.slice_bounds-pieces-end-2
 slice_bounds-pieces-end-2 c =
     let rest : List ℕ = drop c.args.header.vertices (replicate most_vertices 0) in
-    start_room c.args.header.vertices c.requires.1.few c.settle-answer.new.depths.1.1.1.1.1.1.1.1.1.0 rest c.settle-answer.auto.1.1.1.1.1.1.1.1.1.1.0
+    start_room c.args.header.vertices c.requires.stands.few c.settle-answer.new.pieces rest c.settle-answer.auto.pieces
 
 pub slice_bounds-put_indexed-end-4 : goal.slice_bounds-put_indexed-end-4
 slice_bounds-put_indexed-end-4 c =
     let rest : List ℕ = drop c.args.header.vertices (replicate most_vertices 0) in
-    start_long c.args.header.vertices c.requires.1.few c.settle-answer.new.depths.1.1.1.1.1.1.1.1.1.0 rest c.settle-answer.auto.1.1.1.1.1.1.1.1.1.1.0
-
-pub put_indexed-requires : goal.put_indexed-requires
-put_indexed-requires c = (c.requires.0, c.requires.1)
-
-pub shape_of-room : goal.shape_of-room
-shape_of-room c = c.put_indexed.auto.0
-
-pub shape_of-heads : goal.shape_of-heads
-shape_of-heads c = c.put_indexed.auto.1.1.0
-
-pub shape_of-own : goal.shape_of-own
-shape_of-own c = c.put_indexed.auto.1.1.1.0
-
-pub shape_of-strikes : goal.shape_of-strikes
-shape_of-strikes c = c.put_indexed.auto.1.1.1.1.0
-
-pub shape_of-spans : goal.shape_of-spans
-shape_of-spans c = c.put_indexed.auto.1.1.1.1.1.0
-
-pub shape_of-tails : goal.shape_of-tails
-shape_of-tails c = c.put_indexed.auto.1.1.1.1.1.1.0
+    start_long c.args.header.vertices c.requires.stands.few c.settle-answer.new.pieces rest c.settle-answer.auto.pieces
 
 pub returns : goal.returns
 returns c =
-    let left : Entries = entries c.settle-answer.new.depths.1.1.1.1.1.1.0 c.settle-answer.new.depths.1.1.1.1.1.1.1.0 c.settle-answer.new.depths.1.1.1.1.1.1.1.1.0 c.settle-answer.new.depths.1.1.1.1.1.1.1.1.1.0 in
+    let left : Entries = entries c.settle-answer.new.weights c.settle-answer.new.depths c.settle-answer.new.edges c.settle-answer.new.pieces in
     let lent : ReadOutcome = read_outcome (reading.Table c.args.header) c.args.heads.now c.args.own.now c.args.strikes.now c.args.spans.now c.args.tails.now in
     let line : NewLine = new_line c.args.head.0 c.args.figure.0 standing c.args.needed.now in
     let said : Said = append_said c.args.header lent line in
-    let accepted : said ≡ indexed_said c.args.header lent left (replicate (2 * most_vertices) 0) (replicate most_listed 0) line = append_accepted c.args.header lent line c.requires.1.few _ left c.settle-answer.ensures c.in-Accepted.is in
+    let accepted : said ≡ indexed_said c.args.header lent left (replicate (2 * most_vertices) 0) (replicate most_listed 0) line = append_accepted c.args.header lent line c.requires.stands.few _ left c.settle-answer.ensures c.in-Accepted.is in
     let rest : List ℕ = drop c.args.header.vertices (replicate most_vertices 0) in
-    let passed : let n = c.args.header.vertices in entries (take n (c.settle-answer.new.depths.1.1.1.1.1.1.0 ++ rest)) (take n (c.settle-answer.new.depths.1.1.1.1.1.1.1.0 ++ rest)) (take n (c.settle-answer.new.depths.1.1.1.1.1.1.1.1.0 ++ rest)) (take n (c.settle-answer.new.depths.1.1.1.1.1.1.1.1.1.0 ++ rest)) ≡ left = let n = c.args.header.vertices in let h = c.requires.1.few in entries_back (start_back n h c.settle-answer.new.depths.1.1.1.1.1.1.0 rest c.settle-answer.auto.1.1.1.1.1.1.1.0) (start_back n h c.settle-answer.new.depths.1.1.1.1.1.1.1.0 rest c.settle-answer.auto.1.1.1.1.1.1.1.1.0) (start_back n h c.settle-answer.new.depths.1.1.1.1.1.1.1.1.0 rest c.settle-answer.auto.1.1.1.1.1.1.1.1.1.0) (start_back n h c.settle-answer.new.depths.1.1.1.1.1.1.1.1.1.0 rest c.settle-answer.auto.1.1.1.1.1.1.1.1.1.1.0) in
+    let passed : let n = c.args.header.vertices in entries (take n (c.settle-answer.new.weights ++ rest)) (take n (c.settle-answer.new.depths ++ rest)) (take n (c.settle-answer.new.edges ++ rest)) (take n (c.settle-answer.new.pieces ++ rest)) ≡ left = let n = c.args.header.vertices in let h = c.requires.stands.few in entries_back (start_back n h c.settle-answer.new.weights rest c.settle-answer.auto.weights) (start_back n h c.settle-answer.new.depths rest c.settle-answer.auto.depths) (start_back n h c.settle-answer.new.edges rest c.settle-answer.auto.edges) (start_back n h c.settle-answer.new.pieces rest c.settle-answer.auto.pieces) in
     replied_as c.args.room.now _ c.put_indexed.new.room
     (ap (λ (z : Entries). indexed_said c.args.header lent z (replicate (2 * most_vertices) 0) (replicate most_listed 0) line) passed ∙ sym accepted)
     c.put_indexed.ensures

@@ -7,52 +7,10 @@ use Rattle.desk.proofs.Laws.{replied_as, ask_said, append_said_lem, mean_misused
 use Rattle.desk.proofs.put_command.Goals as goal
 
 pub slice_bounds-put_append-count : goal.slice_bounds-put_append-count
-slice_bounds-put_append-count c = c.requires.1.1.least _ _ c.in-Append.is
-
-pub slice_bounds-put_append-start : goal.slice_bounds-put_append-start
-slice_bounds-put_append-start c = let r = sub-put-append c in search (rules, r)
-
-pub slice_bounds-put_append-end : goal.slice_bounds-put_append-end
-slice_bounds-put_append-end c =
-    let r = sub-put-append c in
-    let m = c.requires.1.1.most in
-    omega (arith, r, m)
-
-pub put_append-requires : goal.put_append-requires
-put_append-requires c = (c.requires.0, c.requires.1.0)
-
-pub put_read-requires : goal.put_read-requires
-put_read-requires c = (c.requires.0, c.requires.1.0)
-
-pub shape_of-room-in-Append : goal.shape_of-room-in-Append
-shape_of-room-in-Append c = c.put_append.auto.0
-
-pub shape_of-heads-in-Append : goal.shape_of-heads-in-Append
-shape_of-heads-in-Append c = c.put_append.auto.1.1.0
-
-pub shape_of-own-in-Append : goal.shape_of-own-in-Append
-shape_of-own-in-Append c = c.put_append.auto.1.1.1.0
-
-pub shape_of-strikes-in-Append : goal.shape_of-strikes-in-Append
-shape_of-strikes-in-Append c = c.put_append.auto.1.1.1.1.0
-
-pub shape_of-spans-in-Append : goal.shape_of-spans-in-Append
-shape_of-spans-in-Append c = c.put_append.auto.1.1.1.1.1.0
-
-pub shape_of-tails-in-Append : goal.shape_of-tails-in-Append
-shape_of-tails-in-Append c = c.put_append.auto.1.1.1.1.1.1.0
+slice_bounds-put_append-count c = c.requires.takes.least _ _ c.in-Append.is
 
 pub returns-in-Append : goal.returns-in-Append
 returns-in-Append c = replied_as _ _ _ (append_said_lem _ _ c.args.count c.args.numbers.now _ _ _ _ c.in-Append.is) c.put_append.ensures
-
-pub shape_of-room-in-Ask : goal.shape_of-room-in-Ask
-shape_of-room-in-Ask c = c.put_read.auto.0
-
-pub shape_of-own-in-Ask : goal.shape_of-own-in-Ask
-shape_of-own-in-Ask c = c.put_read.auto.1.1.1.1.0
-
-pub shape_of-strikes-in-Ask : goal.shape_of-strikes-in-Ask
-shape_of-strikes-in-Ask c = c.put_read.auto.1.1.1.1.1.0
 
 pub returns-in-Ask : goal.returns-in-Ask
 returns-in-Ask c = replied_as _ _ _ (ask_said _ _ c.args.count c.args.numbers.now _ _ _ c.in-Ask.is) c.put_read.ensures

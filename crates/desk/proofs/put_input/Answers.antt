@@ -6,9 +6,6 @@ use Rattle.report.specs.Report.{most_input, read_input}
 use Rattle.desk.proofs.Laws.{replied_as, long_said, unread_said, table_said_lem, input_stands}
 use Rattle.desk.proofs.put_input.Goals as goal
 
-pub shape_of-room-then-input-gt-MOST_INPUT : goal.shape_of-room-then-input-gt-MOST_INPUT
-shape_of-room-then-input-gt-MOST_INPUT c = c.put_refusal.auto.0
-
 pub returns-then-input-gt-MOST_INPUT : goal.returns-then-input-gt-MOST_INPUT
 returns-then-input-gt-MOST_INPUT c =
     replied_as _ _ _
@@ -19,10 +16,11 @@ pub put_command-requires : goal.put_command-requires
 unfolding read_input
 put_command-requires c =
     let short : length c.args.input.now ≤ most_input = let h = c.if-input-gt-MOST_INPUT.false in omega arith in
-    (c.requires.0, (input_stands c.args.input.now short _ _ _ _ _ _ c.read_table-reading.ensures _ c.in-Table.is, c.requires.1))
-
-pub shape_of-room-in-Refused : goal.shape_of-room-in-Refused
-shape_of-room-in-Refused c = c.put_refusal-in-Refused.auto.0
+    record {
+      most_reply_in_bounds = c.requires.most_reply_in_bounds;
+      stands = input_stands c.args.input.now short _ _ _ _ _ _ c.read_table-reading.ensures _ c.in-Table.is;
+      takes = c.requires.takes;
+    }
 
 pub returns-in-Refused : goal.returns-in-Refused
 unfolding read_input
@@ -31,9 +29,6 @@ returns-in-Refused c =
     replied_as _ _ _
     (unread_said c.args.second.now c.args.command c.args.count c.args.numbers.now c.args.input.now short _ _ _ _ _ _ c.read_table-reading.ensures _ c.in-Refused.is)
     c.put_refusal-in-Refused.ensures
-
-pub shape_of-room-in-Table : goal.shape_of-room-in-Table
-shape_of-room-in-Table c = c.put_command.auto.0
 
 pub returns-in-Table : goal.returns-in-Table
 unfolding read_input

@@ -10,19 +10,20 @@ slice_bounds-put_input-end-in-Ask c = numbers_long c.args.words.now c.args.input
 
 pub put_input-requires : goal.put_input-requires
 put_input-requires c =
-    let l = c.put_input-arg-1.given.0.1 in
-    (omega arith, words_take c.args.words.now c.args.input.now c.args.second.now _ _ c.read_command-line.ensures)
+    record {
+      most_reply_in_bounds = omega arith;
+      takes = words_take c.args.words.now c.args.input.now c.args.second.now _ _ c.read_command-line.ensures;
+    }
 
 pub slice_bounds-put_input-end-in-Append-2 : goal.slice_bounds-put_input-end-in-Append-2
 slice_bounds-put_input-end-in-Append-2 c = numbers_long c.args.words.now c.args.input.now c.args.second.now _ _ c.read_command-line.ensures
 
 pub put_input-requires-in-Append : goal.put_input-requires-in-Append
 put_input-requires-in-Append c =
-    let l = c.put_input-arg-in-Append-1.given.0.1 in
-    (omega arith, words_take c.args.words.now c.args.input.now c.args.second.now _ _ c.read_command-line.ensures)
-
-pub put_sample-requires : goal.put_sample-requires
-put_sample-requires c = let l = c.put_sample-arg-1.given.0.1 in omega arith
+    record {
+      most_reply_in_bounds = omega arith;
+      takes = words_take c.args.words.now c.args.input.now c.args.second.now _ _ c.read_command-line.ensures;
+    }
 
 pub returns-in-Misuse : goal.returns-in-Misuse
 returns-in-Misuse c =
