@@ -19,15 +19,15 @@ put_refusal-requires c =
     let k = ap length (room_kept _ _ c.args.room.now large _ _ c.write_table-extent.ensures _ c.in-Refused.is) in
     omega (arith, k, c.requires)
 
-pub shape_of-room-in-Refused : goal.shape_of-room-in-Refused
-shape_of-room-in-Refused c = (returns c).written.long
-
 pub returns-in-Refused : goal.returns-in-Refused
 returns-in-Refused c =
     let large : most_input ≤ length c.args.room.now = omega (arith, c.requires) in
     let q = c.write_table-extent.ensures in
     let e = c.in-Refused.is in
     replied_as (text_refused _ _ c.args.room.now large _ _ q _ e) (room_kept _ _ c.args.room.now large _ _ q _ e) c.put_refusal.ensures
+
+pub shape_of-room-in-Refused : goal.shape_of-room-in-Refused
+shape_of-room-in-Refused c = (returns-in-Refused c).written.long
 
 pub returns-in-Length : goal.returns-in-Length
 returns-in-Length c =
