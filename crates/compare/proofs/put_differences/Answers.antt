@@ -17,6 +17,9 @@ slice_bounds-put_row_if-count c =
     let g = c.loop-i in
     row_starts one two _ _ c.args.n g.i g.at c.loop-i-test.true g.invariant.1 g.invariant.2 c.requires
 
+pub slice_bounds-put_row_if-start : goal.slice_bounds-put_row_if-start
+slice_bounds-put_row_if-start c = let r = slice_bounds-put_row_if-count c in search (rules, r)
+
 pub put_row_if-at-requires : goal.put_row_if-at-requires
 put_row_if-at-requires c =
     let one : Entries = let a = c.args in entries a.weights.now a.depths.now a.edges.now a.pieces.now in

@@ -27,6 +27,9 @@ slice_bounds-put_spaced-count c =
     let whole : length (front ++ back) ≤ length c.args.room.now = let s = short in let p = c.requires in omega arith in
     within front _ _ _ c.put_stem-at.ensures back whole
 
+pub slice_bounds-put_spaced-start : goal.slice_bounds-put_spaced-start
+slice_bounds-put_spaced-start c = let r = slice_bounds-put_spaced-count c in search (rules, r)
+
 pub put_spaced-width-requires : goal.put_spaced-width-requires
 put_spaced-width-requires c =
     let back : List ℕ = 32 ∷ digits c.args.figure in

@@ -1,5 +1,5 @@
 -- `compare::put_rest` meets its contract: the state, and the figure in the room behind it. Assumes nothing.
-use mathlib.Core.List.{List, ◌∷◌, ◌++◌}
+use mathlib.Core.List.{List, [], ◌∷◌, ◌++◌}
 use Prim.Native.Nat.{ℕ, ◌≤◌}
 use native.Mathlib.Omega.{arith}
 use borrow.Author.Rules.{rules}
@@ -26,6 +26,9 @@ slice_bounds-put_tail-count c =
     let short : length (front ++ back) ≤ most_rest = rest_most c.args.state c.args.figure c.ranges.figure.fits in
     let whole : length (front ++ back) ≤ length c.args.room.now = let s = short in let p = c.requires in omega arith in
     within front _ _ _ c.put_state-at.ensures back whole
+
+pub slice_bounds-put_tail-start : goal.slice_bounds-put_tail-start
+slice_bounds-put_tail-start c = let r = slice_bounds-put_tail-count c in search (rules, r)
 
 pub put_tail-width-requires : goal.put_tail-width-requires
 put_tail-width-requires c =

@@ -17,6 +17,9 @@ slice_bounds-put_rest-count c =
     let left : c.put_half-at.result + most_rest ≤ length c.args.room.now = let a = c.put_half-at.ensures.upper_bound in let p = c.requires in omega arith in
     behind_starts front _ _ _ c.put_half-at.ensures.written most_rest left
 
+pub slice_bounds-put_rest-start : goal.slice_bounds-put_rest-start
+slice_bounds-put_rest-start c = let r = slice_bounds-put_rest-count c in search (rules, r)
+
 pub put_rest-width-requires : goal.put_rest-width-requires
 put_rest-width-requires c =
     let front : List ℕ = let a = c.args in half a.v a.first.state a.first.weight.0 in
