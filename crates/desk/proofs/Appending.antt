@@ -5,24 +5,21 @@ use Prim.Native.Nat.{ℕ, ◌*◌, ◌≤◌}
 use native.Mathlib.Omega.{arith}
 use lib.ListN.{length, take, replicate, length-append}
 use lib.Seq.{take-append_seam}
-use Rattle.weights.specs.declared.Measure.{Measure}
 use Rattle.refusal.specs.declared.Refusal.{Refusal}
 use Rattle.refusal.specs.declared.Acceptance.{Acceptance}
 use Rattle.refusal.specs.declared.Acceptance.TheVariants as answer
 use Rattle.refusal.specs.declared.Extent.{Extent}
 use Rattle.refusal.specs.declared.Extent.TheVariants as extent
 use Rattle.refusal.specs.declared.Header.{Header}
-use Rattle.columns.specs.Columns.{Entries, Columns, entries}
+use Rattle.columns.specs.Columns.{Entries, entries}
 use Rattle.columns.specs.Acceptance.{most_vertices, most_listed}
 use Rattle.columns.specs.Longer.{NewLine}
 use Rattle.settle.specs.Settling.{settled}
 use Rattle.indextable.specs.Index.{IndexOutcome, table_indexed}
 use Rattle.readtable.specs.Read.{ReadOutcome, columns_read}
-use Rattle.writing.proofs.Written.{written_as}
 use Rattle.report.specs.Report.{blank_entries}
 use Rattle.report.proofs.Laws.{take_zeros, zeros_long}
-use Rattle.reply.specs.declared.Reply.{Reply}
-use Rattle.reply.specs.Reply.{Said, refused_by, on_acceptance, on_extent, Replied}
+use Rattle.reply.specs.Reply.{refused_by, on_extent}
 use Rattle.amend.specs.Amend.{appended_said}
 use Rattle.desk.specs.Desk.{lent_whole, in_use_of, indexed_said, append_said}
 use Rattle.desk.proofs.Laws.{settled_refused, settled_accepted}

@@ -27,7 +27,7 @@ use Rattle.command.specs.declared.Query.{Query}
 use Rattle.command.specs.declared.Query.TheVariants.{Settled, Uses, Check, CheckOrder}
 use Rattle.command.specs.declared.Question.{Question}
 use Rattle.command.specs.declared.Question.TheVariants.{Price, Bill, Reprice, Strike, Restore, Compare, Replay}
-use Rattle.command.specs.Command.{most_numbers, CommandLine, command_in}
+use Rattle.command.specs.Command.{most_numbers, command_in}
 use Rattle.sample.specs.Sample.{mean_said}
 use Rattle.ledger.specs.Ledger.{replay_said}
 use Rattle.quote.specs.Quote.{bill_said}

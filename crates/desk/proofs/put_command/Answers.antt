@@ -9,6 +9,15 @@ use Rattle.desk.proofs.put_command.Goals as goal
 pub slice_bounds-put_append-count : goal.slice_bounds-put_append-count
 slice_bounds-put_append-count c = c.requires.takes.least _ _ c.in-Append.is
 
+pub slice_bounds-put_append-start : goal.slice_bounds-put_append-start
+slice_bounds-put_append-start c = let r = slice_bounds-put_append-count c in search (rules, r)
+
+pub slice_bounds-put_append-end : goal.slice_bounds-put_append-end
+slice_bounds-put_append-end c =
+    let r = slice_bounds-put_append-count c in
+    let m = c.requires.takes.most in
+    omega (arith, r, m)
+
 pub returns-in-Append : goal.returns-in-Append
 returns-in-Append c = replied_as _ _ _ (append_said_lem _ _ c.args.count c.args.numbers.now _ _ _ _ c.in-Append.is) c.put_append.ensures
 

@@ -1,5 +1,5 @@
 -- `desk::put_indexed` meets its contract, by what indexing the table returned. Assumes nothing.
-use mathlib.Core.Path.{◌≡◌, sym, ◌∙◌}
+use mathlib.Core.Path.{◌≡◌, sym}
 use Prim.Native.Nat.{◌*◌}
 use lib.Seq.{length-take-le}
 use Rattle.weights.specs.Figures.{standing}

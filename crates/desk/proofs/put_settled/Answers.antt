@@ -1,5 +1,4 @@
 -- `desk::put_settled` meets its contract, by what settling returned. Assumes nothing.
-use mathlib.Core.Path.{◌∙◌}
 use lib.ListN.{length}
 use Rattle.columns.specs.Columns.{Entries, Columns, columns, entries}
 use Rattle.reply.specs.Reply.{Said}
