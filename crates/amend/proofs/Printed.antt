@@ -8,7 +8,7 @@ use lib.ListN.{length, replicate, length-replicate}
 use Rattle.weights.specs.declared.Measure.{Measure}
 use Rattle.weights.specs.Figures.{standing, struck_mark}
 use Rattle.refusal.specs.declared.Counts.{Counts}
-use Rattle.refusal.specs.declared.Acceptance.TheVariants.{Accepted, Refused}
+use Rattle.refusal.specs.declared.Acceptance.TheVariants.{Accepted}
 use Rattle.refusal.specs.declared.Extent.{Extent}
 use Rattle.columns.specs.Columns.{Entries, Columns, with_own, with_strike}
 use Rattle.columns.specs.Acceptance.{acceptance}

@@ -4,19 +4,16 @@ use lib.Seq.{length-take-le}
 use Rattle.amend.proofs.put_in_use.Goals as goal
 
 pub slice_bounds-put_text-end : goal.slice_bounds-put_text-end
-slice_bounds-put_text-end c = sym (length-take-le _ _ c.requires.1.heads)
+slice_bounds-put_text-end c = sym (length-take-le _ _ c.requires.placed.heads)
 
 pub slice_bounds-put_text-end-2 : goal.slice_bounds-put_text-end-2
-slice_bounds-put_text-end-2 c = sym (length-take-le _ _ c.requires.1.own)
+slice_bounds-put_text-end-2 c = sym (length-take-le _ _ c.requires.placed.own)
 
 pub slice_bounds-put_text-end-3 : goal.slice_bounds-put_text-end-3
-slice_bounds-put_text-end-3 c = sym (length-take-le _ _ c.requires.1.strikes)
+slice_bounds-put_text-end-3 c = sym (length-take-le _ _ c.requires.placed.strikes)
 
 pub slice_bounds-put_text-end-4 : goal.slice_bounds-put_text-end-4
-slice_bounds-put_text-end-4 c = sym (length-take-le _ _ c.requires.1.spans)
+slice_bounds-put_text-end-4 c = sym (length-take-le _ _ c.requires.placed.spans)
 
 pub slice_bounds-put_text-end-5 : goal.slice_bounds-put_text-end-5
-slice_bounds-put_text-end-5 c = sym (length-take-le _ _ c.requires.1.tails)
-
-pub shape_of-room : goal.shape_of-room
-shape_of-room c = c.put_text.auto.0
+slice_bounds-put_text-end-5 c = sym (length-take-le _ _ c.requires.placed.tails)

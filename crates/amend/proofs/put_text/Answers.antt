@@ -19,9 +19,6 @@ put_refusal-requires c =
     let k = ap length (room_kept _ _ c.args.room.now large _ _ c.write_table-extent.ensures _ c.in-Refused.is) in
     omega (arith, k, c.requires)
 
-pub shape_of-room-in-Refused : goal.shape_of-room-in-Refused
-shape_of-room-in-Refused c = (returns c).written.long
-
 pub returns-in-Refused : goal.returns-in-Refused
 returns-in-Refused c =
     let large : most_input ≤ length c.args.room.now = omega (arith, c.requires) in
