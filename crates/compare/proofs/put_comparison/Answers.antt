@@ -18,7 +18,7 @@ pub put_read-requires : goal.put_read-requires
 unfolding read_input
 put_read-requires c =
     let short : length c.args.second.now ≤ most_input = let h = c.if-second-gt-MOST_INPUT.false in omega arith in
-    (c.requires.0, (c.requires.1, table-lent c.args.second.now short _ _ _ _ _ _ c.read_table-reading.ensures _ most_output refl c.in-Table.is))
+    record { most_reply_in_bounds = c.requires.most_reply_in_bounds; n_le_most_vertices = c.requires.n_le_most_vertices; lent = table-lent c.args.second.now short _ _ _ _ _ _ c.read_table-reading.ensures _ most_output refl c.in-Table.is }
 
 pub returns-in-Refused : goal.returns-in-Refused
 unfolding read_input

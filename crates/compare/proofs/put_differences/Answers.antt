@@ -18,7 +18,7 @@ slice_bounds-put_row_if-count c =
     row_starts one two _ _ c.args.n g.i g.at c.loop-i-test.true g.invariant.1 g.invariant.2 c.requires
 
 pub slice_bounds-put_row_if-start : goal.slice_bounds-put_row_if-start
-slice_bounds-put_row_if-start c = let r = sub-put-row-if c in search (rules, r)
+slice_bounds-put_row_if-start c = let r = slice_bounds-put_row_if-count c in search (rules, r)
 
 pub put_row_if-at-requires : goal.put_row_if-at-requires
 put_row_if-at-requires c =
@@ -26,13 +26,6 @@ put_row_if-at-requires c =
     let two : Entries = let a = c.args in entries a.figures.now a.levels.now a.roots.now a.counts.now in
     let g = c.loop-i in
     row_room one two _ _ c.args.n g.i g.at c.loop-i-test.true g.invariant.1 g.invariant.2 c.requires
-
-pub overflow_add-at : goal.overflow_add-at
-overflow_add-at c =
-    let a = (loop-again c).2 in
-    let h = c.loop-i-test.true in
-    let p = c.requires in
-    omega (arith, c.well_formed)
 
 pub overflow_add-i : goal.overflow_add-i
 overflow_add-i c =
@@ -48,9 +41,16 @@ loop-i-preserved c =
     let e = c.put_row_if-at.ensures in (
       (let h = c.loop-i-test.true in omega arith),
       row_next one two _ _ c.args.n g.i g.at c.loop-i-test.true g.invariant.1 g.invariant.2 c.requires
-          _ _ c.entry-first.ensures c.entry-second.ensures _ _ e.1 e.0,
-      (let a = g.invariant.2 in let b = e.1 in omega arith),
+          _ _ c.entry-first.ensures c.entry-second.ensures _ _ e.upper_bound e.written,
+      (let a = g.invariant.2 in let b = e.upper_bound in omega arith),
     )
+
+pub overflow_add-at : goal.overflow_add-at
+overflow_add-at c =
+    let a = (loop-i-preserved c).2 in
+    let h = c.loop-i-test.true in
+    let p = c.requires in
+    omega (arith, c.well_formed)
 
 pub shape_of-room : goal.shape_of-room
 shape_of-room c = c.loop-i.invariant.1.long

@@ -28,7 +28,7 @@ slice_bounds-put_spaced-count c =
     within front _ _ _ c.put_stem-at.ensures back whole
 
 pub slice_bounds-put_spaced-start : goal.slice_bounds-put_spaced-start
-slice_bounds-put_spaced-start c = let r = sub-put-spaced c in search (rules, r)
+slice_bounds-put_spaced-start c = let r = slice_bounds-put_spaced-count c in search (rules, r)
 
 pub put_spaced-width-requires : goal.put_spaced-width-requires
 put_spaced-width-requires c =
@@ -38,12 +38,6 @@ put_spaced-width-requires c =
     let whole : length (front ++ back) ≤ length c.args.room.now = let s = short in let p = c.requires in omega arith in
     lent-room front _ _ _ c.put_stem-at.ensures back whole
 
-pub overflow_add-result : goal.overflow_add-result
-overflow_add-result c = let n = (returns c).1 in omega arith
-
-pub shape_of-room : goal.shape_of-room
-shape_of-room c = (returns c).0.long
-
 pub returns : goal.returns
 unfolding half
 returns c =
@@ -52,4 +46,10 @@ returns c =
     let short : length (front ++ back) ≤ most_half = half_most c.args.v c.args.state c.args.figure c.ranges.v.fits c.ranges.figure.fits in
     let whole : length (front ++ back) ≤ length c.args.room.now = let s = short in let p = c.requires in omega arith in
     let w = written_part front _ _ _ c.put_stem-at.ensures back _ _ whole c.put_spaced-width.ensures in
-    (w, (let l = short in let n = w.count in omega arith))
+    record { written = w; upper_bound = let l = short in let n = w.count in omega arith }
+
+pub overflow_add-result : goal.overflow_add-result
+overflow_add-result c = let n = (returns c).upper_bound in omega arith
+
+pub shape_of-room : goal.shape_of-room
+shape_of-room c = (returns c).written.long

@@ -9,38 +9,38 @@ use Rattle.compare.proofs.Said.{replied_as, blank_said}
 use Rattle.compare.proofs.put_read.Goals as goal
 
 pub slice_bounds-put_settled-end : goal.slice_bounds-put_settled-end
-slice_bounds-put_settled-end c = sym (length-take-le c.args.header.edges c.args.heads.now c.requires.1.1.heads)
+slice_bounds-put_settled-end c = sym (length-take-le c.args.header.edges c.args.heads.now c.requires.lent.heads)
 
 pub slice_bounds-put_settled-end-2 : goal.slice_bounds-put_settled-end-2
-slice_bounds-put_settled-end-2 c = sym (length-take-le c.args.header.edges c.args.own.now c.requires.1.1.own)
+slice_bounds-put_settled-end-2 c = sym (length-take-le c.args.header.edges c.args.own.now c.requires.lent.own)
 
 pub slice_bounds-put_settled-end-3 : goal.slice_bounds-put_settled-end-3
-slice_bounds-put_settled-end-3 c = sym (length-take-le c.args.header.edges c.args.strikes.now c.requires.1.1.strikes)
+slice_bounds-put_settled-end-3 c = sym (length-take-le c.args.header.edges c.args.strikes.now c.requires.lent.strikes)
 
 pub slice_bounds-put_settled-end-4 : goal.slice_bounds-put_settled-end-4
-slice_bounds-put_settled-end-4 c = sym (length-take-le (2 * c.args.header.edges) c.args.spans.now c.requires.1.1.spans)
+slice_bounds-put_settled-end-4 c = sym (length-take-le (2 * c.args.header.edges) c.args.spans.now c.requires.lent.spans)
 
 pub slice_bounds-put_settled-end-5 : goal.slice_bounds-put_settled-end-5
-slice_bounds-put_settled-end-5 c = sym (length-take-le c.args.header.listed c.args.tails.now c.requires.1.1.tails)
+slice_bounds-put_settled-end-5 c = sym (length-take-le c.args.header.listed c.args.tails.now c.requires.lent.tails)
 
 pub slice_bounds-put_settled-end-6 : goal.slice_bounds-put_settled-end-6
-slice_bounds-put_settled-end-6 c = zeros_long c.args.header.vertices c.requires.1.1.few
+slice_bounds-put_settled-end-6 c = zeros_long c.args.header.vertices c.requires.lent.few
 
 pub slice_bounds-put_settled-end-7 : goal.slice_bounds-put_settled-end-7
-slice_bounds-put_settled-end-7 c = zeros_long c.args.header.vertices c.requires.1.1.few
+slice_bounds-put_settled-end-7 c = zeros_long c.args.header.vertices c.requires.lent.few
 
 pub slice_bounds-put_settled-end-8 : goal.slice_bounds-put_settled-end-8
-slice_bounds-put_settled-end-8 c = zeros_long c.args.header.vertices c.requires.1.1.few
+slice_bounds-put_settled-end-8 c = zeros_long c.args.header.vertices c.requires.lent.few
 
 pub slice_bounds-put_settled-end-9 : goal.slice_bounds-put_settled-end-9
-slice_bounds-put_settled-end-9 c = zeros_long c.args.header.vertices c.requires.1.1.few
+slice_bounds-put_settled-end-9 c = zeros_long c.args.header.vertices c.requires.lent.few
 
 pub put_settled-requires : goal.put_settled-requires
-put_settled-requires c = (c.requires.0, (c.requires.1.0, c.requires.1.1.few))
+put_settled-requires c = record { most_reply_in_bounds = c.requires.most_reply_in_bounds; n_le_most_vertices = c.requires.n_le_most_vertices; k_le_most_vertices = c.requires.lent.few }
 
 pub returns : goal.returns
 returns c =
     let one : Entries = let a = c.args in entries a.weights.now a.depths.now a.edges.now a.pieces.now in
     let table : Columns = lent_columns c.args.header c.args.heads.now c.args.own.now c.args.strikes.now c.args.spans.now c.args.tails.now in
     let g = c.args.header in
-    replied_as _ _ _ (blank_said c.args.n g.vertices one g.measure table c.requires.1.1.few) c.put_settled.ensures
+    replied_as _ _ _ (blank_said c.args.n g.vertices one g.measure table c.requires.lent.few) c.put_settled.ensures

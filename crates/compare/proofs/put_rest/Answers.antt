@@ -1,5 +1,5 @@
 -- `compare::put_rest` meets its contract: the state, and the figure in the room behind it. Assumes nothing.
-use mathlib.Core.List.{List, ◌∷◌, ◌++◌}
+use mathlib.Core.List.{List, ◌∷◌, ◌++◌, []}
 use Prim.Native.Nat.{ℕ, ◌≤◌}
 use native.Mathlib.Omega.{arith}
 use borrow.Author.Rules.{rules}
@@ -28,7 +28,7 @@ slice_bounds-put_tail-count c =
     within front _ _ _ c.put_state-at.ensures back whole
 
 pub slice_bounds-put_tail-start : goal.slice_bounds-put_tail-start
-slice_bounds-put_tail-start c = let r = sub-put-tail c in search (rules, r)
+slice_bounds-put_tail-start c = let r = slice_bounds-put_tail-count c in search (rules, r)
 
 pub put_tail-width-requires : goal.put_tail-width-requires
 put_tail-width-requires c =
@@ -38,12 +38,6 @@ put_tail-width-requires c =
     let whole : length (front ++ back) ≤ length c.args.room.now = let s = short in let p = c.requires in omega arith in
     lent-room front _ _ _ c.put_state-at.ensures back whole
 
-pub overflow_add-result : goal.overflow_add-result
-overflow_add-result c = let n = (returns c).1 in omega arith
-
-pub shape_of-room : goal.shape_of-room
-shape_of-room c = (returns c).0.long
-
 pub returns : goal.returns
 unfolding rest
 returns c =
@@ -52,4 +46,10 @@ returns c =
     let short : length (front ++ back) ≤ most_rest = rest_most c.args.state c.args.figure c.ranges.figure.fits in
     let whole : length (front ++ back) ≤ length c.args.room.now = let s = short in let p = c.requires in omega arith in
     let w = written_part front _ _ _ c.put_state-at.ensures back _ _ whole c.put_tail-width.ensures in
-    (w, (let l = short in let n = w.count in omega arith))
+    record { written = w; upper_bound = let l = short in let n = w.count in omega arith }
+
+pub overflow_add-result : goal.overflow_add-result
+overflow_add-result c = let n = (returns c).upper_bound in omega arith
+
+pub shape_of-room : goal.shape_of-room
+shape_of-room c = (returns c).written.long

@@ -8,12 +8,9 @@ use Rattle.compare.proofs.put_row_if.Goals as goal
 pub returns-then-agrees : goal.returns-then-agrees
 returns-then-agrees c =
     let a = c.args in
-    (written_as _ _ _ (sym (no_row a.v a.first a.second (sym c.agrees.ensures ∙ c.if-agrees.true))) (written_none _), omega arith)
-
-pub shape_of-room : goal.shape_of-room
-shape_of-room c = (returns-2 c).0.long
+    record { written = written_as _ _ _ (sym (no_row a.v a.first a.second (sym c.agrees.ensures ∙ c.if-agrees.true))) (written_none _); upper_bound = omega arith }
 
 pub returns : goal.returns
 returns c =
     let a = c.args in
-    (written_as _ _ _ (sym (a_row a.v a.first a.second (sym c.agrees.ensures ∙ c.if-agrees.false))) c.put_row.ensures.0, c.put_row.ensures.1)
+    record { written = written_as _ _ _ (sym (a_row a.v a.first a.second (sym c.agrees.ensures ∙ c.if-agrees.false))) c.put_row.ensures.written; upper_bound = c.put_row.ensures.upper_bound }

@@ -15,9 +15,9 @@ returns-in-Refused c =
 pub put_differences-width-requires : goal.put_differences-width-requires
 put_differences-width-requires c =
     let e = c.greater-parts.ensures in
-    let l = c.requires.0 in
-    let n = c.requires.1.0 in
-    let k = c.requires.1.1 in
+    let l = c.requires.most_reply_in_bounds in
+    let n = c.requires.n_le_most_vertices in
+    let k = c.requires.k_le_most_vertices in
     omega arith
 
 pub returns : goal.returns
