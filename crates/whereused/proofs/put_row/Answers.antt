@@ -1,5 +1,5 @@
 -- `whereused::put_row` meets its contract: the number, and the line in the room behind it. Assumes nothing.
-use mathlib.Core.List.{List, ◌∷◌, ◌++◌}
+use mathlib.Core.List.{List, ◌∷◌, ◌++◌, []}
 use Prim.Native.Nat.{ℕ, ◌≤◌}
 use native.Mathlib.Omega.{arith}
 use borrow.Author.Rules.{rules}
@@ -24,7 +24,7 @@ slice_bounds-put_spaced_edge-count c =
     within front _ _ _ c.put_number-at.ensures back whole
 
 pub slice_bounds-put_spaced_edge-start : goal.slice_bounds-put_spaced_edge-start
-slice_bounds-put_spaced_edge-start c = let r = sub-put-spaced-edge c in search (rules, r)
+slice_bounds-put_spaced_edge-start c = let r = slice_bounds-put_spaced_edge-count c in search (rules, r)
 
 pub put_spaced_edge-width-requires : goal.put_spaced_edge-width-requires
 put_spaced_edge-width-requires c =
@@ -32,6 +32,13 @@ put_spaced_edge-width-requires c =
     let front : List ℕ = digits c.args.e.0 in
     let whole : length (front ++ back) ≤ length c.args.room.now = c.requires in
     lent-room front _ _ _ c.put_number-at.ensures back whole
+
+pub returns : goal.returns
+returns c =
+    let back : List ℕ = 32 ∷ (edge_text (edge c.args.head.0 c.args.own.0 c.args.mark.0 c.args.tail.now) ++ 10 ∷ []) in
+    let front : List ℕ = digits c.args.e.0 in
+    let whole : length (front ++ back) ≤ length c.args.room.now = c.requires in
+    written_part front _ _ _ c.put_number-at.ensures back _ _ whole c.put_spaced_edge-width.ensures
 
 pub overflow_add-result : goal.overflow_add-result
 overflow_add-result c =
@@ -41,10 +48,3 @@ overflow_add-result c =
 
 pub shape_of-room : goal.shape_of-room
 shape_of-room c = (returns c).long
-
-pub returns : goal.returns
-returns c =
-    let back : List ℕ = 32 ∷ (edge_text (edge c.args.head.0 c.args.own.0 c.args.mark.0 c.args.tail.now) ++ 10 ∷ []) in
-    let front : List ℕ = digits c.args.e.0 in
-    let whole : length (front ++ back) ≤ length c.args.room.now = c.requires in
-    written_part front _ _ _ c.put_number-at.ensures back _ _ whole c.put_spaced_edge-width.ensures

@@ -2,7 +2,6 @@
 use mathlib.Core.Path.{sym, ◌∙◌}
 use Prim.Native.Nat.{ℕ}
 use native.Mathlib.Omega.{arith}
-use borrow.Author.Tests.{not-true, not-false}
 use Rattle.columns.specs.Columns.{Columns, columns}
 use Rattle.whereused.proofs.Rows.{row_fits, used_not, used}
 use Rattle.whereused.proofs.put_use.Goals as goal
@@ -14,7 +13,7 @@ pub returns-then-not-stands_in : goal.returns-then-not-stands_in
 returns-then-not-stands_in c =
     let line : ℕ = c.args.e.0 in
     let table_of : Columns = let a = c.args in columns 0 a.heads.now a.own.now a.strikes.now a.spans.now a.tails.now in
-    (used_not table_of c.args.part.0 line _ c.tail_of-tail.ensures _ (sym c.stands_in.ensures ∙ not-true _ c.if-not-stands_in.true), omega arith)
+    record { fact = used_not table_of c.args.part.0 line _ c.tail_of-tail.ensures _ (sym c.stands_in.ensures ∙ c.if-not-stands_in.true); upper_bound = omega arith }
 
 pub put_row-requires : goal.put_row-requires
 put_row-requires c =
@@ -24,14 +23,8 @@ put_row-requires c =
     let r = c.requires.room in
     omega arith
 
-pub shape_of-room : goal.shape_of-room
-shape_of-room c = (returns-2 c).0.long
-
 pub returns : goal.returns
 returns c =
     let line : ℕ = c.args.e.0 in
     let table_of : Columns = let a = c.args in columns 0 a.heads.now a.own.now a.strikes.now a.spans.now a.tails.now in
-    let f = row_fits table_of c.args.part.0 line _ c.tail_of-tail.ensures _ c.requires in (
-      used table_of c.args.part.0 line _ c.tail_of-tail.ensures _ _ _ (sym c.stands_in.ensures ∙ not-false _ c.if-not-stands_in.false) c.put_row.ensures,
-      (let m = c.put_row.ensures.count in omega arith),
-    )
+    let f = row_fits table_of c.args.part.0 line _ c.tail_of-tail.ensures _ c.requires in record { fact = used table_of c.args.part.0 line _ c.tail_of-tail.ensures _ _ _ (sym c.stands_in.ensures ∙ c.if-not-stands_in.false) c.put_row.ensures; upper_bound = let m = c.put_row.ensures.count in omega arith }

@@ -13,10 +13,7 @@ use Rattle.whereused.proofs.Said.{reply_absent, reply_rows}
 use Rattle.whereused.proofs.put_uses.Goals as goal
 
 pub put_refusal-requires : goal.put_refusal-requires
-put_refusal-requires c = (let p = c.requires.1 in omega arith)
-
-pub shape_of-room-then-part-n : goal.shape_of-room-then-part-n
-shape_of-room-then-part-n c = (returns c).written.long
+put_refusal-requires c = (let p = c.requires.most_reply_in_bounds in omega arith)
 
 pub returns-then-part-n : goal.returns-then-part-n
 returns-then-part-n c =
@@ -30,43 +27,43 @@ loop-i-init c = (omega arith, written_none _, omega arith)
 pub slice_bounds-put_use-count : goal.slice_bounds-put_use-count
 slice_bounds-put_use-count c =
     let table_of : Columns = columns c.args.n c.args.heads.now c.args.own.now c.args.strikes.now c.args.spans.now c.args.tails.now in
-    let few : length c.args.heads.now ≤ most_edges = (table_accepted table_of c.requires.0).edges in
+    let few : length c.args.heads.now ≤ most_edges = (table_accepted table_of c.requires.tails_value).edges in
     let g = c.loop-i in
-    use_starts table_of c.args.part.0 _ _ g.i (length c.args.heads.now) g.at c.loop-i-test.true g.invariant.1 g.invariant.2 few c.requires.1
+    use_starts table_of c.args.part.0 _ _ g.i (length c.args.heads.now) g.at c.loop-i-test.true g.invariant.1 g.invariant.2 few c.requires.most_reply_in_bounds
 
 pub slice_bounds-put_use-start : goal.slice_bounds-put_use-start
-slice_bounds-put_use-start c = let r = sub-put-use c in search (rules, r)
+slice_bounds-put_use-start c = let r = slice_bounds-put_use-count c in search (rules, r)
 
 pub put_use-at-requires : goal.put_use-at-requires
 put_use-at-requires c =
     let table_of : Columns = columns c.args.n c.args.heads.now c.args.own.now c.args.strikes.now c.args.spans.now c.args.tails.now in
-    let few : length c.args.heads.now ≤ most_edges = (table_accepted table_of c.requires.0).edges in
+    let few : length c.args.heads.now ≤ most_edges = (table_accepted table_of c.requires.tails_value).edges in
     let g = c.loop-i in
     let h = c.loop-i-test.true in
-    row_in table_of g.i _ c.requires.0 h
-    (use_room table_of c.args.part.0 _ _ g.i (length c.args.heads.now) g.at h g.invariant.1 g.invariant.2 few c.requires.1)
-
-pub overflow_add-at : goal.overflow_add-at
-overflow_add-at c =
-    let table_of : Columns = columns c.args.n c.args.heads.now c.args.own.now c.args.strikes.now c.args.spans.now c.args.tails.now in
-    let few : length c.args.heads.now ≤ most_edges = (table_accepted table_of c.requires.0).edges in
-    let a = (loop-again c).2 in
-    let h = c.loop-i-test.true in
-    let f = few in
-    omega arith
+    row_in table_of g.i _ c.requires.tails_value h
+    (use_room table_of c.args.part.0 _ _ g.i (length c.args.heads.now) g.at h g.invariant.1 g.invariant.2 few c.requires.most_reply_in_bounds)
 
 pub loop-i-preserved : goal.loop-i-preserved
 unfolding use_row
 loop-i-preserved c =
     let table_of : Columns = columns c.args.n c.args.heads.now c.args.own.now c.args.strikes.now c.args.spans.now c.args.tails.now in
-    let few : length c.args.heads.now ≤ most_edges = (table_accepted table_of c.requires.0).edges in
+    let few : length c.args.heads.now ≤ most_edges = (table_accepted table_of c.requires.tails_value).edges in
     let g = c.loop-i in
     let h = c.loop-i-test.true in
     let e = c.put_use-at.ensures in (
       omega arith,
-      use_next table_of c.args.part.0 _ _ g.i (length c.args.heads.now) g.at h g.invariant.1 g.invariant.2 few c.requires.1 _ _ e.1 e.0,
-      (let a = g.invariant.2 in let b = e.1 in omega arith),
+      use_next table_of c.args.part.0 _ _ g.i (length c.args.heads.now) g.at h g.invariant.1 g.invariant.2 few c.requires.most_reply_in_bounds _ _ e.upper_bound e.fact,
+      (let a = g.invariant.2 in let b = e.upper_bound in omega arith),
     )
+
+pub overflow_add-at : goal.overflow_add-at
+overflow_add-at c =
+    let table_of : Columns = columns c.args.n c.args.heads.now c.args.own.now c.args.strikes.now c.args.spans.now c.args.tails.now in
+    let few : length c.args.heads.now ≤ most_edges = (table_accepted table_of c.requires.tails_value).edges in
+    let a = (loop-i-preserved c).2 in
+    let h = c.loop-i-test.true in
+    let f = few in
+    omega arith
 
 pub shape_of-room : goal.shape_of-room
 shape_of-room c = c.loop-i.invariant.1.long
