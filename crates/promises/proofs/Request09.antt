@@ -1,5 +1,5 @@
 -- Document 02, change request 2026-09. Assumes nothing.
-use mathlib.Core.Path.{◌≡◌, refl, sym, ◌∙◌, ap, subst, fun_ext}
+use mathlib.Core.Path.{◌≡◌, refl, sym, ◌∙◌, ap, fun_ext}
 use mathlib.Core.List.{List, [], ◌∷◌}
 use Prim.Native.Nat.{ℕ, ◌≤◌, ◌<◌, min}
 use native.Mathlib.Omega.{arith}
@@ -33,7 +33,7 @@ use Rattle.tables.specs.Table.{hypergraph}
 use Rattle.settle.specs.Settling.{answers_of, entries_of, settled}
 use Rattle.settle.specs.Checking.{checked}
 use Rattle.settle.specs.Defined.{AllMean}
-use Rattle.settle.proofs.Demands.{answers_fixpoint, entries_at, entries_mean, demand_2, yes_only}
+use Rattle.settle.proofs.Demands.{answers_fixpoint, entries_at, demand_2, yes_only}
 use Rattle.settle.proofs.Exactly.{yes_exactly, no_exactly}
 use Rattle.reprice.specs.Changes.{Named, WrongChange}
 use Rattle.reprice.specs.Repricing.{repriced, stricken, restored}

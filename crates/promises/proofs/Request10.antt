@@ -2,7 +2,7 @@
 use mathlib.Core.Path.{◌≡◌, refl}
 use mathlib.Core.Bool.{Bool}
 use mathlib.Core.List.{List, [], ◌∷◌, ◌++◌}
-use Prim.Native.Nat.{ℕ, ◌+◌, ◌≤◌, ◌<◌, min}
+use Prim.Native.Nat.{ℕ, ◌<◌, min}
 use native.Mathlib.Omega.{arith}
 use borrow.Author.Tests.{ne_eqb}
 use Rattle.weights.specs.declared.Measure.TheVariants.{Grade}
@@ -12,7 +12,7 @@ use Rattle.weights.specs.Laws.{Ordered}
 use Rattle.weights.proofs.Laws.{reversed}
 use Rattle.weights.proofs.Weighing.{weigh-grade}
 use Rattle.refusal.specs.declared.Acceptance.TheVariants.{Accepted}
-use Rattle.refusal.specs.declared.Refusal.TheVariants.{Text, MeasureNumber}
+use Rattle.refusal.specs.declared.Refusal.TheVariants.{MeasureNumber}
 use Rattle.refusal.specs.declared.MeasureChoice.TheVariants as choice
 use Rattle.refusal.specs.declared.Reading.TheVariants as reading
 use Rattle.refusal.specs.Refusals.{measure_of}
@@ -30,7 +30,7 @@ use Rattle.settle.proofs.Demands.{demand_2}
 use Rattle.settle.proofs.Worth.{grade-greatest, grade-low}
 use Rattle.reprice.specs.Demand3.{labels_of, state_in, Pair}
 use Rattle.bill.proofs.Rises.{demand_3_billed}
-use Rattle.text.specs.Tables.{Table, listed_in_all}
+use Rattle.text.specs.Tables.{listed_in_all}
 use Rattle.text.specs.Render.{digits, word, first_word, measure_text, header}
 use Rattle.text.specs.Worked.{grade_text}
 use Rattle.text.specs.Machine.{limit, line_at, digit_of, grown, instead, after, spell, named, ended, step, run, Whole, finish, parse}

@@ -28,7 +28,7 @@ use Rattle.settle.specs.Settling.{answers_of, entries_of}
 use Rattle.reprice.specs.Repricing.{line_acceptance, reprice_acceptance, repriced, numbered_acceptance, struck_acceptance, restore_acceptance, restored}
 use Rattle.bill.specs.Billing.{bill_of, part_acceptance, bill_acceptance, billed}
 use Rattle.text.specs.Tables.{listed_in_all}
-use Rattle.text.specs.Render.{word, first_word, Permitted}
+use Rattle.text.specs.Render.{first_word, Permitted}
 use Rattle.text.specs.Worked.{cost_text}
 use Rattle.text.specs.Machine.{limit, line_at, digit_of, grown, instead, after, spell, named, ended, step, run, finish, parse}
 use Rattle.text.specs.Bytes.{survived, column_from, column_of}
