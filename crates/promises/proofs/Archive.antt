@@ -27,9 +27,39 @@ use Rattle.writetable.specs.Write.{write_table}
 use Rattle.statistics.specs.Summaries.{summary_of}
 use Rattle.shuffle.specs.Shuffled.{shuffle_outcome, unshuffle_outcome}
 use Rattle.counter.specs.Decoded.{Decoded, extent_of, measured}
-use Rattle.tozbierdu.specs.Results.{checked_result, stricken_result, restored_result, read_result, written_result, indexed_result, appended_result, summary_left, ordered_result, replayed_result, laid_result, state_number, entry_written, text_column}
+use Rattle.tozbierdu.specs.Results.{
+  checked_result,
+  stricken_result,
+  restored_result,
+  read_result,
+  written_result,
+  indexed_result,
+  appended_result,
+  summary_left,
+  ordered_result,
+  replayed_result,
+  laid_result,
+  state_number,
+  entry_written,
+  text_column,
+}
 use Rattle.tozbierdu.specs.Decoded.{verdict_extent, reading_extent, appending_extent, summary_extent}
-use Rattle.tozbierdu.proofs.Decoded.{check_table_decoded, check_order_decoded, index_table_decoded, check_answers_decoded, settle_ordered_decoded, strike_decoded, restore_decoded, append_decoded, replay_decoded, read_table_decoded, write_table_decoded, summarize_decoded, shuffle_decoded, unshuffle_decoded}
+use Rattle.tozbierdu.proofs.Decoded.{
+  check_table_decoded,
+  check_order_decoded,
+  index_table_decoded,
+  check_answers_decoded,
+  settle_ordered_decoded,
+  strike_decoded,
+  restore_decoded,
+  append_decoded,
+  replay_decoded,
+  read_table_decoded,
+  write_table_decoded,
+  summarize_decoded,
+  shuffle_decoded,
+  unshuffle_decoded,
+}
 use mathlib.Core.Path.{◌≡◌, ap}
 
 -- below 4,294,967,296 the number is an acceptance: 0, 1 for yes, or a length; else quotient and remainder are the refusal's number and its place

@@ -8,6 +8,9 @@ pub mod Indexing
 pub mod Appends
 pub mod Gaps
 pub mod Elsewhere
+pub mod Samples
+pub mod Commands
+pub mod Records
 pub mod Demand1
 pub mod Demand2
 pub mod Demand3
