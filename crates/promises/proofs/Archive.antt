@@ -1,17 +1,27 @@
 -- The archive for C, `libtozbierdu.a`: what a program in C can tell from the number that each call gives it. Of settle, reprice and bill Demand1 says it. Assumes nothing.
-use mathlib.Core.List.{List}
-use Prim.Native.Nat.{ℕ}
+use mathlib.Core.List.{List, [], ◌∷◌}
+use Prim.Native.Nat.{ℕ, ◌<◌}
+use lib.ListN.{length}
+use borrow.Author.Tests.{eq-eqb, ne_eqb}
+use Rattle.weights.proofs.States.{unmade_state, over_state, made_state}
 use Rattle.refusal.specs.declared.Counts.{Counts}
 use Rattle.refusal.specs.Refusals.{acceptance_result, measure_of}
-use Rattle.columns.specs.Columns.{Entries, Columns}
+use Rattle.columns.specs.Columns.{Entries, Columns, cell}
 use Rattle.columns.specs.Acceptance.{acceptance}
 use Rattle.columns.specs.Longer.{NewLine}
 use Rattle.indextable.specs.Index.{table_indexed}
+use Rattle.settle.specs.Settling.{entry_at}
 use Rattle.settle.specs.Checking.{checked}
 use Rattle.topological.specs.Ordering.{ordered_acceptance, settled_in_order}
 use Rattle.reprice.specs.Repricing.{stricken, restored}
 use Rattle.append.specs.Appending.{appended}
 use Rattle.inventory.specs.Replaying.{replayed}
+use Rattle.text.specs.Render.{Permitted}
+use Rattle.text.specs.Machine.{Parse, parse}
+use Rattle.text.specs.Bytes.{column_of, FirstByte}
+use Rattle.text.proofs.Permitted.{permitted_read}
+use Rattle.text.proofs.Bytes.{first_byte}
+use Rattle.reading.specs.Lines.{reading_of}
 use Rattle.readtable.specs.Read.{read_table}
 use Rattle.writetable.specs.Write.{write_table}
 use Rattle.statistics.specs.Summaries.{summary_of}
@@ -29,6 +39,9 @@ use Rattle.tozbierdu.specs.Results.{
   ordered_result,
   replayed_result,
   laid_result,
+  state_number,
+  entry_written,
+  text_column,
 }
 use Rattle.tozbierdu.specs.Decoded.{verdict_extent, reading_extent, appending_extent, summary_extent}
 use Rattle.tozbierdu.proofs.Decoded.{
@@ -47,6 +60,7 @@ use Rattle.tozbierdu.proofs.Decoded.{
   shuffle_decoded,
   unshuffle_decoded,
 }
+use mathlib.Core.Path.{◌≡◌, ap}
 
 -- below 4,294,967,296 the number is an acceptance: 0, 1 for yes, or a length; else quotient and remainder are the refusal's number and its place
 module _ (c : Columns) where
@@ -100,3 +114,29 @@ c_shuffle_tells = shuffle_decoded
 
 pub c_unshuffle_tells : (bytes own : List ℕ) → let x = unshuffle_outcome bytes own in Decoded (extent_of x.answer) (laid_result x).result
 c_unshuffle_tells = unshuffle_decoded
+
+-- two that refuse nothing. The column of a text that is not permitted is that of its first byte that can't stand there (2026-06), and of a permitted one 0
+module _ (text : List ℕ) where
+  pub c_text_column : ¬ Permitted text → (line column : ℕ) × FirstByte text line column × (text_column (reading_of text (parse text)) ≡ column)
+  c_text_column n = let u = first_byte text n in (u.0, column_of text, u.3, ap (λ (x : Parse). text_column (reading_of text x)) u.1)
+
+  pub c_text_permitted : Permitted text → text_column (reading_of text (parse text)) ≡ 0
+  c_text_permitted p = ap (λ (x : Parse). text_column (reading_of text x)) (permitted_read text p)
+
+-- the entry of part v: 2 for unmade, 1 for over, 0 for made; and where four places are lent, figure, depth, line and piece count
+module _ (a : Entries) (v : ℕ) where
+  pub c_entry_state : let w = cell a.labels.weights v in let d = cell a.labels.depths v in
+      (d ≡ 0 → state_number (entry_at a v).state ≡ 2)
+      × ((0 < d) × (w ≡ 1_000_000_000_001) → state_number (entry_at a v).state ≡ 1)
+      × ((0 < d) × ¬ (w ≡ 1_000_000_000_001) → state_number (entry_at a v).state ≡ 0)
+  c_entry_state =
+      let w = cell a.labels.weights v in
+      let d = cell a.labels.depths v in
+      (λ h. ap state_number ((unmade_state w d).1 h), λ h. ap state_number ((over_state w d).1 h), λ h. ap state_number ((made_state w d).1 h))
+
+  pub c_entry_written : (room : List ℕ) → length room ≡ 4
+      → entry_written (entry_at a v) room ≡ cell a.labels.weights v ∷ cell a.labels.depths v ∷ cell a.labels.edges v ∷ cell a.pieces v ∷ []
+  c_entry_written room h = rw (eq-eqb (length room) 4 h)
+
+  pub c_entry_kept : (room : List ℕ) → ¬ (length room ≡ 4) → entry_written (entry_at a v) room ≡ room
+  c_entry_kept room n = rw (ne_eqb (length room) 4 n)

@@ -1,5 +1,16 @@
 pub mod Fixed
 pub mod Bills
+pub mod Values
+pub mod Rising
+pub mod Tokens
+pub mod FirstBytes
+pub mod Indexing
+pub mod Appends
+pub mod Gaps
+pub mod Elsewhere
+pub mod Samples
+pub mod Commands
+pub mod Records
 pub mod Demand1
 pub mod Demand2
 pub mod Demand3

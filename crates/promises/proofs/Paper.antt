@@ -1,15 +1,15 @@
 -- The rest of document 01, in its order. What it says of the calls' results stands in Demand1, of entries in Demand2. Assumes nothing.
-use mathlib.Core.Path.{◌≡◌, refl}
+use mathlib.Core.Path.{◌≡◌, refl, sym, ◌∙◌}
 use mathlib.Core.Logic.{◌⊎◌, ◌↔◌}
-use mathlib.Core.List.{List, [], ◌∷◌}
+use mathlib.Core.List.{List, [], ◌∷◌, ◌++◌}
 use Prim.Native.Nat.{ℕ, ◌+◌, ◌≤◌, ◌<◌}
 use native.Mathlib.Omega.{arith}
 use borrow.Author.Tests.{eqb-false, not-true}
-use lib.ListN.{length, set, take}
+use lib.ListN.{length, set, take, get_or, drop}
 use lib.IntN.{ℤ, pos}
 use Rattle.weights.specs.declared.Measure.{Measure}
 use Rattle.weights.specs.declared.State.TheVariants.{Made, Over, Unmade}
-use Rattle.weights.specs.Figures.{struck_mark, ceiling, over, capped}
+use Rattle.weights.specs.Figures.{struck_mark, ceiling, over, capped, greatest}
 use Rattle.weights.specs.Measures.{cost, algebra}
 use Rattle.weights.specs.Labels.{state_of, label_state}
 use Rattle.weights.specs.Laws.{Lawful}
@@ -23,7 +23,7 @@ use Rattle.refusal.specs.declared.Verdict.TheVariants.{Yes}
 use Rattle.refusal.specs.declared.Extent.TheVariants as extent
 use Rattle.refusal.specs.declared.Reading.TheVariants as reading
 use Rattle.columns.specs.Columns.{Entries, Columns, strike_at, with_own, with_strike}
-use Rattle.columns.specs.Acceptance.{acceptance}
+use Rattle.columns.specs.Acceptance.{acceptance, most_vertices}
 use Rattle.columns.specs.Filled.{filled}
 use Rattle.columns.specs.Gaps.{Gapped, with_tails}
 use Rattle.columns.specs.Right.{RightTable, WrongTable, RightLent}
@@ -53,16 +53,25 @@ use Rattle.reprice.proofs.Changes.{reprice_leaves, strike_leaves}
 use Rattle.bill.specs.Billing.{bill_of, billed}
 use Rattle.bill.specs.Bills.{IsBill, Printed}
 use Rattle.bill.proofs.Bills.{bill_printed}
-use Rattle.text.specs.Tables.{Table, closed}
-use Rattle.text.specs.Render.{Permitted}
+use Rattle.text.specs.Tables.{Table, closed, Edge, table_of}
+use Rattle.text.specs.Render.{Permitted, digits, own_text, header, text_of}
+use Rattle.text.specs.Permitted.{FirstWrong}
+use Rattle.text.specs.Machine.{Whole, Wrong, parse}
+use Rattle.text.specs.Bytes.{FirstByte}
 use Rattle.text.specs.Worked.{cost_text, days_text}
+use Rattle.text.proofs.Permitted.{permitted_read, unpermitted_wrong}
 use Rattle.readtable.specs.Read.{columns_read, read_table}
 use Rattle.roundtrip.specs.RoundTrip.{Room, filled_with}
 use Rattle.roundtrip.proofs.RoundTrip.{read_after_write, write_after_read, read_accepted}
 use Rattle.roundtrip.proofs.Texts.{permitted_same}
 use Rattle.writetable.specs.Write.{write_outcome, write_table}
-use Rattle.reader.specs.Walk.{Walks, Counted}
-use Rattle.reader.proofs.Walking.{walk_permitted, permitted_walk}
+use Rattle.cursor.specs.declared.Found.TheVariants.{Number}
+use Rattle.cursor.specs.declared.FoundWeight.TheVariants.{Own}
+use Rattle.cursor.specs.declared.Separator.TheVariants.{Space, LineEnd}
+use Rattle.cursor.specs.Cursor.{token, number_at, weight_token, weight_at, separator_at}
+use Rattle.reading.specs.Lines.{Opens, Unopened, first_line, Holds, row_at}
+use Rattle.reader.specs.Walk.{Walks, Counted, Line, Formed}
+use Rattle.reader.proofs.Walking.{walk_permitted, permitted_walk, walk_text, text_walk}
 use Rattle.report.specs.Report.{refused_line, report}
 use Rattle.report.specs.Prints.{Prints, ReadsBack}
 use Rattle.report.specs.Examples.{cost_list, days_list}
@@ -75,7 +84,10 @@ use Rattle.input.proofs.Whole.{whole_reported}
 use Rattle.examples.specs.Case.{AllHold}
 use Rattle.examples.specs.Paper.{cases}
 use Rattle.examples.proofs.Paper.{every_case_holds, worked_pair}
+use Rattle.promises.specs.Reads.{Reads}
 use Rattle.promises.proofs.Bills.{right_bill}
+use Rattle.promises.proofs.Gaps.{reprice_gaps, strike_gaps, bill_gaps, write_gaps}
+use Rattle.promises.proofs.Tokens.{number_exactly, weight_exactly, space_exactly, end_exactly, line_exactly, first_exactly, first_refused_exactly}
 
 -- The source ---------------------------------------------------------------------------------------------------------------------------------------------------------
 
@@ -106,6 +118,20 @@ module _ (c : Columns) where
   -- "Gaps may stand between spans and their contents are never looked at"
   pub gaps_unseen : (tails : List ℕ) → Gapped c tails → acceptance c ≡ acceptance (with_tails c tails)
   gaps_unseen = gaps_accepted c
+
+  -- nor do the calls: with other contents in the gaps each returns and leaves the same, accepted or refused (settling and the answer check: Demand2)
+  module _ (m : Measure) (tails : List ℕ) (g : Gapped c tails) where
+    pub reprice_over_gaps : (a : Entries) (e w : ℕ) → repriced m c a e w ≡ repriced m (with_tails c tails) a e w
+    reprice_over_gaps = reprice_gaps c tails g m
+
+    pub strike_over_gaps : (a : Entries) (e : ℕ) → stricken m c a e ≡ stricken m (with_tails c tails) a e
+    strike_over_gaps = strike_gaps c tails g m
+
+    pub bill_over_gaps : (a : Entries) (v : ℕ) (room : List ℕ) → billed m c a v room ≡ billed m (with_tails c tails) a v room
+    bill_over_gaps = bill_gaps c tails g m
+
+    pub write_over_gaps : (room : List ℕ) → write_table m c room ≡ write_table m (with_tails c tails) room
+    write_over_gaps = write_gaps c tails g m
 
   -- nor does closing them change an answer
   pub gaps_closed : (m : Measure) → acceptance c ≡ Accepted → entries_of m (closed c) ≡ entries_of m c
@@ -201,12 +227,61 @@ over_has_a_bill m c a v l h all s = bill_is m c a v l h all ((means_state m c (l
 pub one_table : (text : List ℕ) (p q : Permitted text) → closed p.table ≡ closed q.table
 one_table = permitted_same
 
+-- and one measure
+pub one_measure : (text : List ℕ) (p q : Permitted text) → p.measure ≡ q.measure
+one_measure text p q = same (sym (permitted_read text p) ∙ permitted_read text q)
+  where
+    same : {t u : Table} → Whole t ≡ Whole u → t.measure ≡ u.measure
+    same e = cc
+
+-- what a text holds: the table that it is of, or else the first line that breaks a rule
+pub text_parsed : (text : List ℕ) (p : Permitted text) → parse text ≡ Whole (table_of p.measure p.table)
+text_parsed = permitted_read
+
+pub text_unparsed : (text : List ℕ) → ¬ Permitted text → (k : ℕ) × (parse text ≡ Wrong k) × FirstWrong text k
+text_unparsed = unpermitted_wrong
+
 -- "Other programs walk the text with a reader that holds the lent text and its place": a walk reaches the end, its counts kept, exactly if the text is permitted
 pub walked_is_permitted : (s : List ℕ) (t : Table) → Walks s t → Counted t → Permitted s
 walked_is_permitted = walk_permitted
 
 pub permitted_is_walked : (s : List ℕ) → Permitted s → (t : Table) × Walks s t × Counted t
 permitted_is_walked = permitted_walk
+
+-- and it passes the table whose text this is, whatever its counts
+pub walked_is_its_text : (s : List ℕ) (t : Table) → Walks s t → Formed t × (s ≡ text_of t)
+walked_is_its_text = walk_text
+
+pub text_is_walked : (t : Table) → Formed t → Walks (text_of t) t
+text_is_walked = text_walk
+
+-- what each function of the reader finds is what stands there: "Numbers are decimal without leading zeros", and "anything but digits ends the reading with a refusal"
+module _ (s : List ℕ) (at next : ℕ) where
+  pub number_found : (limit v : ℕ) → (number_at s at limit ≡ token at next (Number v)) ↔ ((v < limit) × Reads s at next (digits v))
+  number_found = number_exactly s at next
+
+  -- an own figure, with the `-` of a struck line before it
+  pub figure_found : (o k : ℕ) → (weight_at s at ≡ weight_token at next (Own (record { 0 = o }) (record { 0 = k }))) ↔ ((o ≤ greatest) × (k ≤ struck_mark) × Reads s at next (own_text o k))
+  figure_found = weight_exactly s at next
+
+  -- a space, or an LF
+  pub space_found : (separator_at s at ≡ Space next) ↔ ((next ≡ at + 1) × (get_or s at 0 ≡ 32))
+  space_found = space_exactly s at next
+
+  pub end_found : (separator_at s at ≡ LineEnd next) ↔ ((next ≡ at + 1) × (get_or s at 0 ≡ 10))
+  end_found = end_exactly s at next
+
+  -- a whole table line of at most `most` listed parts, as a walk passes it field by field
+  pub line_found : (n most : ℕ) (e : Edge) → (row_at s n most at ≡ Holds e next) ↔ (Line s n at e next × (length e.tail ≤ most))
+  line_found n most e = line_exactly s n most at e next
+
+pub first_line_found : (s : List ℕ) (n start : ℕ) (m : Measure)
+    → (first_line s ≡ Opens n m start) ↔ ((n ≤ most_vertices) × (start ≡ length (header n m)) × (s ≡ header n m ++ drop start s))
+first_line_found = first_exactly
+
+-- a first line is refused at the text's first byte that can't stand there
+pub first_line_refused : (s : List ℕ) (place : ℕ) → first_line s ≡ Unopened place → FirstByte s 1 (place + 1)
+first_line_refused = first_refused_exactly
 
 -- "Read after write gives the table with its gaps closed", and so the same answers
 module _ (m : Measure) (c : Columns) (room : List ℕ) (k : ℕ) (h o ms s t : List ℕ) (p : (write_table m c room).answer ≡ extent.Length k) (q : Room (closed c) h o ms s t) where

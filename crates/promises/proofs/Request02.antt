@@ -1,14 +1,17 @@
 -- Document 02, change request 2026-02. Assumes nothing.
-use mathlib.Core.Path.{◌≡◌, ap}
-use mathlib.Core.List.{List}
+use mathlib.Core.Path.{◌≡◌, ap, refl}
+use mathlib.Core.List.{List, [], ◌∷◌}
 use Prim.Native.Nat.{ℕ}
 use lib.ListN.{set}
 use Rattle.weights.specs.declared.Measure.{Measure}
+use Rattle.weights.specs.declared.Measure.TheVariants.{Cost}
 use Rattle.weights.specs.Figures.{standing, struck_mark, is_struck_mark}
 use Rattle.refusal.specs.declared.Acceptance.TheVariants.{Accepted}
 use Rattle.refusal.specs.declared.Acceptance.TheVariants as answer
 use Rattle.columns.specs.Columns.{Entries, Columns, strike_at, with_own, with_strike}
+use Rattle.columns.specs.Gaps.{Gapped, with_tails}
 use Rattle.columns.specs.Owed.{Owed}
+use Rattle.columns.specs.Worked.{worked}
 use Rattle.indextable.specs.Index.{index_of}
 use Rattle.indextable.proofs.Told.{index_kept_marked}
 use Rattle.settle.specs.Settling.{entries_of}
@@ -21,8 +24,12 @@ use Rattle.reprice.proofs.Changes.{restore_exactly, restore_refused_exactly, res
 use Rattle.reprice.proofs.Restoring.{strike_restore, restore_strike, restored_then}
 use Rattle.append.specs.Changes.{Priced, Changes, Holds, Kept, KeptStruck}
 use Rattle.append.proofs.Changes.{kept_figure, kept-struck}
+use Rattle.text.specs.Tables.{edges_from, table_of, listed_in_all}
+use Rattle.text.specs.Render.{digits_on, digits, word, first_word, measure_text, header, mark_text, own_text, tail_text, edge_text, edges_text, table_text, render}
+use Rattle.text.specs.Machine.{limit, line_at, digit_of, grown, instead, after, spell, named, ended, step, run, Whole, finish, parse}
 use Rattle.promises.specs.Fixed.{Fixed}
 use Rattle.promises.proofs.Fixed.{fixed}
+use Rattle.promises.proofs.Gaps.{restore_gaps}
 
 -- 2026-02: bring a struck line back ----------------------------------------------------------------------------------------------------------------------------------
 
@@ -41,6 +48,29 @@ module _ (m : Measure) (c : Columns) (a : Entries) (e : ℕ) where
   pub restore_answers : (restored m c a e).result ≡ Accepted
       → Leaves m (with_strike c e standing) (set c.strikes e standing) (restored m c a e).strikes (restored m c a e).left
   restore_answers = restore_leaves m c a e
+
+  -- it does not look at what gaps hold
+  pub restore_over_gaps : (tails : List ℕ) → Gapped c tails → restored m c a e ≡ restored m (with_tails c tails) a e
+  restore_over_gaps tails g = restore_gaps c tails g m a e
+
+-- "The text shows `-` and the kept figure, as `-500`": the worked text with line 2 struck, written and read
+abbrev struck_text : List ℕ
+struck_text =
+    112 ∷ 97 ∷ 114 ∷ 116 ∷ 115 ∷ 32 ∷ 53 ∷ 32 ∷ 99 ∷ 111 ∷ 115 ∷ 116 ∷ 10
+    ∷ 48 ∷ 32 ∷ 49 ∷ 50 ∷ 48 ∷ 48 ∷ 10
+    ∷ 49 ∷ 32 ∷ 51 ∷ 48 ∷ 48 ∷ 10
+    ∷ 50 ∷ 32 ∷ 45 ∷ 53 ∷ 48 ∷ 48 ∷ 32 ∷ 48 ∷ 32 ∷ 49 ∷ 10
+    ∷ 50 ∷ 32 ∷ 50 ∷ 49 ∷ 48 ∷ 48 ∷ 10
+    ∷ 51 ∷ 32 ∷ 48 ∷ 32 ∷ 50 ∷ 32 ∷ 49 ∷ 32 ∷ 49 ∷ 10
+    ∷ 52 ∷ 32 ∷ 49 ∷ 48 ∷ 32 ∷ 52 ∷ 10 ∷ []
+
+pub struck_written : render Cost (with_strike worked 2 struck_mark) ≡ struck_text
+unfolding edges_from digits_on digits word first_word measure_text header mark_text own_text tail_text edge_text edges_text table_text
+struck_written = refl
+
+pub struck_read : parse struck_text ≡ Whole (table_of Cost (with_strike worked 2 struck_mark))
+unfolding edges_from first_word listed_in_all limit line_at digit_of grown instead after spell named ended step run finish parse
+struck_read = refl
 
 -- "Restoring a line directly after striking it gives back the table and answers of before", and the other way round
 module _ (m : Measure) (c : Columns) (a : Entries) (e : ℕ) (d : Defined m c a) where

@@ -21,7 +21,7 @@ use Rattle.provenance.specs.Hypergraph.{Hypergraph, Stands, Derivation, Derivati
 use Rattle.provenance.specs.Labelling.{greatest_depth as greatest_of}
 use Rattle.provenance.specs.Means.{Follows}
 use Rattle.provenance.specs.BestFirst.{labels}
-use Rattle.provenance.specs.Counting.{count}
+use Rattle.provenance.specs.Counting.{count, total}
 use Rattle.provenance.specs.Semirings.{valuation, Valued}
 use Rattle.provenance.specs.BestWeight.{weighted}
 use Rattle.provenance.specs.Paths.{Path, Greatest}
@@ -33,10 +33,13 @@ use Rattle.tables.specs.Table.{hypergraph}
 use Rattle.tables.proofs.Formed.{well_formed}
 use Rattle.settle.specs.Settling.{answers_of, settled}
 use Rattle.settle.proofs.Demands.{answers_fixpoint, demand_2}
+use Rattle.reprice.specs.Demand3.{Pair}
 use Rattle.bill.specs.Listing.{amount}
 use Rattle.examples.specs.Case.{Settles, AllHold}
 use Rattle.examples.specs.Paper.{five, cases}
 use Rattle.examples.proofs.Paper.{every_case_holds}
+use Rattle.promises.specs.Figures.{figure_in}
+use Rattle.promises.proofs.Rising.{rising_path, rising_days, new_figure, old_figure}
 
 -- 2026-03: the bench starts when the last part arrives ---------------------------------------------------------------------------------------------------------------
 
@@ -74,3 +77,18 @@ days_p4 = every_case_holds.1.1.1.1.0
 pub stands_once : (m : Measure) (c : Columns) → RightTable c → {v : ℕ} (t : Derivation (hypergraph c) v) → Follows (labels (answers_of m c)) t
     → (es : List ℕ) → Path t es → (e : ℕ) → count e es ≤ 1
 stands_once m c r = line-once (lawful m) (answers_fixpoint m c ((accepted_exactly c).1 r))
+
+-- so where the line goes up by d, no downward path of the old chosen make-up comes to more than d above what it came to. Hence the days of that make-up rise by at most d (by
+-- `days_come_to`). They were the old figure, and the new figure is at most what they are now
+module _ (c c' : Columns) (e d : ℕ) (p : Pair c c' e d) {v : ℕ} (t : Derivation (hypergraph c) v) (f : Follows (labels (answers_of Days c)) t) where
+  pub path_rises : (es : List ℕ) → Path t es → total (own_at c') es ≤ total (own_at c) es + d
+  path_rises = rising_path c c' e d p t f
+
+  pub make_up_rises : weight days (own_at c') t ≤ weight days (own_at c) t + d
+  make_up_rises = rising_days c c' e d p t f
+
+  pub figure_at_most : figure_in Days c' v ≤ weight days (own_at c') t
+  figure_at_most = new_figure c c' e d p t
+
+  pub figure_was : figure_in Days c v ≡ weight days (own_at c) t
+  figure_was = old_figure c p.accepted t f

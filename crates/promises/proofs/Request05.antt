@@ -1,10 +1,12 @@
 -- Document 02, change request 2026-05. Assumes nothing.
-use mathlib.Core.Path.{◌≡◌}
+use mathlib.Core.Path.{◌≡◌, refl}
 use mathlib.Core.Logic.{◌↔◌, ◌⊎◌}
 use mathlib.Core.List.{List, Perm}
 use Prim.Native.Nat.{ℕ, ◌*◌, ◌≤◌, ◌<◌}
 use lib.ListN.{length, get_or}
+use Rattle.refusal.specs.declared.Observation.{Observation}
 use Rattle.refusal.specs.declared.Refusal.TheVariants.{SampleSize, TooLarge}
+use Rattle.refusal.specs.Refusals.{code, code_of}
 use Rattle.statistics.specs.declared.Fraction.{Fraction}
 use Rattle.statistics.specs.declared.Moments.{Moments}
 use Rattle.statistics.specs.declared.Summary.TheVariants as summary
@@ -61,3 +63,9 @@ summary_size xs = (wrong_size xs, size_refused xs)
 pub summary_large : (xs : List ℕ) (i : ℕ)
     → (summary_of xs ≡ summary.Refused (TooLarge (record { 0 = i }))) ↔ ((1 ≤ length xs) × (length xs ≤ most_results) × FirstTooLarge xs i)
 summary_large xs i = (first_too_large xs i, λ t. large_refused xs i t.0 t.1 t.2)
+
+pub sample_size_is : code_of SampleSize ≡ code 22 0
+sample_size_is = refl
+
+pub too_large_is : (i : Observation) → code_of (TooLarge i) ≡ code 23 i.0
+too_large_is i = refl

@@ -1,7 +1,9 @@
 -- Document 02, change request 2026-08. Assumes nothing.
 use mathlib.Core.Path.{◌≡◌, refl}
 use mathlib.Core.Logic.{◌↔◌}
+use mathlib.Core.List.{List}
 use Prim.Native.Nat.{ℕ, ◌<◌}
+use native.Mathlib.Omega.{arith}
 use lib.ListN.{length}
 use Rattle.weights.specs.declared.Hyperedge.{Hyperedge}
 use Rattle.weights.specs.declared.Measure.{Measure}
@@ -10,16 +12,42 @@ use Rattle.weights.specs.Laws.{Lawful}
 use Rattle.refusal.specs.declared.Refusal.{Refusal}
 use Rattle.refusal.specs.declared.Refusal.TheVariants.{Order}
 use Rattle.refusal.specs.declared.Acceptance.TheVariants.{Accepted, Refused}
+use Rattle.refusal.specs.declared.Verdict.TheVariants as verdict
+use Rattle.refusal.specs.declared.Extent.TheVariants as extent
+use Rattle.refusal.specs.declared.Reading.TheVariants as reading
+use Rattle.refusal.specs.declared.Counts.{Counts}
+use Rattle.refusal.specs.declared.Appending.TheVariants as appending
 use Rattle.refusal.specs.Refusals.{number_of, code, code_of}
 use Rattle.columns.specs.Columns.{Entries, Columns}
-use Rattle.columns.specs.Acceptance.{acceptance}
+use Rattle.columns.specs.Acceptance.{acceptance, lent_acceptance}
+use Rattle.columns.specs.Gaps.{Gapped, with_tails}
+use Rattle.columns.specs.Longer.{NewLine}
 use Rattle.columns.specs.Owed.{Owed}
+use Rattle.columns.proofs.Owed.{check_lent_owes}
 use Rattle.provenance.specs.Hypergraph.{Hypergraph, WellFormed}
 use Rattle.provenance.specs.BestFirst.{best_first}
 use Rattle.provenance.specs.InOrder.{InOrder, in_order}
 use Rattle.provenance.proofs.InOrder.{in_order-best_first}
 use Rattle.settle.specs.Settling.{entries_of, settled}
+use Rattle.settle.specs.Checking.{checked}
 use Rattle.settle.specs.Demands.{Demand2}
+use Rattle.settle.proofs.Owed.{settle_owes}
+use Rattle.reprice.specs.Repricing.{repriced, stricken, restored}
+use Rattle.reprice.proofs.Changes.{reprice_owes, strike_owes, restore_owes}
+use Rattle.bill.specs.Billing.{billed}
+use Rattle.bill.proofs.Asked.{bill_owes}
+use Rattle.indextable.specs.Index.{table_indexed}
+use Rattle.append.specs.Appending.{appended}
+use Rattle.inventory.specs.Replaying.{replayed}
+use Rattle.inventory.proofs.Asked.{replay_owes}
+use Rattle.readtable.specs.Read.{read_table}
+use Rattle.roundtrip.proofs.Texts.{reads}
+use Rattle.writetable.specs.Write.{write_table}
+use Rattle.writetable.proofs.Asked.{write_owes}
+use Rattle.statistics.specs.declared.Summary.TheVariants as summary
+use Rattle.statistics.specs.Summaries.{summary_of}
+use Rattle.statistics.proofs.Summarized.{refused_sample}
+use Rattle.shuffle.specs.Shuffled.{shuffle_outcome, unshuffle_outcome}
 use Rattle.topological.specs.Ordering.{ordered_acceptance, ordered_lent_acceptance, settled_in_order}
 use Rattle.topological.specs.Right.{RightOrder, RightOrdered, WrongOrdered, RightOrderedLent, WrongOrderedLent}
 use Rattle.topological.proofs.Ordered.{ordered_accepted, never_order}
@@ -27,6 +55,10 @@ use Rattle.topological.proofs.Exactly.{ordered_exactly, ordered_refused_exactly,
 use Rattle.topological.proofs.Settled.{same_columns, ordered_demand_2}
 use Rattle.promises.specs.Fixed.{Fixed}
 use Rattle.promises.proofs.Fixed.{fixed}
+use Rattle.promises.proofs.Indexing.{index_owes}
+use Rattle.promises.proofs.Appends.{append_owes}
+use Rattle.promises.proofs.Gaps.{order_gaps, settle_ordered_gaps}
+use Rattle.promises.proofs.Elsewhere.{of_acceptance, of_extent, of_reading, of_appending, lent_other, checked_other, change_other, bill_other, read_other, write_other, index_other, append_other, replay_other, sample_other, shuffle_other, unshuffle_other}
 
 -- 2026-08: a small catalogue for dealers ------------------------------------------------------------------------------------------------------------------------------
 
@@ -62,9 +94,66 @@ module _ (c : Columns) (a : Entries) where
   pub settle_ordered_fixed : Fixed (RightOrderedLent c a) (WrongOrderedLent c a)
   settle_ordered_fixed = fixed (ordered_lent_acceptance c a) (ordered_lent_exactly c a) (ordered_lent_refused_exactly c a)
 
+-- neither call looks at what gaps hold
+module _ (c : Columns) (tails : List ℕ) (g : Gapped c tails) where
+  pub check_order_over_gaps : ordered_acceptance c ≡ ordered_acceptance (with_tails c tails)
+  check_order_over_gaps = order_gaps c tails g
+
+  pub settle_ordered_over_gaps : (m : Measure) (a : Entries) → settled_in_order m c a ≡ settled_in_order m (with_tails c tails) a
+  settle_ordered_over_gaps = settle_ordered_gaps c tails g
+
 pub order_is : (e : Hyperedge) → code_of (Order e) ≡ code 24 e.0
 order_is e = refl
 
 -- "in these two calls only": the check of a table never returns 24
 pub in_these_only : (c : Columns) (r : Refusal) → acceptance c ≡ Refused r → number_of r < 24
 in_these_only = never_order
+
+-- nor does any other call, whatever its input
+pub check_lent_not_24 : (c : Columns) (a : Entries) (r : Refusal) → lent_acceptance c a ≡ Refused r → ¬ (number_of r ≡ 24)
+check_lent_not_24 c a r p = lent_other (of_acceptance (check_lent_owes c a) p)
+
+module _ (m : Measure) (c : Columns) (a : Entries) (r : Refusal) where
+  pub settle_not_24 : (settled m c a).result ≡ Refused r → ¬ (number_of r ≡ 24)
+  settle_not_24 p = lent_other (of_acceptance (settle_owes m c a) p)
+
+  pub check_answers_not_24 : checked m c a ≡ verdict.Refused r → ¬ (number_of r ≡ 24)
+  check_answers_not_24 = checked_other m c a
+
+  module _ (e : ℕ) where
+    pub reprice_not_24 : (w : ℕ) → (repriced m c a e w).result ≡ Refused r → ¬ (number_of r ≡ 24)
+    reprice_not_24 w p = change_other (λ q. omega arith) (of_acceptance (reprice_owes m c a e w) p)
+
+    pub strike_not_24 : (stricken m c a e).result ≡ Refused r → ¬ (number_of r ≡ 24)
+    strike_not_24 p = change_other (λ q. omega arith) (of_acceptance (strike_owes m c a e) p)
+
+    pub restore_not_24 : (restored m c a e).result ≡ Refused r → ¬ (number_of r ≡ 24)
+    restore_not_24 p = change_other (λ q. omega arith) (of_acceptance (restore_owes m c a e) p)
+
+  pub bill_not_24 : (v : ℕ) (room : List ℕ) → (billed m c a v room).result ≡ extent.Refused r → ¬ (number_of r ≡ 24)
+  bill_not_24 v room p = bill_other (of_extent (bill_owes m c a v room) p)
+
+  pub append_not_24 : (k : Counts) (index list : List ℕ) (l : NewLine) → (appended m c k a index list l).result ≡ appending.Refused r → ¬ (number_of r ≡ 24)
+  append_not_24 k index list l p = append_other (of_appending (append_owes m c k a index list l) p)
+
+  pub replay_not_24 : (parts received stock outcomes : List ℕ) → (replayed m c a parts received stock outcomes).result ≡ Refused r → ¬ (number_of r ≡ 24)
+  replay_not_24 parts received stock outcomes p = replay_other (of_acceptance (replay_owes m c a parts received stock outcomes) p)
+
+module _ (r : Refusal) where
+  pub index_not_24 : (c : Columns) (index list : List ℕ) → (table_indexed c index list).result ≡ extent.Refused r → ¬ (number_of r ≡ 24)
+  index_not_24 c index list p = index_other (of_extent (index_owes c index list) p)
+
+  pub read_not_24 : (text h o ms s t : List ℕ) → (read_table text h o ms s t).answer ≡ reading.Refused r → ¬ (number_of r ≡ 24)
+  read_not_24 text h o ms s t p = read_other (of_reading (reads text h o ms s t) p)
+
+  pub write_not_24 : (m : Measure) (c : Columns) (room : List ℕ) → (write_table m c room).answer ≡ extent.Refused r → ¬ (number_of r ≡ 24)
+  write_not_24 m c room p = write_other (of_extent (write_owes m c room) p)
+
+  pub summarize_not_24 : (xs : List ℕ) → summary_of xs ≡ summary.Refused r → ¬ (number_of r ≡ 24)
+  summarize_not_24 xs p = sample_other (refused_sample xs r p)
+
+  pub shuffle_not_24 : (own room : List ℕ) → (shuffle_outcome own room).answer ≡ Refused r → ¬ (number_of r ≡ 24)
+  shuffle_not_24 own room p = shuffle_other own room p
+
+  pub unshuffle_not_24 : (bytes own : List ℕ) → (unshuffle_outcome bytes own).answer ≡ Refused r → ¬ (number_of r ≡ 24)
+  unshuffle_not_24 bytes own p = unshuffle_other bytes own p

@@ -1,6 +1,6 @@
 -- Document 02, change request 2026-09. Assumes nothing.
-use mathlib.Core.Path.{◌≡◌, refl, sym, ◌∙◌, ap, subst, fun_ext}
-use mathlib.Core.List.{List, [], ◌∷◌}
+use mathlib.Core.Path.{◌≡◌, refl, sym, ◌∙◌, ap, fun_ext}
+use mathlib.Core.List.{List, [], ◌∷◌, ◌++◌}
 use Prim.Native.Nat.{ℕ, ◌≤◌, ◌<◌, min}
 use native.Mathlib.Omega.{arith}
 use lib.ListN.{length}
@@ -30,10 +30,12 @@ use Rattle.provenance.specs.Counting.{total}
 use Rattle.provenance.specs.Pieces.{most_pieces, piece, bought, leaves, pieces_at, HasPieces, below, piece_count, piece_local}
 use Rattle.provenance.proofs.Pieces.{founded, pieces_local, pieces_most, pieces_only, pieces_positive, listing-leaves}
 use Rattle.tables.specs.Table.{hypergraph}
-use Rattle.settle.specs.Settling.{answers_of, entries_of, settled}
+use Rattle.pieces.specs.Counting.{counted}
+use Rattle.pieces.proofs.Accepted.{counted_is}
+use Rattle.settle.specs.Settling.{answers_of, entries_of, settled, entry_at}
 use Rattle.settle.specs.Checking.{checked}
 use Rattle.settle.specs.Defined.{AllMean}
-use Rattle.settle.proofs.Demands.{answers_fixpoint, entries_at, entries_mean, demand_2, yes_only}
+use Rattle.settle.proofs.Demands.{answers_fixpoint, entries_at, demand_2, yes_only, answers_sized}
 use Rattle.settle.proofs.Exactly.{yes_exactly, no_exactly}
 use Rattle.reprice.specs.Changes.{Named, WrongChange}
 use Rattle.reprice.specs.Repricing.{repriced, stricken, restored}
@@ -41,6 +43,8 @@ use Rattle.reprice.proofs.Changes.{repriced_result_lem, reprice_refused_exactly,
 use Rattle.append.specs.Appending.{appended}
 use Rattle.append.proofs.Appended.{appended-longer}
 use Rattle.bill.specs.Billing.{bill_of}
+use Rattle.text.specs.Render.{digits}
+use Rattle.report.specs.Report.{names, state_word, row}
 use Rattle.topological.specs.Ordering.{settled_in_order}
 use Rattle.topological.proofs.Settled.{ordered_demand_2}
 
@@ -85,6 +89,11 @@ module _ (m : Measure) (c : Columns) (t : RightTable c) (v : ℕ) where
       let made = ne_eqb (ls v).depth 0 (λ z. omega (arith, k.deep)) in
       entries_at m c accepted v ∙ pieces_local (hypergraph c) ls (founded fix) v ∙ rw made (ap (λ (p : ℕ → ℕ). piece_count p (tail_at c (ls v).edge.0)) (sym counts))
 
+-- the column that `pieces::count_pieces` leaves, by its contract, and with which `pieces_right` compares a lent one, holds these counts
+pub column_counted : (m : Measure) (c : Columns) → RightTable c → counted c.spans c.tails (answers_of m c).depths (answers_of m c).edges ≡ (entries_of m c).pieces
+unfolding entries_of
+column_counted m c t = let p = (accepted_exactly c).1 t in counted_is c (answers_of m c) p (answers_sized m c p)
+
 -- a piece is a line without parts: those of a make-up are as many as in its bill
 pub pieces_listed : (c : Columns) {v : ℕ} (t : Derivation (hypergraph c) v) → leaves t ≡ bought (tail_at c) (listing t)
 pieces_listed c t = listing-leaves t
@@ -93,6 +102,17 @@ pieces_listed c t = listing-leaves t
 pub worked_pieces : (entries_of Cost worked).pieces ≡ 1 ∷ 1 ∷ 2 ∷ 4 ∷ 0 ∷ []
 unfolding answers_of entries_of below pieces_at piece total bill bills best_first turns turn next opening offer_of none_zero ahead_of weigh fold each greatest_depth
 worked_pieces = refl
+
+-- "The listing prints it as a last field headed `pieces`": the line of names, `part state figure depth line pieces`, and the row of part v
+pub pieces_headed : names ≡ 112 ∷ 97 ∷ 114 ∷ 116 ∷ 32 ∷ 115 ∷ 116 ∷ 97 ∷ 116 ∷ 101 ∷ 32 ∷ 102 ∷ 105 ∷ 103 ∷ 117 ∷ 114 ∷ 101 ∷ 32 ∷ 100 ∷ 101 ∷ 112 ∷ 116 ∷ 104 ∷ 32 ∷ 108 ∷ 105
+    ∷ 110 ∷ 101 ∷ 32 ∷ 112 ∷ 105 ∷ 101 ∷ 99 ∷ 101 ∷ 115 ∷ 10 ∷ []
+unfolding names
+pieces_headed = refl
+
+pub pieces_printed : (a : Entries) (v : ℕ) → let e = entry_at a v in
+    row v e ≡ digits v ++ (32 ∷ state_word e.state) ++ (32 ∷ digits e.weight.0) ++ (32 ∷ digits e.depth) ++ (32 ∷ digits e.edge.0) ++ (32 ∷ digits (pieces_in a v)) ++ 10 ∷ []
+unfolding row
+pieces_printed a v = refl
 
 -- "Settling, repricing, striking, restoring, appending and the dealers' settling all keep it true": it is that of the table as it then is
 pub ordered_counts : (m : Measure) (c : Columns) (a : Entries) → (settled_in_order m c a).result ≡ Accepted

@@ -2,7 +2,7 @@
 use mathlib.Core.Path.{◌≡◌, refl}
 use mathlib.Core.Bool.{Bool}
 use mathlib.Core.List.{List, [], ◌∷◌, ◌++◌}
-use Prim.Native.Nat.{ℕ, ◌+◌, ◌≤◌, ◌<◌, min}
+use Prim.Native.Nat.{ℕ, ◌<◌, min, ◌+◌, ◌≤◌}
 use native.Mathlib.Omega.{arith}
 use borrow.Author.Tests.{ne_eqb}
 use Rattle.weights.specs.declared.Measure.TheVariants.{Grade}
@@ -12,7 +12,7 @@ use Rattle.weights.specs.Laws.{Ordered}
 use Rattle.weights.proofs.Laws.{reversed}
 use Rattle.weights.proofs.Weighing.{weigh-grade}
 use Rattle.refusal.specs.declared.Acceptance.TheVariants.{Accepted}
-use Rattle.refusal.specs.declared.Refusal.TheVariants.{Text, MeasureNumber}
+use Rattle.refusal.specs.declared.Refusal.TheVariants.{MeasureNumber}
 use Rattle.refusal.specs.declared.MeasureChoice.TheVariants as choice
 use Rattle.refusal.specs.declared.Reading.TheVariants as reading
 use Rattle.refusal.specs.Refusals.{measure_of}
@@ -30,7 +30,7 @@ use Rattle.settle.proofs.Demands.{demand_2}
 use Rattle.settle.proofs.Worth.{grade-greatest, grade-low}
 use Rattle.reprice.specs.Demand3.{labels_of, state_in, Pair}
 use Rattle.bill.proofs.Rises.{demand_3_billed}
-use Rattle.text.specs.Tables.{Table, listed_in_all}
+use Rattle.text.specs.Tables.{listed_in_all}
 use Rattle.text.specs.Render.{digits, word, first_word, measure_text, header}
 use Rattle.text.specs.Worked.{grade_text}
 use Rattle.text.specs.Machine.{limit, line_at, digit_of, grown, instead, after, spell, named, ended, step, run, Whole, finish, parse}
@@ -40,6 +40,7 @@ use Rattle.readtable.specs.Read.{room_for, read_into, read_table}
 use Rattle.report.specs.Report.{report}
 use Rattle.report.specs.Examples.{grade_list}
 use Rattle.report.proofs.Examples.{worked_grade}
+use Rattle.promises.specs.Figures.{figure_in}
 
 -- 2026-10: the kit is as good as its weakest part --------------------------------------------------------------------------------------------------------------------
 
@@ -71,6 +72,10 @@ order_backwards = reversed
 pub grade_rises_little : (c c' : Columns) (e d : ℕ) → Pair c c' e d → (v : ℕ) → state_in Grade c v ≡ Made → state_in Grade c' v ≡ Made
     → DaysRise d (labels_of Grade c v).weight.0 (labels_of Grade c' v).weight.0
 grade_rises_little c c' e d p v s s' = (demand_3_billed Grade c c' e d p).rises v s s'
+
+pub grade_rises_at_most : (c c' : Columns) (e d : ℕ) → Pair c c' e d → (v : ℕ) → state_in Grade c v ≡ Made → state_in Grade c' v ≡ Made
+    → (figure_in Grade c v ≤ figure_in Grade c' v) × (figure_in Grade c' v ≤ figure_in Grade c v + d)
+grade_rises_at_most c c' e d p v s s' = let r = (demand_3_billed Grade c c' e d p).rises v s s' in (r.least, r.most)
 
 -- "For C the number is 2", "16 from 3 upward"
 pub grade_numbered : measure_of 2 ≡ choice.Measure Grade

@@ -12,6 +12,7 @@ use Rattle.refusal.specs.declared.Refusal.TheVariants.{EventVertex, OpeningCount
 use Rattle.refusal.specs.declared.Acceptance.TheVariants.{Accepted, Refused}
 use Rattle.refusal.specs.Refusals.{place_of, code, code_of, last_place}
 use Rattle.columns.specs.Columns.{Entries, Columns, cell}
+use Rattle.columns.specs.Gaps.{Gapped, with_tails}
 use Rattle.tozbierdu.proofs.Places.{replayed_places}
 use Rattle.inventory.specs.Shelf.{Low}
 use Rattle.inventory.specs.Replaying.{replayed}
@@ -23,6 +24,7 @@ use Rattle.inventory.proofs.Fixed.{replays_once, replay_never, replay_once}
 use Rattle.inventory.proofs.Replayed.{replay_meaning, conservation, outcome_received, final_low, final_sized, replay_keeps}
 use Rattle.inventory.proofs.Worked.{worked_records}
 use Rattle.promises.specs.Fixed.{Fixed}
+use Rattle.promises.proofs.Gaps.{replay_gaps}
 
 -- 2026-12: run last month's orders past the shelf --------------------------------------------------------------------------------------------------------------------
 
@@ -58,6 +60,12 @@ module _ (m : Measure) (c : Columns) (a : Entries) (parts received stock outcome
     -- "a lent column of n opening counts, which becomes the final counts": n counts, none above the limit, so that they can open the next record
     pub replay_opens_next : let o = replayed m c a parts received stock outcomes in Low o.stock × (length o.stock ≡ c.vertices) × (length o.outcomes ≡ length parts)
     replay_opens_next = let s = final_sized m c a parts received stock outcomes p in (final_low m c a parts received stock outcomes p, s.0, s.1)
+
+  -- "Table and answers keep their bytes": they are lent to be read alone, so the call can't write them; `replay` names both columns that it can
+  --
+  -- it does not look at what gaps hold
+  pub replay_over_gaps : (tails : List ℕ) → Gapped c tails → replayed m c a parts received stock outcomes ≡ replayed m (with_tails c tails) a parts received stock outcomes
+  replay_over_gaps tails g = replay_gaps c tails g m a parts received stock outcomes
 
   module _ {r : Refusal} (p : (replayed m c a parts received stock outcomes).result ≡ Refused r) where
     -- "A refusal … alters no lent byte", however many events came before the bad one

@@ -1,20 +1,22 @@
--- "What is turned away": the small example of each of the seventeen refusals, and of 20 and 21, which document 02 added. When each applies, and in which order, Demand1
--- and the files of the requests say. Assumes nothing.
+-- "What is turned away": each refusal's number, and the small example of each of the seventeen, and of 20 and 21, which document 02 added. When each applies, and in which
+-- order, Demand1 and the files of the requests say. Assumes nothing.
 use mathlib.Core.Path.{◌≡◌, refl}
 use mathlib.Core.List.{List, [], ◌∷◌}
 use Prim.Native.Nat.{ℕ}
 use native.Mathlib.Omega.{arith}
 use lib.ListN.{length, replicate}
+use Rattle.weights.specs.declared.Hyperedge.{Hyperedge}
 use Rattle.weights.specs.declared.Measure.TheVariants.{Cost}
 use Rattle.weights.specs.Measures.{fold, weigh}
 use Rattle.weights.specs.Labels.{ahead_of}
-use Rattle.refusal.specs.declared.Refusal.TheVariants.{TooManyVertices, Lengths, Head, Own, Span, Tail, AnswerLength, WrongAnswers, NoSuchEdge, NewWeight}
-use Rattle.refusal.specs.declared.Refusal.TheVariants.{NoSuchVertex, Underivable, BillRoom, Text, TextRoom, MeasureNumber, InputLength, NotStruck, StrikeMark}
+use Rattle.refusal.specs.declared.Refusal.TheVariants.{TooManyVertices, Lengths, Head, Own, Span, Tail, AnswerLength, WrongAnswers, NoSuchEdge, NewWeight, NoSuchVertex, Underivable, BillRoom, Text, TextRoom, MeasureNumber, InputLength, NotStruck, StrikeMark, ColumnRoom, WrongIndex}
+use Rattle.refusal.specs.declared.TextLine.{TextLine}
+use Rattle.refusal.specs.declared.TextColumn.{TextColumn}
 use Rattle.refusal.specs.declared.Acceptance.TheVariants.{Refused}
 use Rattle.refusal.specs.declared.Extent.TheVariants as extent
 use Rattle.refusal.specs.declared.Reading.TheVariants as reading
 use Rattle.refusal.specs.declared.MeasureChoice.TheVariants as choice
-use Rattle.refusal.specs.Refusals.{measure_of}
+use Rattle.refusal.specs.Refusals.{measure_of, code, code_of}
 use Rattle.columns.specs.Columns.{Entries, columns, entries}
 use Rattle.columns.specs.Acceptance.{all_below, edge_acceptance, edges_acceptance, acceptance, lent_acceptance}
 use Rattle.columns.specs.Worked.{worked}
@@ -28,7 +30,7 @@ use Rattle.settle.specs.Settling.{answers_of, entries_of}
 use Rattle.reprice.specs.Repricing.{line_acceptance, reprice_acceptance, repriced, numbered_acceptance, struck_acceptance, restore_acceptance, restored}
 use Rattle.bill.specs.Billing.{bill_of, part_acceptance, bill_acceptance, billed}
 use Rattle.text.specs.Tables.{listed_in_all}
-use Rattle.text.specs.Render.{word, first_word, Permitted}
+use Rattle.text.specs.Render.{first_word, Permitted}
 use Rattle.text.specs.Worked.{cost_text}
 use Rattle.text.specs.Machine.{limit, line_at, digit_of, grown, instead, after, spell, named, ended, step, run, finish, parse}
 use Rattle.text.specs.Bytes.{survived, column_from, column_of}
@@ -36,6 +38,35 @@ use Rattle.text.proofs.Permitted.{wrong_unpermitted}
 use Rattle.readtable.specs.Read.{room_for, read_into, read_table}
 use Rattle.report.specs.Report.{refused_line, report}
 use Rattle.report.proofs.Reports.{report_long}
+
+-- "A refusal returns its number and a place (a table line for 3 to 6, a text line from 1 for 14, otherwise 0)", and 14 a column (2026-06): the table's first column. Of 22 to
+-- 27 the files of their requests say it
+pub numbers : (code_of TooManyVertices ≡ code 1 0)
+    × (code_of Lengths ≡ code 2 0)
+    × (code_of AnswerLength ≡ code 7 0)
+    × (code_of WrongAnswers ≡ code 8 0)
+    × (code_of NoSuchEdge ≡ code 9 0)
+    × (code_of NewWeight ≡ code 10 0)
+    × (code_of NoSuchVertex ≡ code 11 0)
+    × (code_of Underivable ≡ code 12 0)
+    × (code_of BillRoom ≡ code 13 0)
+    × (code_of TextRoom ≡ code 15 0)
+    × (code_of MeasureNumber ≡ code 16 0)
+    × (code_of InputLength ≡ code 17 0)
+    × (code_of ColumnRoom ≡ code 18 0)
+    × (code_of WrongIndex ≡ code 19 0)
+    × (code_of NotStruck ≡ code 20 0)
+numbers = (refl, refl, refl, refl, refl, refl, refl, refl, refl, refl, refl, refl, refl, refl, refl)
+
+pub line_numbers : (e : Hyperedge) → (code_of (Head e) ≡ code 3 e.0)
+    × (code_of (Own e) ≡ code 4 e.0)
+    × (code_of (StrikeMark e) ≡ code 21 e.0)
+    × (code_of (Span e) ≡ code 5 e.0)
+    × (code_of (Tail e) ≡ code 6 e.0)
+line_numbers e = (refl, refl, refl, refl, refl)
+
+pub text_number : (l : TextLine) (c : TextColumn) → code_of (Text l c) ≡ record { number = 14; place = l.0; column = c.0 }
+text_number l c = refl
 
 -- "n = 1,025"
 pub refusal_1 : acceptance (columns 1_025 [] [] [] [] []) ≡ Refused TooManyVertices

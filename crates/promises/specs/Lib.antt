@@ -1,2 +1,4 @@
 pub mod Fixed
 pub mod Figures
+pub mod FirstBytes
+pub mod Reads

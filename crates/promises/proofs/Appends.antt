@@ -9,12 +9,11 @@ use lib.ListN.{length, get_or, take}
 use lib.Seq.{get_or-take, length-take-le}
 use lib.Dec.{ltb, leb, eqb}
 use borrow.Author.Tests.{ltb-true, ltb-false, leb-true, leb-false, eqb-true, lt-ltb, le-ltb, le-leb, lt-leb, eq-eqb}
-use Rattle.weights.specs.declared.Hyperedge.{Hyperedge}
 use Rattle.weights.specs.declared.Measure.{Measure}
 use Rattle.weights.specs.Figures.{greatest, struck_mark}
 use Rattle.weights.proofs.Choice.{apart}
 use Rattle.refusal.specs.declared.Refusal.{Refusal}
-use Rattle.refusal.specs.declared.Refusal.TheVariants.{TooManyVertices, Lengths, AnswerLength, WrongAnswers, ColumnRoom, WrongIndex}
+use Rattle.refusal.specs.declared.Refusal.TheVariants.{TooManyVertices, Lengths, AnswerLength, ColumnRoom}
 use Rattle.refusal.specs.declared.Counts.{Counts}
 use Rattle.refusal.specs.declared.Acceptance.{Acceptance}
 use Rattle.refusal.specs.declared.Acceptance.TheVariants.{Accepted, Refused}
@@ -31,10 +30,8 @@ use Rattle.columns.proofs.Exactly.{accepted_exactly, refused_exactly}
 use Rattle.columns.proofs.Refuses.{same_refusal, Refuses, none_refuses, test_refuses, then_refuses}
 use Rattle.columns.proofs.Longer.{longer_accepted}
 use Rattle.settle.specs.Settling.{entries_of}
-use Rattle.settle.specs.Checking.{answers_acceptance}
-use Rattle.settle.specs.Defined.{AllMean}
 use Rattle.settle.proofs.Exactly.{same_exactly, same_fails}
-use Rattle.indextable.specs.Index.{index_of, is_index, index_room}
+use Rattle.indextable.specs.Index.{index_of, is_index}
 use Rattle.indextable.specs.Asked.{IsIndex, IndexFits}
 use Rattle.indextable.proofs.Told.{index_exactly}
 use Rattle.append.specs.Appending.{new_end, counts_acceptance, new_line_acceptance, sized_acceptance, room_acceptance, append_acceptance, new_counts, over, grown, appended}

@@ -1,19 +1,18 @@
 -- Why a part's days rise by at most d where one line goes up by d: the line stands at most once on a downward path of a chosen make-up, so along each path the own figures
 -- come to at most d more. Assumes nothing.
-use mathlib.Core.Path.{◌≡◌, refl, sym, ◌∙◌, ap, subst}
+use mathlib.Core.Path.{◌≡◌, sym, ◌∙◌, ap, subst}
 use mathlib.Core.List.{List}
 use Prim.Native.Nat.{ℕ, ◌+◌, ◌*◌, ◌≤◌}
 use native.Mathlib.Nat.{mul-zero, mul-one}
 use native.Mathlib.Decide.{ℕ_discrete}
 use native.Mathlib.Omega.{arith}
 use Rattle.weights.specs.declared.Measure.TheVariants.{Days}
-use Rattle.weights.specs.Figures.{capped}
 use Rattle.weights.specs.Measures.{days}
 use Rattle.weights.proofs.Laws.{at_most, days_lawful}
 use Rattle.refusal.specs.declared.Acceptance.TheVariants.{Accepted}
 use Rattle.columns.specs.Columns.{Columns, own_at, with_own}
 use Rattle.columns.specs.Acceptance.{acceptance}
-use Rattle.provenance.specs.Hypergraph.{Hypergraph, Derivation, weight}
+use Rattle.provenance.specs.Hypergraph.{Derivation, weight}
 use Rattle.provenance.specs.Means.{Follows}
 use Rattle.provenance.specs.BestFirst.{labels}
 use Rattle.provenance.specs.Counting.{count, total, Raised}
@@ -26,7 +25,7 @@ use Rattle.provenance.proofs.Support.{supports}
 use Rattle.tables.specs.Table.{hypergraph}
 use Rattle.settle.specs.Settling.{answers_of}
 use Rattle.settle.proofs.Demands.{answers_fixpoint}
-use Rattle.reprice.specs.Demand3.{labels_of, Pair}
+use Rattle.reprice.specs.Demand3.{Pair}
 use Rattle.reprice.proofs.Revision.{line_raised}
 use Rattle.promises.specs.Figures.{figure_in}
 

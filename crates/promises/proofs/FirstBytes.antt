@@ -371,6 +371,6 @@ module _ (limit : ℕ) (positive : 0 < limit) (K : ℕ → List ℕ → Type 0) 
       let q : A.n ≡ stop - at = omega arith in
       record { from = omega arith; fails = λ l c. subst (λ (k : ℕ). Fails (NumberThen limit K) (drop at s) l c l (c + k)) q (A.fails l c) }
 
-  pub number_at : (s : List ℕ) (at : ℕ) → let t = number_at s at limit in ToldAt limit K s at t.stop t.found
+  pub number_told_at : (s : List ℕ) (at : ℕ) → let t = number_at s at limit in ToldAt limit K s at t.stop t.found
   unfolding number_at
-  number_at s at = let t = number_of (drop at s) at limit in told_at s at t.stop t.found (number_told (drop at s) at)
+  number_told_at s at = let t = number_of (drop at s) at limit in told_at s at t.stop t.found (number_told (drop at s) at)

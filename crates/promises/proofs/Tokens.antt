@@ -1,19 +1,17 @@
 -- What the reading of a number, of an own figure, of a separator and of a text's first line finds: what stands there, and nothing else. And where that of an own figure stops:
 -- where that of its number does. Assumes nothing.
 use mathlib.Core.Path.{◌≡◌, refl, sym, ◌∙◌, ap, ap₂, subst, subst₂}
-use mathlib.Core.Bool.{Bool, true, false}
 use mathlib.Core.List.{List, [], ◌∷◌, ◌++◌, append-nil, append_assoc}
 use mathlib.Core.Logic.{◌↔◌}
-use Prim.Native.Nat.{ℕ, zero, suc, ◌+◌, ◌*◌, ◌-◌, ◌≤◌, ◌<◌}
+use Prim.Native.Nat.{ℕ, zero, suc, ◌+◌, ◌*◌, ◌≤◌, ◌<◌}
 use native.Mathlib.Omega.{arith}
 use lib.ListN.{length, get_or, drop, length-append, length-drop}
 use lib.Seq.{get_or-drop}
 use lib.Dec.{ltb, eqb}
-use borrow.Author.Tests.{ltb-true, ltb-false, eqb-true, eqb-false, eq-eqb, ne_eqb}
+use borrow.Author.Tests.{ltb-true, ltb-false, eqb-true, eq-eqb, ne_eqb}
 use Rattle.weights.specs.declared.Measure.{Measure}
 use Rattle.weights.specs.declared.Mark.{Mark}
 use Rattle.weights.specs.declared.Weight.{Weight}
-use Rattle.weights.specs.Choice.{pick}
 use Rattle.weights.specs.Figures.{greatest, standing, struck_mark}
 use Rattle.columns.specs.Acceptance.{most_vertices}
 use Rattle.text.specs.Tables.{Edge}
@@ -27,7 +25,7 @@ use Rattle.cursor.specs.declared.Found.TheVariants.{Number, NotANumber}
 use Rattle.cursor.specs.declared.FoundWeight.{FoundWeight}
 use Rattle.cursor.specs.declared.FoundWeight.TheVariants.{Own, NotAWeight}
 use Rattle.cursor.specs.declared.Separator.{Separator}
-use Rattle.cursor.specs.declared.Separator.TheVariants.{Space, LineEnd, Neither}
+use Rattle.cursor.specs.declared.Separator.TheVariants.{Space, LineEnd}
 use Rattle.cursor.specs.declared.Token.{Token}
 use Rattle.cursor.specs.declared.WeightToken.{WeightToken}
 use Rattle.cursor.specs.Cursor.{token, digits_from, number_of, number_at, as_weight, weight_token, marked_from, weight_at, separator_at}

@@ -97,7 +97,7 @@ use Rattle.promises.proofs.FirstBytes.{
   NumberThen,
   ToldAt,
   begins_number,
-  number_at,
+  number_told_at,
 }
 
 -- The form --------------------------------------------------------------------------------------------------------------------------------------------
@@ -250,7 +250,7 @@ module _ (left : ℕ) (s : List ℕ) (at : ℕ) where
   by_separator (separator.Space i) e =
       let t = number_at s (at + 1) number_limit in
       subst (λ (z : ℕ). CountTold (found_number s z)) (sym e.0)
-      (found_told e.1 t.stop t.found (number_at number_limit (omega arith) Count (λ _. shelf_stops left) (λ _. shelf_end left) s (at + 1)))
+      (found_told e.1 t.stop t.found (number_told_at number_limit (omega arith) Count (λ _. shelf_stops left) (λ _. shelf_end left) s (at + 1)))
   by_separator (separator.LineEnd i) e =
       subst (λ (z : ℕ). CountTold (next.End z)) (sym e.0) (right_passes (NumberThen number_limit Count) (EventForm most_events) s at e.1 1 (at + 1))
   by_separator separator.Neither e = neither_stuck (NumberThen number_limit Count) (EventForm most_events) s at e.0 e.1 (events_end most_events) 1 (at + 1)
@@ -323,7 +323,7 @@ module _ (left : ℕ) (s : List ℕ) (at : ℕ) where
       let N = NumberThen number_limit (Pieces Rest) in
       subst (λ (z : ℕ). EventTold (on_pieces s v i (found_number s z))) (sym e.0)
       (by_pieces v (i + 1) t.stop t.found (omega arith, λ l. join (U.1 l) (up_to (space_passes N s i e.1 l (i - at + 1)) (omega arith)))
-      (number_at number_limit (omega arith) (Pieces Rest) (pieces_stops Rest (events_end left)) (pieces_ends Rest (events_end left)) s (i + 1)) i)
+      (number_told_at number_limit (omega arith) (Pieces Rest) (pieces_stops Rest (events_end left)) (pieces_ends Rest (events_end left)) s (i + 1)) i)
   after_part v i U (separator.LineEnd j) e = no_space v i U e.2
   after_part v i U separator.Neither e = no_space v i U e.0
 
@@ -340,7 +340,7 @@ module _ (left : ℕ) (s : List ℕ) (at : ℕ) where
       let t = number_at s at number_limit in
       pick_by EventTold (leb (length s) at) (λ e. drop_of_length-le s (leb-true (length s) at e))
       (λ e. by_part (leb-false (length s) at e) t.stop t.found
-      (number_at number_limit (omega arith) (Part Rest) (part_stops Rest (events_end left)) (part_ends Rest (events_end left)) s at))
+      (number_told_at number_limit (omega arith) (Part Rest) (part_stops Rest (events_end left)) (part_ends Rest (events_end left)) s at))
 
 abbrev EventsTold : (left : ℕ) → List ℕ → (at i : ℕ) → Events → Type 0
 EventsTold left s at i (events.Count k) = EventForm left (drop at s)

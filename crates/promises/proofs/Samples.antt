@@ -29,7 +29,7 @@ use Rattle.sample.specs.Told.{sample_text, Readable, none, also}
 use Rattle.sample.specs.Permitted.{PermittedSample}
 use Rattle.sample.proofs.Results.{result_end, result_number}
 use Rattle.promises.specs.FirstBytes.{BeginsOf, FirstByteOf}
-use Rattle.promises.proofs.FirstBytes.{Fails, first_of, to_column, Passes, join, byte_first, mapped, EndOr, in_line, Then, then_more, line_passes, line_stuck, line_stops, begins_then, NumberThen, ToldAt, number_at}
+use Rattle.promises.proofs.FirstBytes.{Fails, first_of, to_column, Passes, join, byte_first, mapped, EndOr, in_line, Then, then_more, line_passes, line_stuck, line_stops, begins_then, NumberThen, ToldAt, number_told_at}
 
 -- The form --------------------------------------------------------------------------------------------------------------------------------------------
 
@@ -136,7 +136,7 @@ module _ (left : ℕ) where
   result_told s at =
       let t = number_at s at number_limit in
       pick_by (NextTold s at) (leb (length s) at) (λ e. drop_of_length-le s (leb-true (length s) at e))
-      (λ e. found_told s at (leb-false (length s) at e) t.stop t.found (number_at number_limit (omega arith) Rest rest_stops rest_ends s at))
+      (λ e. found_told s at (leb-false (length s) at e) t.stop t.found (number_told_at number_limit (omega arith) Rest rest_stops rest_ends s at))
 
 -- The lines ---------------------------------------------------------------------------------------------------------------------------------------------
 

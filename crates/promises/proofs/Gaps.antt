@@ -45,7 +45,7 @@ use Rattle.text.specs.Tables.{edges_from}
 use Rattle.text.specs.Render.{table_text}
 use Rattle.writetable.specs.Write.{write_as, write_table}
 use Rattle.inventory.specs.Shelf.{chosen_tail}
-use Rattle.inventory.specs.Replaying.{record_acceptance, open_acceptance, opening_acceptance, chosen_list, Run, begun, replay_from, run_of, ReplayOutcome, concluded, replayed}
+use Rattle.inventory.specs.Replaying.{record_acceptance, open_acceptance, opening_acceptance, chosen_list, Run, begun, replay_from, run_of, concluded, replayed}
 use Rattle.promises.proofs.Appends.{counts_right, line_right, longer_right}
 
 -- an outcome that looks at what is worked out of a table only where the tests before it pass
