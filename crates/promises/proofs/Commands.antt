@@ -1,6 +1,6 @@
 -- The words of a command are read as that command, and a line of other words is misuse. Assumes nothing.
 use mathlib.Core.Path.{◌≡◌, refl, sym, ◌∙◌, ap, ap₂, subst}
-use mathlib.Core.Logic.{◌⊎◌, inl, inr}
+use mathlib.Core.Logic.{◌⊎◌, inl, inr, ⊎_elim}
 use mathlib.Core.Bool.{true}
 use mathlib.Core.List.{List, [], ◌∷◌, ◌++◌, append_assoc, append-nil}
 use Prim.Native.Nat.{ℕ, zero, suc, ◌+◌, ◌≤◌, ◌<◌}
@@ -70,6 +70,9 @@ use Rattle.command.specs.Command.{
 }
 use Rattle.command.specs.Words.{word_of, numbers_of, words_of, Typable, typed, ReadAs}
 use Rattle.command.proofs.Laws.{at_end, with_command, command_with}
+use Rattle.reply.specs.Reply.{misused}
+use Rattle.desk.specs.Desk.{desk_said}
+use Rattle.desk.proofs.Laws.{words_misused}
 
 abbrev zeros : List ℕ
 zeros = replicate most_numbers 0
@@ -388,3 +391,10 @@ module _ (words : List ℕ) where
       let g = numbers_from (length zeros) words begun.stop 0 zeros in
       let P : List ℕ → Type 0 = λ c. let h = numbers_from (length zeros) words begun.stop 0 c in StandsBy (length zeros) words begun.stop 0 [] zeros h.numbers h.column in
       line_is g.numbers g.column (subst P (sym (filled_none zeros)) (gathered_text (length zeros) words begun.stop 0 [] zeros refl refl))
+
+-- words of no command are misuse
+pub words_misuse : (words : List ℕ) → ((k : Command) (needed : List ℕ) → Typable k needed → ¬ (words ≡ words_of k needed)) → (input second : List ℕ) → desk_said words input second ≡ misused
+words_misuse words n input second =
+    let l = typed words in
+    ⊎_elim (λ e. sym (words_misused words input second l.line l.numbers refl (ap (λ (x : Line). x.command) e)))
+    (λ w. absurd (n w.command w.needed w.typable w.same)) (words_are words)

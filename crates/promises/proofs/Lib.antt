@@ -11,6 +11,8 @@ pub mod Elsewhere
 pub mod Samples
 pub mod Commands
 pub mod Records
+pub mod Growing
+pub mod Asked
 pub mod Demand1
 pub mod Demand2
 pub mod Demand3
