@@ -4,7 +4,7 @@
 if [ "$(id -u)" -ne 0 ] || ! setpriv --reuid 12345 --regid 12345 --groups 23456 true 2>/dev/null; then
     skip 'files of other users and groups' 'only root can be another user'
 else
-    shared=$(mktemp -d /tmp/tozbierdu-access.XXXXXX) || exit 2
+    shared=$(mktemp -d -t tozbierdu-access.XXXXXX) || exit 2
     # the layout of an installation: the front finds the proved programs beside its own folder
     mkdir -p "$shared/bin" "$shared/libexec/tozbierdu" "$shared/desks"
     cp target/front/bin/desk "$shared/bin/"
