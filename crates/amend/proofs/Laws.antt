@@ -12,12 +12,6 @@ use Rattle.weights.specs.Choice.{pick}
 use Rattle.refusal.specs.declared.Refusal.{Refusal}
 use Rattle.refusal.specs.declared.Refusal.TheVariants.{TextRoom}
 use Rattle.refusal.specs.declared.Counts.{Counts}
-use Rattle.refusal.specs.declared.Acceptance.{Acceptance}
-use Rattle.refusal.specs.declared.Acceptance.TheVariants as answer
-use Rattle.refusal.specs.declared.Extent.{Extent}
-use Rattle.refusal.specs.declared.Extent.TheVariants as extent
-use Rattle.refusal.specs.declared.Appending.{Appending}
-use Rattle.refusal.specs.declared.Appending.TheVariants as appending
 use Rattle.columns.specs.Columns.{Entries, Columns}
 use Rattle.columns.specs.Acceptance.{acceptance}
 use Rattle.columns.specs.Filled.{filled}
@@ -40,6 +34,8 @@ use Rattle.reply.specs.declared.Reply.{Reply}
 use Rattle.reply.specs.declared.Status.TheVariants.{Answered}
 use Rattle.reply.specs.Reply.{Said, answered, refused_by, on_acceptance, on_extent, Replied}
 use Rattle.amend.specs.Amend.{text_said, repriced_said, stricken_said, restored_said, on_appending, appended_said, Placed}
+use Rattle.refusal.specs.Answers.{Acceptance, Extent, Appending}
+use Rattle.std.specs.Prelude.{Ok, Err}
 
 -- the same is said, and the room was the same
 pub replied_as : {s s' : Said} {old old' : List ℕ} {r : Reply} {room : List ℕ} → s' ≡ s → old ≡ old' → Replied s old r room → Replied s' old' r room
@@ -60,17 +56,17 @@ filled_back text k room h = append_assoc text (drop (length text) (take k room))
 
 -- the answer of writing asks only for the length of the room
 answer_by : (b : Bool) (n : ℕ) (x y : List ℕ)
-    → (pick b (write_outcome (extent.Length n) x) (write_outcome (extent.Refused TextRoom) y)).answer ≡ pick b (extent.Length n) (extent.Refused TextRoom)
+    → (pick b (write_outcome (Ok n) x) (write_outcome (Err TextRoom) y)).answer ≡ pick b (Ok n) (Err TextRoom)
 answer_by true n x y = refl
 answer_by false n x y = refl
 
 same_answer : (a : Acceptance) (text x y : List ℕ) → length x ≡ length y → (write_as a text x).answer ≡ (write_as a text y).answer
 unfolding write_text
-same_answer answer.Accepted text x y e =
+same_answer (Ok _) text x y e =
     answer_by (leb (length text) (length x)) (length text) (filled text x) x
-    ∙ ap (λ (n : ℕ). pick (leb (length text) n) (extent.Length (length text)) (extent.Refused TextRoom)) e
+    ∙ ap (λ (n : ℕ). pick (leb (length text) n) (Ok (length text)) (Err TextRoom)) e
     ∙ sym (answer_by (leb (length text) (length y)) (length text) (filled text y) y)
-same_answer (answer.Refused r) text x y e = refl
+same_answer (Err r) text x y e = refl
 
 said_by : (m : Measure) (c : Columns) (room : List ℕ) → length room ≡ most_input → text_said m c ≡ on_extent (write_table m c room).answer (λ _. answered (render m c))
 unfolding text_said
@@ -79,10 +75,10 @@ said_by m c room e =
     (same_answer (acceptance c) (render m c) (replicate most_input 0) room (length-replicate {A = ℕ} most_input 0 ∙ sym e))
 
 -- a refusal has altered nothing; a length is that of the text, which is written
-no_refusal : {n : ℕ} {r : Refusal} {A : Type 0} → extent.Length n ≡ extent.Refused r → A
+no_refusal : {n : ℕ} {r : Refusal} {A : Type 0} → ◌≡◌ {A = Extent} (Ok n) (Err r) → A
 no_refusal e = let z : ◌≡◌ {A = ℕ} 0 1 = cc in absurd (omega arith)
 
-same_length : {n k : ℕ} → extent.Length n ≡ extent.Length k → k ≡ n
+same_length : {n k : ℕ} → ◌≡◌ {A = Extent} (Ok n) (Ok k) → k ≡ n
 same_length e = cc
 
 record Whole (text room : List ℕ) (n : ℕ) (new : List ℕ) : Type 0 where
@@ -91,11 +87,11 @@ record Whole (text room : List ℕ) (n : ℕ) (new : List ℕ) : Type 0 where
   pub room_is : new ≡ filled text room
 
 module _ (m : Measure) (c : Columns) (room : List ℕ) where
-  kept_by : {x : Extent} {new : List ℕ} (r : Refusal) → WriteOwes m c room (write_outcome x new) → x ≡ extent.Refused r → new ≡ room
+  kept_by : {x : Extent} {new : List ℕ} (r : Refusal) → WriteOwes m c room (write_outcome x new) → x ≡ Err r → new ≡ room
   kept_by r (Owed.accepted p) e = no_refusal e
   kept_by r (Owed.refused w) e = refl
 
-  whole_by : {x : Extent} {new : List ℕ} (n : ℕ) → WriteOwes m c room (write_outcome x new) → x ≡ extent.Length n → Whole (render m c) room n new
+  whole_by : {x : Extent} {new : List ℕ} (n : ℕ) → WriteOwes m c room (write_outcome x new) → x ≡ Ok n → Whole (render m c) room n new
   whole_by n (Owed.accepted p) e = record { count = same_length e; fits = p.room; room_is = refl }
   whole_by n (Owed.refused w) e = no_refusal (sym e)
 
@@ -110,7 +106,7 @@ module _ (m : Measure) (c : Columns) (room : List ℕ) (large : most_input ≤ l
   said : text_said m c ≡ on_extent x (λ _. answered (render m c))
   said = said_by m c (take most_input room) part_long ∙ ap (λ (o : WriteOutcome). on_extent o.answer (λ _. answered (render m c))) (sym q)
 
-  module _ (r : Refusal) (e : x ≡ extent.Refused r) where
+  module _ (r : Refusal) (e : x ≡ Err r) where
     pub text_refused : text_said m c ≡ refused_by r
     unfolding on_extent
     text_refused = said ∙ ap (λ (z : Extent). on_extent z (λ _. answered (render m c))) e
@@ -118,7 +114,7 @@ module _ (m : Measure) (c : Columns) (room : List ℕ) (large : most_input ≤ l
     pub room_kept : new ++ drop most_input room ≡ room
     room_kept = ap (λ (z : List ℕ). z ++ drop most_input room) (kept_by m c (take most_input room) r owes e) ∙ take-append-drop most_input room
 
-  module _ (n : ℕ) (e : x ≡ extent.Length n) where
+  module _ (n : ℕ) (e : x ≡ Ok n) where
     text_answered : text_said m c ≡ answered (render m c)
     unfolding on_extent
     text_answered = said ∙ ap (λ (z : Extent). on_extent z (λ _. answered (render m c))) e
@@ -146,57 +142,57 @@ module _ (m : Measure) (c : Columns) (room : List ℕ) (large : most_input ≤ l
 -- The changes --------------------------------------------------------------------------------------------------------------------------------------
 
 module _ (m : Measure) (c : Columns) (a : Entries) (e w : ℕ) (x : Acceptance) (own : List ℕ) (b : Entries) (q : record { result = x; own = own; left = b } ≡ repriced m c a e w) where
-  repriced_by : repriced_said m c a e w ≡ on_acceptance x (text_said m (with_figures c own))
+  pub repriced_by : repriced_said m c a e w ≡ on_acceptance x (text_said m (with_figures c own))
   unfolding repriced_said
   repriced_by = ap (λ (o : ChangeOutcome Acceptance). on_acceptance o.result (text_said m (with_figures c o.own))) (sym q)
 
-  pub repriced_refused : (r : Refusal) → x ≡ answer.Refused r → repriced_said m c a e w ≡ refused_by r
+  pub repriced_refused : (r : Refusal) → x ≡ Err r → repriced_said m c a e w ≡ refused_by r
   unfolding on_acceptance
   repriced_refused r p = repriced_by ∙ ap (λ (z : Acceptance). on_acceptance z (text_said m (with_figures c own))) p
 
-  pub repriced-accepted : x ≡ answer.Accepted → repriced_said m c a e w ≡ text_said m (with_figures c own)
+  pub repriced-accepted : x ≡ Ok tt → repriced_said m c a e w ≡ text_said m (with_figures c own)
   unfolding on_acceptance
   repriced-accepted p = repriced_by ∙ ap (λ (z : Acceptance). on_acceptance z (text_said m (with_figures c own))) p
 
 module _ (m : Measure) (c : Columns) (a : Entries) (e : ℕ) (x : Acceptance) (marks : List ℕ) (b : Entries) where
   module _ (q : record { result = x; strikes = marks; left = b } ≡ stricken m c a e) where
-    stricken_by : stricken_said m c a e ≡ on_acceptance x (text_said m (with_strikes c marks))
+    pub stricken_by : stricken_said m c a e ≡ on_acceptance x (text_said m (with_strikes c marks))
     unfolding stricken_said
     stricken_by = ap (λ (o : MarkOutcome Acceptance). on_acceptance o.result (text_said m (with_strikes c o.strikes))) (sym q)
 
-    pub stricken_refused : (r : Refusal) → x ≡ answer.Refused r → stricken_said m c a e ≡ refused_by r
+    pub stricken_refused : (r : Refusal) → x ≡ Err r → stricken_said m c a e ≡ refused_by r
     unfolding on_acceptance
     stricken_refused r p = stricken_by ∙ ap (λ (z : Acceptance). on_acceptance z (text_said m (with_strikes c marks))) p
 
-    pub stricken-accepted : x ≡ answer.Accepted → stricken_said m c a e ≡ text_said m (with_strikes c marks)
+    pub stricken-accepted : x ≡ Ok tt → stricken_said m c a e ≡ text_said m (with_strikes c marks)
     unfolding on_acceptance
     stricken-accepted p = stricken_by ∙ ap (λ (z : Acceptance). on_acceptance z (text_said m (with_strikes c marks))) p
 
   module _ (q : record { result = x; strikes = marks; left = b } ≡ restored m c a e) where
-    restored_by : restored_said m c a e ≡ on_acceptance x (text_said m (with_strikes c marks))
+    pub restored_by : restored_said m c a e ≡ on_acceptance x (text_said m (with_strikes c marks))
     unfolding restored_said
     restored_by = ap (λ (o : MarkOutcome Acceptance). on_acceptance o.result (text_said m (with_strikes c o.strikes))) (sym q)
 
-    pub restored_refused : (r : Refusal) → x ≡ answer.Refused r → restored_said m c a e ≡ refused_by r
+    pub restored_refused : (r : Refusal) → x ≡ Err r → restored_said m c a e ≡ refused_by r
     unfolding on_acceptance
     restored_refused r p = restored_by ∙ ap (λ (z : Acceptance). on_acceptance z (text_said m (with_strikes c marks))) p
 
-    pub restored-accepted : x ≡ answer.Accepted → restored_said m c a e ≡ text_said m (with_strikes c marks)
+    pub restored-accepted : x ≡ Ok tt → restored_said m c a e ≡ text_said m (with_strikes c marks)
     unfolding on_acceptance
     restored-accepted p = restored_by ∙ ap (λ (z : Acceptance). on_acceptance z (text_said m (with_strikes c marks))) p
 
 -- Appending ----------------------------------------------------------------------------------------------------------------------------------------
 
-no_counts : {r : Refusal} {k : Counts} {A : Type 0} → appending.Refused r ≡ appending.Counts k → A
+no_counts : {r : Refusal} {k : Counts} {A : Type 0} → ◌≡◌ {A = Appending} (Err r) (Ok k) → A
 no_counts e = let z : ◌≡◌ {A = ℕ} 0 1 = cc in absurd (omega arith)
 
 -- counts are returned where every check passed
 module _ (m : Measure) (c : Columns) (k : Counts) (a : Entries) (index list : List ℕ) (l : NewLine) where
-  passed : {k' : Counts} (x : Acceptance) → append_acceptance m c k a index list l ≡ x → (appended m c k a index list l).result ≡ appending.Counts k' → x ≡ answer.Accepted
-  passed answer.Accepted p e = refl
-  passed (answer.Refused r) p e = no_counts (sym (appended_result m c k a index list l r p) ∙ e)
+  passed : {k' : Counts} (x : Acceptance) → append_acceptance m c k a index list l ≡ x → (appended m c k a index list l).result ≡ Ok k' → x ≡ Ok tt
+  passed (Ok _) p e = refl
+  passed (Err r) p e = no_counts (sym (appended_result m c k a index list l r p) ∙ e)
 
-  table_is : append_acceptance m c k a index list l ≡ answer.Accepted → (appended m c k a index list l).table ≡ over (longer (in_use_of c k) l) c
+  table_is : append_acceptance m c k a index list l ≡ Ok tt → (appended m c k a index list l).table ≡ over (longer (in_use_of c k) l) c
   unfolding appended
   table_is p = ap (λ (x : Acceptance). (grown m c k a index list l x).table) p
 
@@ -206,11 +202,11 @@ module _ (m : Measure) (c : Columns) (k : Counts) (a : Entries) (index list : Li
   unfolding appended_said
   appended_by = ap (λ (o : Grown). on_appending o.result (λ k'. text_said m (in_use_of o.table k'))) (sym q)
 
-  pub appended-refused : (r : Refusal) → x ≡ appending.Refused r → appended_said m c k a index list l ≡ refused_by r
+  pub appended-refused : (r : Refusal) → x ≡ Err r → appended_said m c k a index list l ≡ refused_by r
   unfolding on_appending
   appended-refused r p = appended_by ∙ ap (λ (z : Appending). on_appending z (λ k'. text_said m (in_use_of c' k'))) p
 
-  module _ (k' : Counts) (p : x ≡ appending.Counts k') where
+  module _ (k' : Counts) (p : x ≡ Ok k') where
     pub appended-counts : appended_said m c k a index list l ≡ text_said m (in_use_of c' k')
     unfolding on_appending
     appended-counts = appended_by ∙ ap (λ (z : Appending). on_appending z (λ k''. text_said m (in_use_of c' k''))) p
@@ -218,7 +214,7 @@ module _ (m : Measure) (c : Columns) (k : Counts) (a : Entries) (index list : Li
     -- the new counts pass no column
     pub counts_placed : Placed c' k'
     counts_placed =
-        let e : (appended m c k a index list l).result ≡ appending.Counts k' = sym (ap (λ (o : Grown). o.result) q) ∙ p in
+        let e : (appended m c k a index list l).result ≡ Ok k' = sym (ap (λ (o : Grown). o.result) q) ∙ p in
         let h = passed m c k a index list l (append_acceptance m c k a index list l) refl e in
         let g = append_passed m c k a index list l h in
         let t = ap (λ (o : Grown). o.table) q ∙ table_is m c k a index list l h in

@@ -8,8 +8,6 @@ use lib.ListN.{length, replicate, length-replicate}
 use Rattle.weights.specs.declared.Measure.{Measure}
 use Rattle.weights.specs.Figures.{standing, struck_mark}
 use Rattle.refusal.specs.declared.Counts.{Counts}
-use Rattle.refusal.specs.declared.Acceptance.TheVariants.{Accepted}
-use Rattle.refusal.specs.declared.Extent.{Extent}
 use Rattle.columns.specs.Columns.{Entries, Columns, with_own, with_strike}
 use Rattle.columns.specs.Acceptance.{acceptance}
 use Rattle.columns.specs.Longer.{NewLine, in_use_of, longer}
@@ -30,11 +28,13 @@ use Rattle.reply.specs.Reply.{Said, answered, on_extent}
 use Rattle.amend.specs.Amend.{text_said}
 use Rattle.amend.specs.Printed.{Printed, Reprices, Strikes, Restores, Appends}
 use Rattle.amend.proofs.Laws.{repriced_refused, repriced-accepted, stricken_refused, stricken-accepted, restored_refused, restored-accepted, appended-refused, appended-counts}
+use Rattle.refusal.specs.Answers.{Extent}
+use Rattle.std.specs.Prelude.{Ok}
 
 no_answer : {A : Type 0} → status.Refused ≡ status.Answered → A
 no_answer e = let z : ◌≡◌ {A = ℕ} 0 1 = cc in absurd (omega arith)
 
-module _ (m : Measure) (t : Columns) (p : acceptance t ≡ Accepted) where
+module _ (m : Measure) (t : Columns) (p : acceptance t ≡ Ok tt) where
   -- by what writing returned
   printed_by : (room : List ℕ) → length room ≡ most_input → {x : Extent} {new : List ℕ} → WriteOwes m t room (write_outcome x new) → Printed m t (on_extent x (λ _. answered (render m t)))
   unfolding on_extent
@@ -49,7 +49,7 @@ module _ (m : Measure) (t : Columns) (p : acceptance t ≡ Accepted) where
   text_printed = printed_by (replicate most_input 0) (length-replicate {A = ℕ} most_input 0) (write_owes m t (replicate most_input 0))
 
 -- the text of a table that is t
-printed_as : (m : Measure) (c t : Columns) {s : Said} → s ≡ text_said m c → c ≡ t → acceptance t ≡ Accepted → Printed m t s
+printed_as : (m : Measure) (c t : Columns) {s : Said} → s ≡ text_said m c → c ≡ t → acceptance t ≡ Ok tt → Printed m t s
 printed_as m c t e f p = subst (λ (z : Said). Printed m t z) (sym (e ∙ ap (text_said m) f)) (text_printed m t p)
 
 module _ (m : Measure) (c : Columns) (a : Entries) (e : ℕ) where

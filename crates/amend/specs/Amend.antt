@@ -1,9 +1,7 @@
 -- What a desk's command says that changes a table: the text of the table as it then is, or the line of a refusal. Assumes nothing: these are definitions.
-use Rattle.std.specs.Prelude.{ℕ, ◌*◌, ◌≤◌, List, length, replicate}
+use Rattle.std.specs.Prelude.{ℕ, ◌*◌, ◌≤◌, List, length, replicate, Ok, Err}
 use Rattle.weights.specs.declared.Measure.{Measure}
 use Rattle.refusal.specs.declared.Counts.{Counts}
-use Rattle.refusal.specs.declared.Appending.{Appending}
-use Rattle.refusal.specs.declared.Appending.TheVariants as appending
 use Rattle.columns.specs.Columns.{Entries, Columns}
 use Rattle.columns.specs.Longer.{NewLine, in_use_of}
 use Rattle.reprice.specs.Repricing.{repriced, stricken, restored}
@@ -14,6 +12,7 @@ use Rattle.text.specs.Render.{render}
 use Rattle.writetable.specs.Write.{write_table}
 use Rattle.report.specs.Report.{most_input}
 use Rattle.reply.specs.Reply.{Said, answered, refused_by, on_acceptance, on_extent}
+use Rattle.refusal.specs.Answers.{Appending}
 
 -- the text of a table, written into the room of an input: a longer one could not be read back and is refused by 15
 unfoldable pub text_said : Measure → Columns → Said
@@ -31,8 +30,8 @@ restored_said m c a e = let o = restored m c a e in on_acceptance o.result (text
 
 -- by what appending returned: the counts that are then in use, or its refusal
 unfoldable pub on_appending : Appending → (Counts → Said) → Said
-on_appending (appending.Counts k) f = f k
-on_appending (appending.Refused r) f = refused_by r
+on_appending (Ok k) f = f k
+on_appending (Err r) f = refused_by r
 
 -- a line is appended
 unfoldable pub appended_said : Measure → Columns → Counts → Entries → (index list : List ℕ) → NewLine → Said

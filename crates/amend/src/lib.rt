@@ -1,4 +1,6 @@
 // The commands that change a table and print its text as it then is.
+//
+// Kept: columns and rooms are lent, or arrays of a fixed size: the library and its programs use no heap.
 
 #![tactic(auto)]
 
@@ -6,42 +8,27 @@ ghost use Rattle.std.specs.Prelude.{◌≤◌, length};
 ghost use Rattle.weights.specs.Figures.{standing};
 ghost use Rattle.columns.specs.Columns.{columns, entries};
 ghost use Rattle.columns.specs.Longer.{new_line, in_use_of};
-ghost use Rattle.reply.specs.Reply.{most_reply, Replied};
+ghost use Rattle.columns.specs.Given.{columns_of};
+ghost use Rattle.reply.specs.Reply.{most_reply, on_acceptance, Replied};
 ghost use Rattle.amend.specs.Amend.{Placed, text_said, repriced_said, stricken_said, restored_said, appended_said};
 
-use refusal::{Acceptance, Appending, Counts, Extent};
+use append::NewLine;
+use columns::Table;
+use refusal::{Counts, Refusal};
 use reply::{Reply, Status, put_refusal};
 use weights::{Hyperedge, Mark, Measure, Vertex, Weight};
 
 // The text of a table. One that would be longer than an input may be is refused: it could not be
 // read back.
-pub fn put_text(
-    room: &mut [u8],
-    measure: Measure,
-    n: u64,
-    heads: &[u64],
-    own: &[u64],
-    strikes: &[u64],
-    spans: &[u64],
-    tails: &[u64],
-) -> Reply
+pub fn put_text(room: &mut [u8], measure: Measure, table: &Table) -> Reply
     requires { most_reply ≤ length room.old }
-    ensures { let c = columns n heads.now own.now strikes.now spans.now tails.now in
+    ensures { let c = columns_of table.now in
         Replied (text_said measure c) room.old result room.new }
 {
-    let extent = writetable::write_table(
-        measure,
-        n,
-        heads,
-        own,
-        strikes,
-        spans,
-        tails,
-        &mut room[..report::MOST_INPUT],
-    );
+    let extent = writetable::write_table(measure, table, &mut room[..report::MOST_INPUT]);
     match extent {
-        Extent::Refused(r) => return put_refusal(room, r),
-        Extent::Length(width) => {
+        Err(r) => return put_refusal(room, r),
+        Ok(width) => {
             return Reply {
                 width: width as usize,
                 status: Status::Answered,
@@ -50,16 +37,33 @@ pub fn put_text(
     }
 }
 
+// The text of a table that was changed, or by what the change is refused.
+fn put_changed(
+    room: &mut [u8],
+    answer: Result<(), Refusal>,
+    measure: Measure,
+    table: &Table,
+) -> Reply
+    requires { most_reply ≤ length room.old }
+    ensures { let c = columns_of table.now in
+        Replied (on_acceptance answer (text_said measure c)) room.old result room.new }
+{
+    match answer {
+        Err(r) => put_refusal(room, r),
+        Ok(()) => put_text(room, measure, table),
+    }
+}
+
 // A line is repriced.
-pub fn put_repriced(
+pub fn put_repriced<'a>(
     room: &mut [u8],
     measure: Measure,
     n: u64,
-    heads: &[u64],
-    own: &mut [u64],
-    strikes: &[u64],
-    spans: &[u64],
-    tails: &[u64],
+    heads: &'a [u64],
+    own: &'a mut [u64],
+    strikes: &'a [u64],
+    spans: &'a [u64],
+    tails: &'a [u64],
     weights: &mut [u64],
     depths: &mut [u64],
     edges: &mut [u64],
@@ -75,23 +79,31 @@ pub fn put_repriced(
     let answer = reprice::reprice(
         measure, n, heads, own, strikes, spans, tails, weights, depths, edges, pieces, line, figure,
     );
-    match answer {
-        Acceptance::Refused(r) => return put_refusal(room, r),
-        Acceptance::Accepted => {}
-    }
-    put_text(room, measure, n, heads, own, strikes, spans, tails)
+    put_changed(
+        room,
+        answer,
+        measure,
+        &Table {
+            vertices: n,
+            heads,
+            own,
+            strikes,
+            spans,
+            tails,
+        },
+    )
 }
 
 // A line is struck.
-pub fn put_stricken(
+pub fn put_stricken<'a>(
     room: &mut [u8],
     measure: Measure,
     n: u64,
-    heads: &[u64],
-    own: &[u64],
-    strikes: &mut [u64],
-    spans: &[u64],
-    tails: &[u64],
+    heads: &'a [u64],
+    own: &'a [u64],
+    strikes: &'a mut [u64],
+    spans: &'a [u64],
+    tails: &'a [u64],
     weights: &mut [u64],
     depths: &mut [u64],
     edges: &mut [u64],
@@ -106,23 +118,31 @@ pub fn put_stricken(
     let answer = reprice::strike(
         measure, n, heads, own, strikes, spans, tails, weights, depths, edges, pieces, line,
     );
-    match answer {
-        Acceptance::Refused(r) => return put_refusal(room, r),
-        Acceptance::Accepted => {}
-    }
-    put_text(room, measure, n, heads, own, strikes, spans, tails)
+    put_changed(
+        room,
+        answer,
+        measure,
+        &Table {
+            vertices: n,
+            heads,
+            own,
+            strikes,
+            spans,
+            tails,
+        },
+    )
 }
 
 // A struck line stands again.
-pub fn put_restored(
+pub fn put_restored<'a>(
     room: &mut [u8],
     measure: Measure,
     n: u64,
-    heads: &[u64],
-    own: &[u64],
-    strikes: &mut [u64],
-    spans: &[u64],
-    tails: &[u64],
+    heads: &'a [u64],
+    own: &'a [u64],
+    strikes: &'a mut [u64],
+    spans: &'a [u64],
+    tails: &'a [u64],
     weights: &mut [u64],
     depths: &mut [u64],
     edges: &mut [u64],
@@ -137,55 +157,63 @@ pub fn put_restored(
     let answer = reprice::restore(
         measure, n, heads, own, strikes, spans, tails, weights, depths, edges, pieces, line,
     );
-    match answer {
-        Acceptance::Refused(r) => return put_refusal(room, r),
-        Acceptance::Accepted => {}
-    }
-    put_text(room, measure, n, heads, own, strikes, spans, tails)
+    put_changed(
+        room,
+        answer,
+        measure,
+        &Table {
+            vertices: n,
+            heads,
+            own,
+            strikes,
+            spans,
+            tails,
+        },
+    )
 }
 
 // The text of the table of the counts in use.
-fn put_in_use(
-    room: &mut [u8],
-    measure: Measure,
-    n: u64,
-    heads: &[u64],
-    own: &[u64],
-    strikes: &[u64],
-    spans: &[u64],
-    tails: &[u64],
-    in_use: Counts,
-) -> Reply
+fn put_in_use(room: &mut [u8], measure: Measure, table: &Table, in_use: Counts) -> Reply
     requires most_reply_in_bounds { most_reply ≤ length room.old }
-    requires placed { Placed (columns n heads.now own.now strikes.now spans.now tails.now) in_use }
-    ensures { let c = columns n heads.now own.now strikes.now spans.now tails.now in
+    requires placed { Placed (columns_of table.now) in_use }
+    ensures { let c = columns_of table.now in
         Replied (text_said measure (in_use_of c in_use)) room.old result room.new }
 {
+    let Table {
+        vertices: n,
+        heads,
+        own,
+        strikes,
+        spans,
+        tails,
+    } = *table;
     let lines = in_use.edges as usize;
     let places = 2 * lines;
     let listed = in_use.listed as usize;
     put_text(
         room,
         measure,
-        n,
-        &heads[..lines],
-        &own[..lines],
-        &strikes[..lines],
-        &spans[..places],
-        &tails[..listed],
+        &Table {
+            vertices: n,
+            heads: &heads[..lines],
+            own: &own[..lines],
+            strikes: &strikes[..lines],
+            spans: &spans[..places],
+            tails: &tails[..listed],
+        },
     )
 }
 
 // A standing line is appended. The text is that of the places then in use.
-pub fn put_appended(
+pub fn put_appended<'a>(
     room: &mut [u8],
     measure: Measure,
     n: u64,
-    heads: &mut [u64],
-    own: &mut [u64],
-    strikes: &mut [u64],
-    spans: &mut [u64],
-    tails: &mut [u64],
+    heads: &'a mut [u64],
+    own: &'a mut [u64],
+    strikes: &'a mut [u64],
+    spans: &'a mut [u64],
+    tails: &'a mut [u64],
     in_use: Counts,
     weights: &mut [u64],
     depths: &mut [u64],
@@ -218,15 +246,29 @@ pub fn put_appended(
         pieces,
         index,
         list,
-        head,
-        figure,
-        Mark::STANDS,
-        needed,
+        &NewLine {
+            head,
+            own: figure,
+            mark: Mark::STANDS,
+            tail: needed,
+        },
     );
     match answer {
-        Appending::Refused(r) => return put_refusal(room, r),
-        Appending::Counts(counts) => {
-            return put_in_use(room, measure, n, heads, own, strikes, spans, tails, counts);
+        Err(r) => return put_refusal(room, r),
+        Ok(counts) => {
+            return put_in_use(
+                room,
+                measure,
+                &Table {
+                    vertices: n,
+                    heads,
+                    own,
+                    strikes,
+                    spans,
+                    tails,
+                },
+                counts,
+            );
         }
     }
 }

@@ -8,9 +8,6 @@ use lib.Seq.{drop_at}
 use Rattle.weights.specs.declared.Measure.{Measure}
 use Rattle.refusal.specs.declared.Refusal.{Refusal}
 use Rattle.refusal.specs.declared.Counts.{Counts}
-use Rattle.refusal.specs.declared.Acceptance.{Acceptance}
-use Rattle.refusal.specs.declared.Acceptance.TheVariants.{Accepted, Refused}
-use Rattle.refusal.specs.declared.Appending.TheVariants as appending
 use Rattle.columns.specs.Columns.{Entries, Columns}
 use Rattle.columns.specs.Filled.{filled}
 use Rattle.columns.specs.Longer.{NewLine, in_use_of, longer}
@@ -29,16 +26,18 @@ use Rattle.append.specs.Appending.{new_counts, Grown, grown, append_acceptance, 
 use Rattle.append.specs.Leaves.{Extended, Behind}
 use Rattle.append.proofs.Checks.{append_passed}
 use Rattle.append.proofs.Storing.{next_accepted, heads_next, own-next, strikes-next, spans_next, tails_next, cut_is}
+use Rattle.refusal.specs.Answers.{Acceptance, Appending}
+use Rattle.std.specs.Prelude.{Ok, Err}
 
 -- what was not filled
 kept_behind : (new old : List ℕ) (n : ℕ) → length new ≡ n → drop n (filled new old) ≡ drop n old
 unfolding filled
 kept_behind new old n e = drop_at new (drop (length new) old) n e ∙ ap (λ (z : ℕ). drop z old) e
 
-same_counts : {x y : Counts} → appending.Counts x ≡ appending.Counts y → x ≡ y
+same_counts : {x y : Counts} → ◌≡◌ {A = Appending} (Ok x) (Ok y) → x ≡ y
 same_counts e = cc
 
-no_counts : {r : Refusal} {x : Counts} {A : Type 0} → appending.Refused r ≡ appending.Counts x → A
+no_counts : {r : Refusal} {x : Counts} {A : Type 0} → ◌≡◌ {A = Appending} (Err r) (Ok x) → A
 no_counts e = let z : ◌≡◌ {A = ℕ} 0 1 = cc in absurd (omega arith)
 
 module _ (m : Measure) (c : Columns) (k : Counts) (a : Entries) (index list : List ℕ) (l : NewLine) where
@@ -48,12 +47,12 @@ module _ (m : Measure) (c : Columns) (k : Counts) (a : Entries) (index list : Li
   abbrev left : Grown
   left = appended m c k a index list l
 
-  module _ (p : append_acceptance m c k a index list l ≡ Accepted) where
-    left_is : left ≡ grown m c k a index list l Accepted
+  module _ (p : append_acceptance m c k a index list l ≡ Ok tt) where
+    left_is : left ≡ grown m c k a index list l (Ok tt)
     unfolding appended
     left_is = ap (grown m c k a index list l) p
 
-    extended_by : Extended m c k l (new_counts c k l) (grown m c k a index list l Accepted) t
+    extended_by : Extended m c k l (new_counts c k l) (grown m c k a index list l (Ok tt)) t
     extended_by =
         let g = append_passed m c k a index list l p in
         let h = g.appendable in
@@ -77,7 +76,7 @@ module _ (m : Measure) (c : Columns) (k : Counts) (a : Entries) (index list : Li
           checks = (yes_exactly m t (entries_of m t)).1 (record { accepted = s; means = λ v _. demand_entry (entries_mean m t q v) });
         }
 
-    behind_by : Behind c index list (new_counts c k l) (grown m c k a index list l Accepted) t
+    behind_by : Behind c index list (new_counts c k l) (grown m c k a index list l (Ok tt)) t
     behind_by =
         let h = (append_passed m c k a index list l p).appendable in
         let n : length (index_of t).pairs ≡ 2 * t.vertices = length_pairs _ _ t.vertices in
@@ -93,12 +92,12 @@ module _ (m : Measure) (c : Columns) (k : Counts) (a : Entries) (index list : Li
 
   -- by the result that was returned
   told_accepted : (x : Acceptance) {k' : Counts} → append_acceptance m c k a index list l ≡ x
-      → (grown m c k a index list l x).result ≡ appending.Counts k' → (append_acceptance m c k a index list l ≡ Accepted) × (new_counts c k l ≡ k')
-  told_accepted Accepted p e = (p, same_counts e)
-  told_accepted (Refused r) p e = no_counts e
+      → (grown m c k a index list l x).result ≡ Ok k' → (append_acceptance m c k a index list l ≡ Ok tt) × (new_counts c k l ≡ k')
+  told_accepted (Ok _) p e = (p, same_counts e)
+  told_accepted (Err r) p e = no_counts e
 
-  module _ (k' : Counts) (e : left.result ≡ appending.Counts k') where
-    accepted : (append_acceptance m c k a index list l ≡ Accepted) × (new_counts c k l ≡ k')
+  module _ (k' : Counts) (e : left.result ≡ Ok k') where
+    accepted : (append_acceptance m c k a index list l ≡ Ok tt) × (new_counts c k l ≡ k')
     unfolding appended
     accepted = told_accepted (append_acceptance m c k a index list l) refl e
 
@@ -111,16 +110,16 @@ module _ (m : Measure) (c : Columns) (k : Counts) (a : Entries) (index list : Li
     appended_behind = subst₂ (λ (x : Counts) (o : Grown). Behind c index list x o t) accepted.1 (sym (left_is accepted.0)) (behind_by accepted.0)
 
   -- the result is what the checks say
-  pub appended_result : (r : Refusal) → append_acceptance m c k a index list l ≡ Refused r → left.result ≡ appending.Refused r
+  pub appended_result : (r : Refusal) → append_acceptance m c k a index list l ≡ Err r → left.result ≡ Err r
   unfolding appended
   appended_result r p = rw p
 
   -- a refusal leaves everything
-  pub appended_keeps : (r : Refusal) → left.result ≡ appending.Refused r → (left.table ≡ c) × ((left.answers ≡ a) × ((left.index ≡ index) × (left.list ≡ list)))
+  pub appended_keeps : (r : Refusal) → left.result ≡ Err r → (left.table ≡ c) × ((left.answers ≡ a) × ((left.index ≡ index) × (left.list ≡ list)))
   unfolding appended
   appended_keeps r e = go (append_acceptance m c k a index list l) e
     where
-      go : (x : Acceptance) → (grown m c k a index list l x).result ≡ appending.Refused r → let o = grown m c k a index list l x in
+      go : (x : Acceptance) → (grown m c k a index list l x).result ≡ Err r → let o = grown m c k a index list l x in
           (o.table ≡ c) × ((o.answers ≡ a) × ((o.index ≡ index) × (o.list ≡ list)))
-      go Accepted e = no_counts (sym e)
-      go (Refused s) e = (refl, (refl, (refl, refl)))
+      go (Ok _) e = no_counts (sym e)
+      go (Err s) e = (refl, (refl, (refl, refl)))

@@ -12,10 +12,8 @@ use Rattle.weights.specs.declared.Measure.{Measure}
 use Rattle.refusal.specs.declared.Refusal.{Refusal}
 use Rattle.refusal.specs.declared.Refusal.TheVariants.{WrongIndex}
 use Rattle.refusal.specs.declared.Counts.{Counts}
-use Rattle.refusal.specs.declared.Acceptance.{Acceptance}
-use Rattle.refusal.specs.declared.Acceptance.TheVariants.{Accepted, Refused}
 use Rattle.columns.specs.Columns.{Entries, Columns, SizedEntries}
-use Rattle.columns.specs.Acceptance.{most_listed, test, and_then, acceptance}
+use Rattle.columns.specs.Acceptance.{test, and_then, acceptance}
 use Rattle.columns.specs.Longer.{NewLine, end_in, longer, in_use_of, RightLine}
 use Rattle.columns.proofs.Accepted.{test_passed, both_accepted, below_at, below_all}
 use Rattle.uses.specs.Uses.{distinct_in}
@@ -24,6 +22,8 @@ use Rattle.indextable.specs.Index.{index_of, is_index, index_room, held_acceptan
 use Rattle.append.specs.Appending.{counts_acceptance, new_line_acceptance, sized_acceptance, room_acceptance, append_acceptance, lines_acceptance, columns_acceptance}
 use Rattle.append.specs.Growing.{Counted, Storable, Appendable, Growable, Holding}
 use Rattle.append.proofs.Lists.{longer-list}
+use Rattle.refusal.specs.Answers.{Acceptance}
+use Rattle.std.specs.Prelude.{Ok, Err}
 
 -- a test of a definition, from the fact that a branch gives
 pub ruleset tests = (lt-ltb, le-ltb, le-leb, lt-leb, eq-eqb, ne_eqb)
@@ -44,12 +44,8 @@ same_test a b x y f g = go (leb a b) refl
     go true p = sym (le-leb x y (f (leb-true a b p)))
     go false p = sym (lt-leb x y (g (leb-false a b p)))
 
--- the limit is passed
-pub end_over : (spans : List ℕ) (m size : ℕ) → most_listed < end_in spans m + size → false ≡ leb (end_in spans m + size) most_listed
-end_over spans m size h = sym (lt-leb (end_in spans m + size) most_listed h)
-
 -- what passed
-pub counts_passed : (c : Columns) (k : Counts) (size : ℕ) → counts_acceptance c k size ≡ Accepted → Counted c k size
+pub counts_passed : (c : Columns) (k : Counts) (size : ℕ) → counts_acceptance c k size ≡ Ok tt → Counted c k size
 unfolding counts_acceptance
 counts_passed c k size p =
     let t1 = test_passed _ _ _ p in
@@ -71,7 +67,7 @@ counts_passed c k size p =
       spanned = record { spans = leb-true _ _ t6.0; edges = ltb-true _ _ t5.0; listed = leb-true _ _ t9.0 };
     }
 
-pub line_passed : (n : ℕ) (e : Hyperedge) (l : NewLine) → new_line_acceptance n e l ≡ Accepted → RightLine n l
+pub line_passed : (n : ℕ) (e : Hyperedge) (l : NewLine) → new_line_acceptance n e l ≡ Ok tt → RightLine n l
 unfolding new_line_acceptance
 line_passed n e l p =
     let t1 = test_passed _ _ _ p in
@@ -87,7 +83,7 @@ line_passed n e l p =
       listed = below_at n l.tail t5.0;
     }
 
-pub sizes_passed : (n : ℕ) (a : Entries) → sized_acceptance n a ≡ Accepted → SizedEntries n a
+pub sizes_passed : (n : ℕ) (a : Entries) → sized_acceptance n a ≡ Ok tt → SizedEntries n a
 unfolding sized_acceptance
 sizes_passed n a p =
     let t1 = test_passed _ _ _ p in
@@ -96,7 +92,7 @@ sizes_passed n a p =
     let t4 = test_passed _ _ _ t3.1 in
     record { labels = record { weights = eqb-true _ _ t1.0; depths = eqb-true _ _ t2.0; edges = eqb-true _ _ t3.0 }; pieces = eqb-true _ _ t4.0 }
 
-pub room_passed : (heads own strikes spans tails : List ℕ) (m size : ℕ) → room_acceptance heads own strikes spans tails m size ≡ Accepted
+pub room_passed : (heads own strikes spans tails : List ℕ) (m size : ℕ) → room_acceptance heads own strikes spans tails m size ≡ Ok tt
     → Storable heads own strikes spans tails m (end_in spans m) size
 unfolding room_acceptance
 room_passed heads own strikes spans tails m size p =
@@ -109,20 +105,20 @@ room_passed heads own strikes spans tails m size p =
 
 module _ (c : Columns) (k : Counts) (l : NewLine) where
   -- refused by the counts, by a line that stands, or else as the new line is
-  pub lines_counts : (r : Refusal) → counts_acceptance c k (length l.tail) ≡ Refused r → Refused r ≡ lines_acceptance c k l
+  pub lines_counts : (r : Refusal) → counts_acceptance c k (length l.tail) ≡ Err r → Err r ≡ lines_acceptance c k l
   unfolding lines_acceptance
   lines_counts r p = rw p
 
-  pub lines_table : (r : Refusal) → counts_acceptance c k (length l.tail) ≡ Accepted → acceptance (in_use_of c k) ≡ Refused r → Refused r ≡ lines_acceptance c k l
+  pub lines_table : (r : Refusal) → counts_acceptance c k (length l.tail) ≡ Ok tt → acceptance (in_use_of c k) ≡ Err r → Err r ≡ lines_acceptance c k l
   unfolding lines_acceptance
   lines_table r p q = rw (p, q)
 
-  pub lines_new : {a : Acceptance} → counts_acceptance c k (length l.tail) ≡ Accepted → acceptance (in_use_of c k) ≡ Accepted
+  pub lines_new : {a : Acceptance} → counts_acceptance c k (length l.tail) ≡ Ok tt → acceptance (in_use_of c k) ≡ Ok tt
       → a ≡ new_line_acceptance c.vertices (record { 0 = k.edges }) l → a ≡ lines_acceptance c k l
   unfolding lines_acceptance
   lines_new p q e = rw (p, q) e
 
-  pub lines_passed : lines_acceptance c k l ≡ Accepted → Counted c k (length l.tail) × ((acceptance (in_use_of c k) ≡ Accepted) × RightLine c.vertices l)
+  pub lines_passed : lines_acceptance c k l ≡ Ok tt → Counted c k (length l.tail) × ((acceptance (in_use_of c k) ≡ Ok tt) × RightLine c.vertices l)
   unfolding lines_acceptance
   lines_passed p =
       let t = both_accepted (counts_acceptance c k (length l.tail)) _ p in
@@ -133,19 +129,19 @@ module _ (c : Columns) (k : Counts) (l : NewLine) where
     abbrev room : Acceptance
     room = room_acceptance c.heads c.own c.strikes c.spans c.tails k.edges (length l.tail)
 
-    pub columns_lines : (r : Refusal) → lines_acceptance c k l ≡ Refused r → Refused r ≡ columns_acceptance c k a l
+    pub columns_lines : (r : Refusal) → lines_acceptance c k l ≡ Err r → Err r ≡ columns_acceptance c k a l
     unfolding columns_acceptance
     columns_lines r p = rw p
 
-    pub columns_sizes : (r : Refusal) → lines_acceptance c k l ≡ Accepted → sized_acceptance c.vertices a ≡ Refused r → Refused r ≡ columns_acceptance c k a l
+    pub columns_sizes : (r : Refusal) → lines_acceptance c k l ≡ Ok tt → sized_acceptance c.vertices a ≡ Err r → Err r ≡ columns_acceptance c k a l
     unfolding columns_acceptance
     columns_sizes r p q = rw (p, q)
 
-    pub columns-room : {x : Acceptance} → lines_acceptance c k l ≡ Accepted → sized_acceptance c.vertices a ≡ Accepted → x ≡ room → x ≡ columns_acceptance c k a l
+    pub columns-room : {x : Acceptance} → lines_acceptance c k l ≡ Ok tt → sized_acceptance c.vertices a ≡ Ok tt → x ≡ room → x ≡ columns_acceptance c k a l
     unfolding columns_acceptance
     columns-room p q e = rw (p, q) e
 
-    pub columns_passed : columns_acceptance c k a l ≡ Accepted → Appendable c k a l
+    pub columns_passed : columns_acceptance c k a l ≡ Ok tt → Appendable c k a l
     unfolding columns_acceptance
     columns_passed p =
         let t = both_accepted (lines_acceptance c k l) _ p in
@@ -166,17 +162,17 @@ appendable_holding {c} {l = l} g =
 
 -- answers one after the other
 flat : (a b d s r e : Acceptance) → and_then (and_then (and_then a (and_then b d)) (and_then s r)) e ≡ and_then a (and_then b (and_then d (and_then s (and_then r e))))
-flat (Refused x) b d s r e = refl
-flat Accepted (Refused x) d s r e = refl
-flat Accepted Accepted (Refused x) s r e = refl
-flat Accepted Accepted Accepted (Refused x) r e = refl
-flat Accepted Accepted Accepted Accepted (Refused x) e = refl
-flat Accepted Accepted Accepted Accepted Accepted e = refl
+flat (Err x) b d s r e = refl
+flat (Ok _) (Err x) d s r e = refl
+flat (Ok _) (Ok _) (Err x) s r e = refl
+flat (Ok _) (Ok _) (Ok _) (Err x) r e = refl
+flat (Ok _) (Ok _) (Ok _) (Ok _) (Err x) e = refl
+flat (Ok _) (Ok _) (Ok _) (Ok _) (Ok _) e = refl
 
-held_then : (x : Acceptance) (b : Bool) (r : Refusal) (y : Acceptance) → and_then (and_then x (test b r Accepted)) y ≡ and_then x (test b r y)
-held_then (Refused q) b r y = refl
-held_then Accepted true r y = refl
-held_then Accepted false r y = refl
+held_then : (x : Acceptance) (b : Bool) (r : Refusal) (y : Acceptance) → and_then (and_then x (test b r (Ok tt))) y ≡ and_then x (test b r y)
+held_then (Err q) b r y = refl
+held_then (Ok _) true r y = refl
+held_then (Ok _) false r y = refl
 
 module _ (m : Measure) (c : Columns) (k : Counts) (a : Entries) (index list : List ℕ) (l : NewLine) where
   -- the whole chain: what is behind the first five steps
@@ -191,10 +187,10 @@ module _ (m : Measure) (c : Columns) (k : Counts) (a : Entries) (index list : Li
       flat (counts_acceptance c k (length l.tail)) (acceptance (in_use_of c k)) (new_line_acceptance c.vertices (record { 0 = k.edges }) l) (sized_acceptance c.vertices a)
       (room_acceptance c.heads c.own c.strikes c.spans c.tails k.edges (length l.tail)) rest
 
-  pub append-columns : (r : Refusal) → columns_acceptance c k a l ≡ Refused r → Refused r ≡ append_acceptance m c k a index list l
+  pub append-columns : (r : Refusal) → columns_acceptance c k a l ≡ Err r → Err r ≡ append_acceptance m c k a index list l
   append-columns r p = ap (λ (x : Acceptance). and_then x rest) (sym p) ∙ chain
 
-  pub append_held : columns_acceptance c k a l ≡ Accepted → {r : Acceptance}
+  pub append_held : columns_acceptance c k a l ≡ Ok tt → {r : Acceptance}
       → r ≡ and_then (held_acceptance c.vertices (distinct_in l.tail (length l.tail)) (index_of (in_use_of c k)) index list) (answers_acceptance m (in_use_of c k) a)
       → r ≡ append_acceptance m c k a index list l
   unfolding held_acceptance
@@ -210,7 +206,7 @@ module _ (m : Measure) (c : Columns) (k : Counts) (a : Entries) (index list : Li
       ∙ chain
 
   -- everything passed
-  pub append_passed : append_acceptance m c k a index list l ≡ Accepted → Growable c k a l index list
+  pub append_passed : append_acceptance m c k a index list l ≡ Ok tt → Growable c k a l index list
   unfolding index_room
   append_passed p =
       let t = both_accepted (columns_acceptance c k a l) rest (chain ∙ p) in

@@ -6,7 +6,6 @@ use Rattle.weights.specs.declared.Measure.TheVariants.{Cost}
 use Rattle.weights.specs.Lists.{member}
 use Rattle.weights.specs.Measures.{fold, weigh}
 use Rattle.weights.specs.Labels.{ahead_of}
-use Rattle.refusal.specs.declared.Appending.TheVariants.{Counts}
 use Rattle.columns.specs.Columns.{Entries, Columns, columns, entries}
 use Rattle.columns.specs.Acceptance.{all_below, edge_acceptance, edges_acceptance, acceptance}
 use Rattle.columns.specs.Filled.{filled}
@@ -21,6 +20,7 @@ use Rattle.provenance.specs.Counting.{total}
 use Rattle.provenance.specs.Pieces.{piece, pieces_at, below}
 use Rattle.settle.specs.Settling.{answers_of, entries_of}
 use Rattle.append.specs.Appending.{counts_acceptance, new_line_acceptance, sized_acceptance, room_acceptance, append_acceptance, leaves, appended}
+use Rattle.std.specs.Prelude.{Ok}
 
 abbrev lent : Columns
 lent =
@@ -48,6 +48,6 @@ after = entries (1200 ∷ 300 ∷ 2000 ∷ 2600 ∷ 607 ∷ []) (1 ∷ 1 ∷ 2 �
 
 pub appended_to_the_paper : appended Cost lent (record { edges = 6; listed = 6 }) before (0 ∷ 1 ∷ 1 ∷ 2 ∷ 3 ∷ 1 ∷ 4 ∷ 0 ∷ 4 ∷ 1 ∷ 99 ∷ [])
     (2 ∷ 2 ∷ 4 ∷ 4 ∷ 5 ∷ 89 ∷ 88 ∷ []) (new_line 4 7 0 (1 ∷ 1 ∷ []))
-    ≡ leaves (Counts (record { edges = 7; listed = 8 })) grows after (0 ∷ 1 ∷ 1 ∷ 3 ∷ 4 ∷ 1 ∷ 5 ∷ 0 ∷ 5 ∷ 1 ∷ 99 ∷ []) (2 ∷ 2 ∷ 4 ∷ 6 ∷ 4 ∷ 5 ∷ 88 ∷ [])
+    ≡ leaves (Ok (record { edges = 7; listed = 8 })) grows after (0 ∷ 1 ∷ 1 ∷ 3 ∷ 4 ∷ 1 ∷ 5 ∷ 0 ∷ 5 ∷ 1 ∷ 99 ∷ []) (2 ∷ 2 ∷ 4 ∷ 6 ∷ 4 ∷ 5 ∷ 88 ∷ [])
 unfolding appended append_acceptance counts_acceptance new_line_acceptance sized_acceptance room_acceptance begin_with index_room filled equal same_answers same_entries acceptance edges_acceptance edge_acceptance all_below member uses_below use_list pairs answers_of entries_of below pieces_at piece total bill bills best_first turns turn next opening offer_of none_zero ahead_of weigh fold each greatest_depth
 appended_to_the_paper = refl

@@ -11,8 +11,6 @@ use Rattle.weights.specs.Choice.{pick}
 use Rattle.weights.specs.declared.Measure.{Measure}
 use Rattle.refusal.specs.declared.Refusal.{Refusal}
 use Rattle.refusal.specs.declared.Refusal.TheVariants.{WrongAnswers}
-use Rattle.refusal.specs.declared.Acceptance.{Acceptance}
-use Rattle.refusal.specs.declared.Acceptance.TheVariants.{Accepted, Refused}
 use Rattle.columns.specs.Columns.{Entries, Columns, tail_at}
 use Rattle.columns.specs.Acceptance.{and_then, acceptance}
 use Rattle.columns.specs.Same.{same_entries}
@@ -27,6 +25,8 @@ use Rattle.settle.specs.Checking.{answers_acceptance}
 use Rattle.indextable.specs.Index.{index_by, index_of, held_acceptance}
 use Rattle.indextable.specs.Checkable.{Checkable}
 use Rattle.append.specs.Growing.{Holding}
+use Rattle.refusal.specs.Answers.{Acceptance}
+use Rattle.std.specs.Prelude.{Ok, Err}
 
 -- uses are of the tails below
 module _ (tail tail' : ℕ → List ℕ) where
@@ -52,7 +52,7 @@ unfolding distinct_in
 distinct_few vs zero = omega arith
 distinct_few vs (suc i) = omega (arith, distinct_few vs i, pick_few (member (get_or vs i 0) (take i vs)))
 
-module _ (c : Columns) (l : NewLine) (p : acceptance c ≡ Accepted) (g : RightLine c.vertices l) where
+module _ (c : Columns) (l : NewLine) (p : acceptance c ≡ Ok tt) (g : RightLine c.vertices l) where
   abbrev m : ℕ
   m = length c.heads
 
@@ -67,7 +67,7 @@ module _ (c : Columns) (l : NewLine) (p : acceptance c ≡ Accepted) (g : RightL
 
 -- what the check of an index asks, of an accepted table and the parts of a line
 module _ (c : Columns) (a : Entries) (tail : List ℕ) (h : Holding c a tail) {more : ℕ} (e : more ≡ distinct_in tail (length tail)) where
-  accepted : acceptance c ≡ Accepted
+  accepted : acceptance c ≡ Ok tt
   accepted = h.accepted.table
 
   spans_in : pairs_in c.spans ≡ length c.heads
@@ -94,11 +94,11 @@ module _ (c : Columns) (a : Entries) (tail : List ℕ) (h : Holding c a tail) {m
     abbrev told : Acceptance
     told = held_acceptance c.vertices (distinct_in tail (length tail)) (index_of c) index list
 
-    pub held_refused : (r : Refusal) → told ≡ Refused r → Refused r ≡ and_then told (answers_acceptance m c a)
+    pub held_refused : (r : Refusal) → told ≡ Err r → Err r ≡ and_then told (answers_acceptance m c a)
     held_refused r p = rw p
 
-    pub held_right : told ≡ Accepted → same_entries a (entries_of m c) ≡ true → Accepted ≡ and_then told (answers_acceptance m c a)
+    pub held_right : told ≡ Ok tt → same_entries a (entries_of m c) ≡ true → (Ok tt) ≡ and_then told (answers_acceptance m c a)
     held_right p q = rw (p, q)
 
-    pub held_wrong : told ≡ Accepted → same_entries a (entries_of m c) ≡ false → Refused WrongAnswers ≡ and_then told (answers_acceptance m c a)
+    pub held_wrong : told ≡ Ok tt → same_entries a (entries_of m c) ≡ false → Err WrongAnswers ≡ and_then told (answers_acceptance m c a)
     held_wrong p q = rw (p, q)

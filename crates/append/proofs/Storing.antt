@@ -8,8 +8,6 @@ use lib.Seq.{get_or-take, take-take, length-take-le}
 use Rattle.weights.specs.declared.Measure.{Measure}
 use Rattle.refusal.specs.declared.Refusal.{Refusal}
 use Rattle.refusal.specs.declared.Counts.{Counts}
-use Rattle.refusal.specs.declared.Acceptance.TheVariants as answer
-use Rattle.refusal.specs.declared.Appending.TheVariants as appending
 use Rattle.columns.specs.Columns.{Entries, Columns, columns}
 use Rattle.columns.specs.Acceptance.{acceptance}
 use Rattle.columns.specs.Filled.{filled}
@@ -21,6 +19,7 @@ use Rattle.settle.specs.Settling.{entries_of}
 use Rattle.indextable.specs.Index.{index_of}
 use Rattle.append.specs.Appending.{new_end, new_counts, over, leaves, append_acceptance, appended}
 use Rattle.append.specs.Growing.{Storable, Appendable, Renewable}
+use Rattle.std.specs.Prelude.{Ok, Err}
 
 -- a column is its start and what stands behind it
 kept_start : (n : ℕ) (xs : List ℕ) → n ≤ length xs → filled (take n xs) xs ≡ xs
@@ -67,7 +66,7 @@ module _ (c : Columns) (k : Counts) (a : Entries) (l : NewLine) (g : Appendable 
   end_below : new_end c k ≤ k.listed
   end_below = omega (arith, end_held, end_within held ((accepted_exactly held).0 g.table), length-take-le k.listed c.tails g.counted.tails)
 
-  pub next_accepted : acceptance next ≡ answer.Accepted
+  pub next_accepted : acceptance next ≡ Ok tt
   next_accepted = longer_accepted held l g.table g.line (omega (arith, lines_held, g.counted.spanned.edges)) (omega (arith, end_held, g.counted.spanned.listed))
 
   -- the stores, column by column
@@ -170,19 +169,19 @@ module _ (c : Columns) (k : Counts) (a : Entries) (l : NewLine) (g : Appendable 
     pub renewable : 2 * c.vertices ≤ length index → length (index_of next).list ≤ length list → Renewable c' k' a index list
     renewable h r = subst₂ (λ (x : Columns) (y : Counts). Renewable x y a index list) (sym p) (sym q) (renewable_over h r)
 
-    pub all_grown : (m : Measure) {a' : Entries} {index' list' : List ℕ} → append_acceptance m c k a index list l ≡ answer.Accepted
+    pub all_grown : (m : Measure) {a' : Entries} {index' list' : List ℕ} → append_acceptance m c k a index list l ≡ Ok tt
         → a' ≡ entries_of m (in_use_of c' k') → index' ≡ filled (index_of (in_use_of c' k')).pairs index → list' ≡ filled (index_of (in_use_of c' k')).list list
-        → leaves (appending.Counts k') c' a' index' list' ≡ appended m c k a index list l
+        → leaves (Ok k') c' a' index' list' ≡ appended m c k a index list l
     unfolding appended
     all_grown m e u v w =
         let t = cut in
         let u' = u ∙ ap (entries_of m) t in
         let v' = v ∙ ap (λ (z : Columns). filled (index_of z).pairs index) t in
         let w' = w ∙ ap (λ (z : Columns). filled (index_of z).list list) t in
-        rw e (λ i. leaves (appending.Counts (q i)) (p i) (u' i) (v' i) (w' i))
+        rw e (λ i. leaves (Ok (q i)) (p i) (u' i) (v' i) (w' i))
 
 -- a refusal leaves everything
 pub refused_grown : (m : Measure) (c : Columns) (k : Counts) (a : Entries) (index list : List ℕ) (l : NewLine) {r : Refusal}
-    → append_acceptance m c k a index list l ≡ answer.Refused r → leaves (appending.Refused r) c a index list ≡ appended m c k a index list l
+    → append_acceptance m c k a index list l ≡ Err r → leaves (Err r) c a index list ≡ appended m c k a index list l
 unfolding appended
 refused_grown m c k a index list l p = rw p

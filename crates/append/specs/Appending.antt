@@ -1,14 +1,10 @@
 -- Appending a line: its refusals in their order, and what it returns and leaves. Document 02, 2026-01 and 2026-02. Assumes nothing: these are definitions.
-use Rattle.std.specs.Prelude.{List, ℕ, ◌+◌, ◌*◌, length, ltb, leb, eqb}
+use Rattle.std.specs.Prelude.{List, ℕ, ◌+◌, ◌*◌, length, ltb, leb, eqb, Ok, Err}
 use Rattle.weights.specs.declared.Hyperedge.{Hyperedge}
 use Rattle.weights.specs.declared.Measure.{Measure}
 use Rattle.weights.specs.Figures.{greatest, struck_mark}
 use Rattle.refusal.specs.declared.Refusal.TheVariants.{TooManyVertices, Lengths, Head, Own, Span, Tail, AnswerLength, ColumnRoom, WrongIndex, StrikeMark}
 use Rattle.refusal.specs.declared.Counts.{Counts}
-use Rattle.refusal.specs.declared.Acceptance.{Acceptance}
-use Rattle.refusal.specs.declared.Acceptance.TheVariants as answer
-use Rattle.refusal.specs.declared.Appending.{Appending}
-use Rattle.refusal.specs.declared.Appending.TheVariants as appending
 use Rattle.columns.specs.Columns.{Entries, Columns, columns}
 use Rattle.columns.specs.Acceptance.{most_vertices, most_edges, most_listed, longest_tail, test, and_then, all_below, acceptance}
 use Rattle.columns.specs.Filled.{filled}
@@ -16,6 +12,7 @@ use Rattle.columns.specs.Longer.{NewLine, end_in, longer, in_use_of}
 use Rattle.settle.specs.Settling.{entries_of}
 use Rattle.settle.specs.Checking.{answers_acceptance}
 use Rattle.indextable.specs.Index.{index_of, is_index, index_room}
+use Rattle.refusal.specs.Answers.{Acceptance, Appending}
 
 -- where the span of the new line begins: the end of the last span in use
 abbrev pub new_end : Columns → Counts → ℕ
@@ -33,7 +30,7 @@ counts_acceptance c k size =
     (test (leb k.listed (length c.tails)) Lengths
     (test (leb k.listed most_listed) Lengths
     (test (leb (new_end c k + size) most_listed) Lengths
-    answer.Accepted))))))))
+    (Ok tt)))))))))
 
 -- 3, 4, 21, 5 and 6 of the new line, by its new number; "5 for a new line means only a list above 16"
 unfoldable pub new_line_acceptance : (n : ℕ) → Hyperedge → NewLine → Acceptance
@@ -43,7 +40,7 @@ new_line_acceptance n e l =
     (test (leb l.mark struck_mark) (StrikeMark e)
     (test (leb (length l.tail) longest_tail) (Span e)
     (test (all_below n l.tail) (Tail e)
-    answer.Accepted))))
+    (Ok tt)))))
 
 -- 7
 unfoldable pub sized_acceptance : ℕ → Entries → Acceptance
@@ -52,7 +49,7 @@ sized_acceptance n a =
     (test (eqb (length a.labels.depths) n) AnswerLength
     (test (eqb (length a.labels.edges) n) AnswerLength
     (test (eqb (length a.pieces) n) AnswerLength
-    answer.Accepted)))
+    (Ok tt))))
 
 -- 18, of the columns of the table: places for the new line and its needed parts
 unfoldable pub room_acceptance : (heads own strikes spans tails : List ℕ) → (m size : ℕ) → Acceptance
@@ -62,7 +59,7 @@ room_acceptance heads own strikes spans tails m size =
     (test (ltb m (length strikes)) ColumnRoom
     (test (leb (2 * m + 2) (length spans)) ColumnRoom
     (test (leb (end_in spans m + size) (length tails)) ColumnRoom
-    answer.Accepted))))
+    (Ok tt)))))
 
 -- the order: 1, 2, the lines that stand, the new line, 7, 18, 19, 8. The list must have room for that of the longer table; index and answers are those of the table in use
 unfoldable pub append_acceptance : Measure → Columns → Counts → Entries → (index list : List ℕ) → NewLine → Acceptance
@@ -112,10 +109,10 @@ over t c =
 
 -- on acceptance table, index and answers are those of the longer table, at the start of their columns; on a refusal nothing has changed
 abbrev pub grown : Measure → Columns → Counts → Entries → (index list : List ℕ) → NewLine → Acceptance → Grown
-grown m c k a index list l answer.Accepted =
+grown m c k a index list l (Ok _) =
     let t = longer (in_use_of c k) l in
-    leaves (appending.Counts (new_counts c k l)) (over t c) (entries_of m t) (filled (index_of t).pairs index) (filled (index_of t).list list)
-grown m c k a index list l (answer.Refused r) = leaves (appending.Refused r) c a index list
+    leaves (Ok (new_counts c k l)) (over t c) (entries_of m t) (filled (index_of t).pairs index) (filled (index_of t).list list)
+grown m c k a index list l (Err r) = leaves (Err r) c a index list
 
 unfoldable pub appended : Measure → Columns → Counts → Entries → (index list : List ℕ) → NewLine → Grown
 appended m c k a index list l = grown m c k a index list l (append_acceptance m c k a index list l)

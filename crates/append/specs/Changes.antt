@@ -1,18 +1,16 @@
 -- What a table goes through with its answers: lines are repriced, struck, restored and appended. Document 02, 2026-02: a struck line keeps its figure, and restoring it
 -- "after other changes … gives the answers of the table as it then is, with the kept figure". Assumes nothing: these are definitions.
-use Rattle.std.specs.Prelude.{◌≡◌, List, ℕ, ◌<◌, length}
+use Rattle.std.specs.Prelude.{◌≡◌, List, ℕ, ◌<◌, length, Ok, Err}
 use Rattle.weights.specs.declared.Measure.{Measure}
 use Rattle.refusal.specs.declared.Refusal.TheVariants.{NoSuchEdge}
 use Rattle.refusal.specs.declared.Counts.{Counts}
-use Rattle.refusal.specs.declared.Acceptance.{Acceptance}
-use Rattle.refusal.specs.declared.Acceptance.TheVariants.{Accepted, Refused}
-use Rattle.refusal.specs.declared.Appending.TheVariants as appending
 use Rattle.columns.specs.Columns.{Entries, Columns, columns, own_at, strike_at}
 use Rattle.columns.specs.Longer.{NewLine, in_use_of}
 use Rattle.settle.specs.Defined.{Defined}
 use Rattle.reprice.specs.Repricing.{ChangeOutcome, MarkOutcome, repriced, stricken, restored}
 use Rattle.reprice.specs.Restoring.{with_strikes, RestoredThen}
 use Rattle.append.specs.Appending.{Grown, appended}
+use Rattle.refusal.specs.Answers.{Acceptance}
 
 -- a table, as long as its lines, and answer columns
 pub record Priced : Type 0 where
@@ -39,11 +37,11 @@ after_line k o = priced (in_use_of o.table k) o.answers
 
 -- one accepted call that does not name line e, and what it leaves. Appending names no line: its line is a new one. It is lent columns of which the table is in use
 pub data Change (m : Measure) (e : ℕ) (s : Priced) : Priced → Type 0 where
-  reprice : (x w : ℕ) → ¬ (e ≡ x) → (repriced m s.table s.answers x w).result ≡ Accepted → Change m e s (after_figure s.table (repriced m s.table s.answers x w))
-  strike : (x : ℕ) → ¬ (e ≡ x) → (stricken m s.table s.answers x).result ≡ Accepted → Change m e s (after_mark s.table (stricken m s.table s.answers x))
-  restore : (x : ℕ) → ¬ (e ≡ x) → (restored m s.table s.answers x).result ≡ Accepted → Change m e s (after_mark s.table (restored m s.table s.answers x))
+  reprice : (x w : ℕ) → ¬ (e ≡ x) → (repriced m s.table s.answers x w).result ≡ Ok tt → Change m e s (after_figure s.table (repriced m s.table s.answers x w))
+  strike : (x : ℕ) → ¬ (e ≡ x) → (stricken m s.table s.answers x).result ≡ Ok tt → Change m e s (after_mark s.table (stricken m s.table s.answers x))
+  restore : (x : ℕ) → ¬ (e ≡ x) → (restored m s.table s.answers x).result ≡ Ok tt → Change m e s (after_mark s.table (restored m s.table s.answers x))
   append : (c : Columns) (k : Counts) (index list : List ℕ) (l : NewLine) (k' : Counts) → in_use_of c k ≡ s.table
-      → (appended m c k s.answers index list l).result ≡ appending.Counts k' → Change m e s (after_line k' (appended m c k s.answers index list l))
+      → (appended m c k s.answers index list l).result ≡ Ok k' → Change m e s (after_line k' (appended m c k s.answers index list l))
 
 -- any finite number of them, one after the other
 pub data Changes (m : Measure) (e : ℕ) (s : Priced) : Priced → Type 0 where
@@ -64,5 +62,5 @@ pub record Kept (m : Measure) (e : ℕ) (s s' : Priced) : Type 0 where
 -- of a struck line: repricing it is then refused by 9, and restoring it gives the answers of the table as it then is, in which the line stands with the figure kept
 pub record KeptStruck (m : Measure) (e : ℕ) (s s' : Priced) : Type 0 where
   pub kept : Kept m e s s'
-  pub unpriced : (w : ℕ) → (repriced m s'.table s'.answers e w).result ≡ Refused NoSuchEdge
+  pub unpriced : (w : ℕ) → (repriced m s'.table s'.answers e w).result ≡ Err NoSuchEdge
   pub restores : RestoredThen m s'.table s'.answers e

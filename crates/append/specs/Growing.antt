@@ -1,7 +1,6 @@
 -- What the functions that append a line ask of their callers: columns that were checked. Assumes nothing: these are definitions.
-use Rattle.std.specs.Prelude.{◌≡◌, true, List, ℕ, ◌+◌, ◌*◌, ◌≤◌, ◌<◌, length}
+use Rattle.std.specs.Prelude.{◌≡◌, true, List, ℕ, ◌+◌, ◌*◌, ◌≤◌, ◌<◌, length, Ok}
 use Rattle.refusal.specs.declared.Counts.{Counts}
-use Rattle.refusal.specs.declared.Acceptance.TheVariants.{Accepted}
 use Rattle.columns.specs.Columns.{Entries, Columns, SizedEntries}
 use Rattle.columns.specs.Acceptance.{most_vertices, most_edges, most_listed, longest_tail, all_below, acceptance}
 use Rattle.columns.specs.Longer.{NewLine, end_in, longer, in_use_of, RightLine}
@@ -35,7 +34,7 @@ pub record Storable (hs os ks ss ts : List ℕ) (m end size : ℕ) : Type 0 wher
 -- 1 to 7 and 21 passed, and 18 of the table's columns
 pub record Appendable (c : Columns) (k : Counts) (a : Entries) (l : NewLine) : Type 0 where
   pub counted : Counted c k (length l.tail)
-  pub table : acceptance (in_use_of c k) ≡ Accepted
+  pub table : acceptance (in_use_of c k) ≡ Ok tt
   pub line : RightLine c.vertices l
   pub sized : SizedEntries c.vertices a
   pub placed : Storable c.heads c.own c.strikes c.spans c.tails k.edges (end_in c.spans k.edges) (length l.tail)
@@ -59,7 +58,7 @@ pub record Renewable (c : Columns) (k : Counts) (a : Entries) (index list : List
   pub strikes : k.edges ≤ length c.strikes
   pub spans : 2 * k.edges ≤ length c.spans
   pub tails : k.listed ≤ length c.tails
-  pub table : acceptance (in_use_of c k) ≡ Accepted
+  pub table : acceptance (in_use_of c k) ≡ Ok tt
   pub sized : SizedEntries c.vertices a
   pub places : 2 * c.vertices ≤ length index
   pub room : length (index_of (in_use_of c k)).list ≤ length list

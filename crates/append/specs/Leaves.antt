@@ -1,10 +1,8 @@
 -- What an appending leaves. Document 02, 2026-01: "Table, index and answers must then be those of the longer table"; "places beyond the new counts keep their bytes".
 -- Assumes nothing: these are definitions.
-use Rattle.std.specs.Prelude.{◌≡◌, List, ℕ, ◌*◌, length, take, drop}
+use Rattle.std.specs.Prelude.{◌≡◌, List, ℕ, ◌*◌, length, take, drop, Ok, true}
 use Rattle.weights.specs.declared.Measure.{Measure}
 use Rattle.refusal.specs.declared.Counts.{Counts}
-use Rattle.refusal.specs.declared.Acceptance.TheVariants.{Accepted}
-use Rattle.refusal.specs.declared.Verdict.TheVariants.{Yes}
 use Rattle.columns.specs.Columns.{Columns}
 use Rattle.columns.specs.Acceptance.{acceptance}
 use Rattle.columns.specs.Longer.{NewLine, in_use_of, longer, OneMore}
@@ -24,14 +22,14 @@ pub record Extended (m : Measure) (c : Columns) (k : Counts) (l : NewLine) (k' :
   pub table : in_use_of o.table k' ≡ t
   pub longer_is : t ≡ longer (in_use_of c k) l
   pub lines : OneMore (in_use_of c k) l t
-  pub accepted : acceptance t ≡ Accepted
+  pub accepted : acceptance t ≡ Ok tt
   pub pairs : take (2 * t.vertices) o.index ≡ (index_of t).pairs
   pub list : take (length (index_of t).list) o.list ≡ (index_of t).list
   pub told : Told t (take (2 * t.vertices) o.index) (take (length (index_of t).list) o.list)
   pub answers : o.answers ≡ entries_of m t
   pub means : (v : ℕ) → Demand2 m t o.answers v
   pub states : (v : ℕ) → StateMeans m t (labels o.answers.labels v) v
-  pub checks : checked m t o.answers ≡ Yes
+  pub checks : checked m t o.answers ≡ Ok true
 
 -- behind the counts, the pairs and the list every place is as it was
 pub record Behind (c : Columns) (index list : List ℕ) (k' : Counts) (o : Grown) (t : Columns) : Type 0 where

@@ -1,5 +1,6 @@
 pub mod Appending
 pub mod Growing
+pub mod Given
 pub mod Leaves
 pub mod Changes
 pub mod Asked

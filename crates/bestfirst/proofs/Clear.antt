@@ -1,39 +1,19 @@
 -- Before the first turn: the columns to work in are clear, so nothing waits and nothing is queued. Assumes nothing.
 use Prim.Native.Nat.{ℕ, ◌*◌, ◌<◌}
-use mathlib.Core.Path.{◌≡◌, refl, sym, ◌∙◌, ap, subst}
+use mathlib.Core.Path.{◌≡◌, sym, ◌∙◌, ap, subst}
 use mathlib.Core.List.{List}
 use native.Mathlib.Omega.{arith}
-use lib.ListN.{length, replicate, length-replicate, get_or-replicate}
+use lib.ListN.{length, length-replicate, get_or-replicate}
 use Rattle.weights.specs.declared.Measure.{Measure}
-use Rattle.weights.specs.Measures.{algebra}
 use Rattle.columns.specs.Columns.{Answers, Columns, cell}
 use Rattle.provenance.specs.BestFirst.{turns}
 use Rattle.provenance.proofs.Existence.{zeros}
 use Rattle.minima.specs.Minima.{none, Grouped}
 use Rattle.minima.proofs.Laws.{no_keys_grouped}
 use Rattle.queue.specs.Keys.{heavy}
-use Rattle.waiting.specs.Lines.{end, Lines, lines, Room, room_of, Offerable, Rested, Empty}
+use Rattle.waiting.specs.Lines.{end, Lines, room_of, Offerable, Rested, Empty}
 use Rattle.waiting.proofs.Steps.{room_power, enough, edge-room}
 use Rattle.bestfirst.specs.Turns.{Blank, Begun, Cleared}
-
--- columns that are made for the purpose, with as many places as a room has
-module _ (m : Measure) (r : Room) {j : ℕ} (u : j ≡ (algebra m).unit) where
-  abbrev clear_lines : Lines
-  clear_lines = lines (replicate r.vertices end) (replicate r.edges 0) (replicate r.edges 0) (replicate r.edges j) (replicate r.edges 0)
-
-  cleared : Cleared m r clear_lines (replicate (2 * r.vertices) none)
-  cleared =
-      let l : length {A = ℕ} (replicate r.edges 0) ≡ r.edges = length-replicate {A = ℕ} r.edges 0 in
-      record {
-        sizes = record { first = length-replicate r.vertices end; next = l; at = l; joined = length-replicate {A = ℕ} r.edges j; deepest = l };
-        untouched = λ e h. record { at = zeros r.edges e; joined = get_or-replicate r.edges e j 0 h ∙ u; deepest = zeros r.edges e };
-        first = refl;
-        queue = refl;
-      }
-
-  -- a table whose room this is
-  pub clear_columns : {r' : Room} → r' ≡ r → Cleared m r' clear_lines (replicate (2 * r.vertices) none)
-  clear_columns p = subst (λ (z : Room). Cleared m z clear_lines (replicate (2 * r.vertices) none)) (sym p) cleared
 
 module _ {m : Measure} {c : Columns} {a : Answers} {s : Lines} {q : List ℕ} (u : Blank m c a) (k : Cleared m (room_of c) s q) where
   light : (v : ℕ) → cell a.weights v < heavy

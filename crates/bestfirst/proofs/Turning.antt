@@ -9,11 +9,8 @@ use lib.ListN.{length, set, length-set}
 use lib.Seq.{get_or-set_same, get_or-set_other}
 use Rattle.weights.specs.declared.Measure.{Measure}
 use Rattle.weights.specs.declared.Label.{Label}
-use Rattle.weights.specs.declared.Offer.{Offer}
-use Rattle.weights.specs.declared.Offer.TheVariants.{Found}
 use Rattle.weights.specs.Measures.{Algebra, algebra}
 use Rattle.weights.proofs.Laws.{lawful}
-use Rattle.refusal.specs.declared.Acceptance.TheVariants.{Accepted}
 use Rattle.provenance.specs.Hypergraph.{Hypergraph}
 use Rattle.provenance.specs.Labelling.{greatest_depth, candidate}
 use Rattle.columns.specs.Columns.{Answers, Columns, cell}
@@ -31,6 +28,8 @@ use Rattle.waiting.specs.Lines.{Lines, room_of, Offerable, Waking, Woken, Rested
 use Rattle.bestfirst.specs.Turns.{Placeable, Waits, Underway}
 use Rattle.waiting.proofs.Steps.{head_key, edge_fits_lem, found_fits}
 use Rattle.waiting.proofs.Queueing.{queued, woken, woken_chain, relabelled, woken_raisable, key_out}
+use Rattle.weights.specs.Offers.{Offer}
+use Rattle.std.specs.Prelude.{Ok, Some}
 
 -- what is found is the candidate of a hyperedge of the table, whose head is unmade
 pub record Told (H : Hypergraph) (d : ℕ → ℕ) (k : ℕ) (l : Label) : Type 0 where
@@ -40,7 +39,7 @@ pub record Told (H : Hypergraph) (d : ℕ → ℕ) (k : ℕ) (l : Label) : Type 
   pub shallow : l.depth ≤ k + 1
 
 told_next : {A : Algebra} {H : Hypergraph} {own : ℕ → ℕ} (a : Answers) {j k : ℕ} {o : Offer} {l : Label} → ((v : ℕ) → cell a.depths v ≤ k)
-    → Next A H own (labels a) j o → Found l ≡ o → Told H (cell a.depths) k l
+    → Next A H own (labels a) j o → Some l ≡ o → Told H (cell a.depths) k l
 told_next a f (Next.stuck n) p = absurd (let z : ◌≡◌ {A = ℕ} 0 1 = cc in omega arith)
 told_next {A} {H} {own} a {k = k} {l = l} f (Next.found e o b) p =
     let q : l ≡ candidate A H own (labels a) e = cc in
@@ -89,10 +88,10 @@ module _ {m : Measure} {c : Columns} {a : Answers} {s : Lines} {q : List ℕ} (u
   unfolding turn
   stuck k p z = ap (place (algebra m) H own a) (told_nothing m k fitting (p ∙ key_is) z)
 
-  pub found : {l : Label} (k : ℕ) → k ≡ least_key q → k ≢ none → l ≡ unpacked m k → Found l ≡ here
-  found k p n e = ap Found e ∙ told_found m k fitting (p ∙ key_is) n
+  pub found : {l : Label} (k : ℕ) → k ≡ least_key q → k ≢ none → l ≡ unpacked m k → Some l ≡ here
+  found k p n e = ap Some e ∙ told_found m k fitting (p ∙ key_is) n
 
-  module _ {l : Label} (f : Found l ≡ here) where
+  module _ {l : Label} (f : Some l ≡ here) where
     turned : put a (H.head l.edge.0) l ≡ turn (algebra m) H own a
     unfolding turn
     turned = ap (place (algebra m) H own a) f
@@ -147,7 +146,7 @@ module _ {m : Measure} {c : Columns} {a : Answers} {s : Lines} {q : List ℕ} (u
     offerable_after : (q' : List ℕ) → Grouped q' → length q' ≡ 2 * (room_of c).vertices → Offerable (same_table c (length ds)) ws ds q'
     offerable_after q' g z = record {
       usable = record {
-        accepted = subst (λ (n : ℕ). acceptance (same_table c n) ≡ Accepted) same_vertices u.turning.usable.accepted;
+        accepted = subst (λ (n : ℕ). acceptance (same_table c n) ≡ Ok tt) same_vertices u.turning.usable.accepted;
         level = length-set a.weights v l.weight.0 ∙ u.turning.usable.level ∙ sym (length-set a.depths v l.depth);
         vertices = refl;
         shallow = λ x. omega (arith, shallow x, low);

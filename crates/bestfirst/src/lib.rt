@@ -1,17 +1,21 @@
 // Best-first over a table in columns: a turn labels the head of the least key in the queue, what
 // waited for that head goes on, and the key is taken out.
+//
+// Kept: columns and rooms are lent, or arrays of a fixed size: the library and its programs use no heap.
 
 #![tactic(auto)]
 
-ghost use Rattle.std.specs.Prelude.{◌≡◌};
+ghost use Rattle.std.specs.Prelude.{◌≡◌, ◌*◌, ◌≤◌};
 ghost use Rattle.weights.specs.Measures.{algebra};
 ghost use Rattle.provenance.specs.BestFirst.{put, turn, best_first};
 ghost use Rattle.columns.specs.Columns.{answers, cell};
 ghost use Rattle.tables.specs.Table.{hypergraph};
-ghost use Rattle.columns.specs.Lent.{lent};
-ghost use Rattle.waiting.specs.Lines.{lines, small, middle, large, holds, room_of};
+ghost use Rattle.columns.specs.Acceptance.{most_vertices, most_edges};
+ghost use Rattle.columns.specs.Given.{lent_of};
+ghost use Rattle.waiting.specs.Lines.{lines, holds, room_of};
 ghost use Rattle.bestfirst.specs.Turns.{Placeable, Waits, Underway, Blank, Begun, Cleared};
 
+use columns::Table;
 use weights::{Label, Measure, Vertex, Weight};
 
 // The head of a label's hyperedge gets the label; gives that head.
@@ -43,11 +47,7 @@ fn store(
 // on, and its key is taken out.
 fn turn(
     measure: Measure,
-    heads: &[u64],
-    own: &[u64],
-    strikes: &[u64],
-    spans: &[u64],
-    tails: &[u64],
+    table: &Table,
     weights: &mut [u64],
     depths: &mut [u64],
     edges: &mut [u64],
@@ -58,16 +58,17 @@ fn turn(
     deepest: &mut [u16],
     queue: &mut [u64],
 )
-    requires { let c = lent heads.now own.now strikes.now spans.now tails.now depths.old in
+    requires { let c = lent_of table.now depths.old in
         let a = answers weights.old depths.old edges.old in
         let s = lines first.old next.old at.old joined.old deepest.old in
         Underway measure c a s queue.old }
-    ensures { let c = lent heads.now own.now strikes.now spans.now tails.now depths.old in
+    ensures { let c = lent_of table.now depths.old in
         let a = answers weights.old depths.old edges.old in
         let a' = answers weights.new depths.new edges.new in
         let s' = lines first.new next.new at.new joined.new deepest.new in
-        (a' ≡ turn (algebra measure) (hypergraph c) (cell own.now) a) × Waits measure c weights.new depths.new s' queue.new }
+        (a' ≡ turn (algebra measure) (hypergraph c) (cell table.now.own.now) a) × Waits measure c weights.new depths.new s' queue.new }
 {
+    let Table { heads, .. } = *table;
     let key = minima::least(queue);
     if key == minima::NONE {
         return;
@@ -75,8 +76,7 @@ fn turn(
     let l = queue::unpack(measure, key);
     let v = store(l, heads, weights, depths, edges);
     waiting::wake_all(
-        measure, v, heads, own, strikes, spans, tails, weights, depths, first, next, at, joined,
-        deepest, queue,
+        measure, v, table, weights, depths, first, next, at, joined, deepest, queue,
     );
     minima::raise(queue, v.0 as usize);
 }
@@ -84,11 +84,7 @@ fn turn(
 // A turn for each vertex.
 fn turns(
     measure: Measure,
-    heads: &[u64],
-    own: &[u64],
-    strikes: &[u64],
-    spans: &[u64],
-    tails: &[u64],
+    table: &Table,
     weights: &mut [u64],
     depths: &mut [u64],
     edges: &mut [u64],
@@ -99,32 +95,25 @@ fn turns(
     deepest: &mut [u16],
     queue: &mut [u64],
 )
-    requires { let c = lent heads.now own.now strikes.now spans.now tails.now depths.old in
+    requires { let c = lent_of table.now depths.old in
         let a = answers weights.old depths.old edges.old in
         let s = lines first.old next.old at.old joined.old deepest.old in
         Begun measure c a s queue.old }
-    ensures { let c = lent heads.now own.now strikes.now spans.now tails.now depths.old in
+    ensures { let c = lent_of table.now depths.old in
         let a' = answers weights.new depths.new edges.new in
-        a' ≡ best_first (algebra measure) (hypergraph c) (cell own.now) }
+        a' ≡ best_first (algebra measure) (hypergraph c) (cell table.now.own.now) }
 {
-    let mut k = 0;
-    while k < depths.len() {
+    for _ in 0..depths.len() {
         turn(
-            measure, heads, own, strikes, spans, tails, weights, depths, edges, first, next, at,
-            joined, deepest, queue,
+            measure, table, weights, depths, edges, first, next, at, joined, deepest, queue,
         );
-        k += 1;
     }
 }
 
 // Best-first in columns to work in, which are clear: the lists of what waits, and a queue.
 fn label_in(
     measure: Measure,
-    heads: &[u64],
-    own: &[u64],
-    strikes: &[u64],
-    spans: &[u64],
-    tails: &[u64],
+    table: &Table,
     weights: &mut [u64],
     depths: &mut [u64],
     edges: &mut [u64],
@@ -135,147 +124,48 @@ fn label_in(
     deepest: &mut [u16],
     queue: &mut [u64],
 )
-    requires { let c = lent heads.now own.now strikes.now spans.now tails.now depths.old in
+    requires { let c = lent_of table.now depths.old in
         let a = answers weights.old depths.old edges.old in
         let s = lines first.old next.old at.old joined.old deepest.old in
         (Blank measure c a) × Cleared measure (room_of c) s queue.old }
-    ensures { let c = lent heads.now own.now strikes.now spans.now tails.now depths.old in
+    ensures { let c = lent_of table.now depths.old in
         let a' = answers weights.new depths.new edges.new in
-        a' ≡ best_first (algebra measure) (hypergraph c) (cell own.now) }
+        a' ≡ best_first (algebra measure) (hypergraph c) (cell table.now.own.now) }
 {
     waiting::start(
-        measure, heads, own, strikes, spans, tails, weights, depths, first, next, at, joined,
-        deepest, queue,
+        measure, table, weights, depths, first, next, at, joined, deepest, queue,
     );
     turns(
-        measure, heads, own, strikes, spans, tails, weights, depths, edges, first, next, at,
-        joined, deepest, queue,
+        measure, table, weights, depths, edges, first, next, at, joined, deepest, queue,
     );
 }
 
-// The same in columns of its own. A small table is given few places, as every place has to be cleared.
-fn label_small(
+// The same in columns of its own, with the places of the table's room. A small table is given few
+// places, as every place has to be cleared. KEYS is twice VERTICES.
+fn label_with<const VERTICES: usize, const EDGES: usize, const KEYS: usize>(
     measure: Measure,
-    heads: &[u64],
-    own: &[u64],
-    strikes: &[u64],
-    spans: &[u64],
-    tails: &[u64],
+    table: &Table,
     weights: &mut [u64],
     depths: &mut [u64],
     edges: &mut [u64],
 )
-    requires { let c = lent heads.now own.now strikes.now spans.now tails.now depths.old in
+    requires { let c = lent_of table.now depths.old in
         let a = answers weights.old depths.old edges.old in
-        (Blank measure c a) × (room_of c ≡ small) }
-    ensures { let c = lent heads.now own.now strikes.now spans.now tails.now depths.old in
+        (Blank measure c a) × (room_of c ≡ record { vertices = VERTICES; edges = EDGES }) × (VERTICES ≤ most_vertices) × (EDGES ≤ most_edges) × (KEYS ≡ 2 * VERTICES) }
+    ensures { let c = lent_of table.now depths.old in
         let a' = answers weights.new depths.new edges.new in
-        a' ≡ best_first (algebra measure) (hypergraph c) (cell own.now) }
+        a' ≡ best_first (algebra measure) (hypergraph c) (cell table.now.own.now) }
 {
     let unit = Weight::unit(measure);
-    let mut first = [65535u16; 64];
-    let mut next = [0u16; 256];
-    let mut at = [0u8; 256];
-    let mut joined = [unit.0; 256];
-    let mut deepest = [0u16; 256];
-    let mut queue = [18446744073709551615u64; 128];
+    let mut first = [65535u16; VERTICES];
+    let mut next = [0u16; EDGES];
+    let mut at = [0u8; EDGES];
+    let mut joined = [unit.0; EDGES];
+    let mut deepest = [0u16; EDGES];
+    let mut queue = [minima::NONE; KEYS];
     label_in(
         measure,
-        heads,
-        own,
-        strikes,
-        spans,
-        tails,
-        weights,
-        depths,
-        edges,
-        &mut first,
-        &mut next,
-        &mut at,
-        &mut joined,
-        &mut deepest,
-        &mut queue,
-    );
-}
-
-// The same of a table in the middle.
-fn label_middle(
-    measure: Measure,
-    heads: &[u64],
-    own: &[u64],
-    strikes: &[u64],
-    spans: &[u64],
-    tails: &[u64],
-    weights: &mut [u64],
-    depths: &mut [u64],
-    edges: &mut [u64],
-)
-    requires { let c = lent heads.now own.now strikes.now spans.now tails.now depths.old in
-        let a = answers weights.old depths.old edges.old in
-        (Blank measure c a) × (room_of c ≡ middle) }
-    ensures { let c = lent heads.now own.now strikes.now spans.now tails.now depths.old in
-        let a' = answers weights.new depths.new edges.new in
-        a' ≡ best_first (algebra measure) (hypergraph c) (cell own.now) }
-{
-    let unit = Weight::unit(measure);
-    let mut first = [65535u16; 256];
-    let mut next = [0u16; 1024];
-    let mut at = [0u8; 1024];
-    let mut joined = [unit.0; 1024];
-    let mut deepest = [0u16; 1024];
-    let mut queue = [18446744073709551615u64; 512];
-    label_in(
-        measure,
-        heads,
-        own,
-        strikes,
-        spans,
-        tails,
-        weights,
-        depths,
-        edges,
-        &mut first,
-        &mut next,
-        &mut at,
-        &mut joined,
-        &mut deepest,
-        &mut queue,
-    );
-}
-
-// The same of any other.
-fn label_large(
-    measure: Measure,
-    heads: &[u64],
-    own: &[u64],
-    strikes: &[u64],
-    spans: &[u64],
-    tails: &[u64],
-    weights: &mut [u64],
-    depths: &mut [u64],
-    edges: &mut [u64],
-)
-    requires { let c = lent heads.now own.now strikes.now spans.now tails.now depths.old in
-        let a = answers weights.old depths.old edges.old in
-        (Blank measure c a) × (room_of c ≡ large) }
-    ensures { let c = lent heads.now own.now strikes.now spans.now tails.now depths.old in
-        let a' = answers weights.new depths.new edges.new in
-        a' ≡ best_first (algebra measure) (hypergraph c) (cell own.now) }
-{
-    let unit = Weight::unit(measure);
-    let mut first = [65535u16; 1024];
-    let mut next = [0u16; 4096];
-    let mut at = [0u8; 4096];
-    let mut joined = [unit.0; 4096];
-    let mut deepest = [0u16; 4096];
-    let mut queue = [18446744073709551615u64; 2048];
-    label_in(
-        measure,
-        heads,
-        own,
-        strikes,
-        spans,
-        tails,
+        table,
         weights,
         depths,
         edges,
@@ -292,42 +182,30 @@ fn label_large(
 fn holds(keys: usize, places: usize, vertices: usize, edges: usize) -> bool
     ensures { result ≡ holds (record { vertices = keys; edges = places }) vertices edges }
 {
-    if vertices > keys {
-        return false;
-    }
-    edges <= places
+    vertices <= keys && edges <= places
 }
 
 // Leaves the table's answers in the answer columns, which are all unmade at first.
 pub fn label_all(
     measure: Measure,
-    heads: &[u64],
-    own: &[u64],
-    strikes: &[u64],
-    spans: &[u64],
-    tails: &[u64],
+    table: &Table,
     weights: &mut [u64],
     depths: &mut [u64],
     edges: &mut [u64],
 )
-    requires { Blank measure (lent heads.now own.now strikes.now spans.now tails.now depths.old) (answers weights.old depths.old edges.old) }
-    ensures { let c = lent heads.now own.now strikes.now spans.now tails.now depths.old in
+    requires { Blank measure (lent_of table.now depths.old) (answers weights.old depths.old edges.old) }
+    ensures { let c = lent_of table.now depths.old in
         let a' = answers weights.new depths.new edges.new in
-        a' ≡ best_first (algebra measure) (hypergraph c) (cell own.now) }
+        a' ≡ best_first (algebra measure) (hypergraph c) (cell table.now.own.now) }
 {
-    if holds(64, 256, depths.len(), heads.len()) {
-        label_small(
-            measure, heads, own, strikes, spans, tails, weights, depths, edges,
-        );
+    let lines = table.heads.len();
+    if holds(64, 256, depths.len(), lines) {
+        label_with::<64, 256, 128>(measure, table, weights, depths, edges);
         return;
     }
-    if holds(256, 1024, depths.len(), heads.len()) {
-        label_middle(
-            measure, heads, own, strikes, spans, tails, weights, depths, edges,
-        );
+    if holds(256, 1024, depths.len(), lines) {
+        label_with::<256, 1024, 512>(measure, table, weights, depths, edges);
         return;
     }
-    label_large(
-        measure, heads, own, strikes, spans, tails, weights, depths, edges,
-    );
+    label_with::<1024, 4096, 2048>(measure, table, weights, depths, edges);
 }

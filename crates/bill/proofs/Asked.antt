@@ -11,9 +11,6 @@ use borrow.Author.Tests.{ltb-true, ltb-false, leb-true, leb-false, lt-ltb, le-lt
 use Rattle.weights.specs.declared.Measure.{Measure}
 use Rattle.refusal.specs.declared.Refusal.{Refusal}
 use Rattle.refusal.specs.declared.Refusal.TheVariants.{NoSuchVertex, WrongAnswers, Underivable}
-use Rattle.refusal.specs.declared.Acceptance.{Acceptance}
-use Rattle.refusal.specs.declared.Acceptance.TheVariants as answer
-use Rattle.refusal.specs.declared.Extent.TheVariants.{Refused}
 use Rattle.columns.specs.Columns.{Entries, Columns}
 use Rattle.provenance.specs.BestFirst.{labels}
 use Rattle.columns.specs.Acceptance.{test, lent_acceptance}
@@ -27,6 +24,8 @@ use Rattle.settle.proofs.Exactly.{same_exactly, same_fails}
 use Rattle.settle.proofs.States.{deep_made, made_deep}
 use Rattle.bill.specs.Billing.{bill_of, part_acceptance, room_acceptance, bill_acceptance, outcome, billed}
 use Rattle.bill.specs.Asked.{RightBill, WrongBill, BillOwes}
+use Rattle.refusal.specs.Answers.{Acceptance}
+use Rattle.std.specs.Prelude.{Ok, Err}
 
 module _ (m : Measure) (c : Columns) (a : Entries) (v places : ℕ) where
   -- the tests behind those of the lent columns
@@ -35,7 +34,7 @@ module _ (m : Measure) (c : Columns) (a : Entries) (v places : ℕ) where
       test (ltb v c.vertices) NoSuchVertex
       (test (same_entries a (entries_of m c)) WrongAnswers
       (test (ltb 0 (labels a.labels v).depth) Underivable
-      answer.Accepted))
+      (Ok tt)))
 
   abbrev k : ℕ
   k = (labels a.labels v).depth
@@ -62,7 +61,7 @@ module _ (m : Measure) (c : Columns) (a : Entries) (v places : ℕ) where
       let d = deep_made (f v h).means (ltb-true 0 k t3.0) in
       test_refuses (leb (length (bill_of c a.labels v)) places) _ _ (λ b. WrongBill.room l h f d (λ r. omega (arith, leb-false (length (bill_of c a.labels v)) places b, r))) (λ _. none_refuses))
 
-  wrong_bill : {r : Refusal} → WrongBill m c a v places r → bill_acceptance m c a v places ≡ answer.Refused r
+  wrong_bill : {r : Refusal} → WrongBill m c a v places r → bill_acceptance m c a v places ≡ Err r
   unfolding bill_acceptance part_acceptance
   wrong_bill (WrongBill.lent w) = let q = (lent_refused_exactly c a _).1 w in rw q
   wrong_bill (WrongBill.part l n) = rw ((lent_exactly c a).1 l, le-ltb v c.vertices (omega (arith, n)))
@@ -79,7 +78,7 @@ module _ (m : Measure) (c : Columns) (a : Entries) (v places : ℕ) where
       let p = (lent_exactly c a).1 l in
       rw (p, lt-ltb v c.vertices h, (same_exactly m c a p).1 f, lt-ltb 0 k (made_deep (f v h).means d), lt-leb (length (bill_of c a.labels v)) places (omega (arith, n)))
 
-  accepted-bill : bill_acceptance m c a v places ≡ answer.Accepted → RightBill m c a v places
+  accepted-bill : bill_acceptance m c a v places ≡ Ok tt → RightBill m c a v places
   unfolding bill_acceptance part_acceptance
   accepted-bill q =
       let u = both_accepted (part_acceptance m c a v) (room_acceptance (bill_of c a.labels v) places) q in
@@ -97,7 +96,7 @@ module _ (m : Measure) (c : Columns) (a : Entries) (v places : ℕ) where
         room = leb-true (length (bill_of c a.labels v)) places (test_passed _ _ _ u.1).0;
       }
 
-  right_bill : RightBill m c a v places → bill_acceptance m c a v places ≡ answer.Accepted
+  right_bill : RightBill m c a v places → bill_acceptance m c a v places ≡ Ok tt
   unfolding bill_acceptance part_acceptance
   right_bill g =
       let p = (lent_exactly c a).1 g.lent in
@@ -105,10 +104,10 @@ module _ (m : Measure) (c : Columns) (a : Entries) (v places : ℕ) where
       rw (p, lt-ltb v c.vertices g.part, (same_exactly m c a p).1 g.answers, lt-ltb 0 k deep, le-leb (length (bill_of c a.labels v)) places g.room)
 
   -- "Print a bill"
-  pub bill_exactly : (bill_acceptance m c a v places ≡ answer.Accepted) ↔ RightBill m c a v places
+  pub bill_exactly : (bill_acceptance m c a v places ≡ Ok tt) ↔ RightBill m c a v places
   bill_exactly = (accepted-bill, right_bill)
 
-  pub bill_refused_exactly : (r : Refusal) → (bill_acceptance m c a v places ≡ answer.Refused r) ↔ WrongBill m c a v places r
+  pub bill_refused_exactly : (r : Refusal) → (bill_acceptance m c a v places ≡ Err r) ↔ WrongBill m c a v places r
   bill_refused_exactly r = (bill_wrong.holds, wrong_bill)
 
 pub bill_owes : (m : Measure) (c : Columns) (a : Entries) (v : ℕ) (room : List ℕ) → BillOwes m c a v room (billed m c a v room)
@@ -116,15 +115,15 @@ unfolding billed
 bill_owes m c a v room = go (bill_acceptance m c a v (length room)) refl
   where
     go : (x : Acceptance) → bill_acceptance m c a v (length room) ≡ x → BillOwes m c a v room (outcome x (bill_of c a.labels v) room)
-    go answer.Accepted p = Owed.accepted ((bill_exactly m c a v (length room)).0 p)
-    go (answer.Refused r) p = Owed.refused ((bill_refused_exactly m c a v (length room) r).0 p)
+    go (Ok _) p = Owed.accepted ((bill_exactly m c a v (length room)).0 p)
+    go (Err r) p = Owed.refused ((bill_refused_exactly m c a v (length room) r).0 p)
 
 -- the call is refused by what its tests refuse by
 pub bill_refused : (m : Measure) (c : Columns) (a : Entries) (v : ℕ) (room : List ℕ) (r : Refusal)
-    → ((billed m c a v room).result ≡ Refused r) ↔ (bill_acceptance m c a v (length room) ≡ answer.Refused r)
+    → ((billed m c a v room).result ≡ Err r) ↔ (bill_acceptance m c a v (length room) ≡ Err r)
 unfolding billed
 bill_refused m c a v room r = (go (bill_acceptance m c a v (length room)), λ p. ap (λ (x : Acceptance). (outcome x (bill_of c a.labels v) room).result) p)
   where
-    go : (x : Acceptance) → (outcome x (bill_of c a.labels v) room).result ≡ Refused r → x ≡ answer.Refused r
-    go answer.Accepted q = let z : ◌≡◌ {A = ℕ} 0 1 = cc in absurd (omega arith)
-    go (answer.Refused s) q = let e : s ≡ r = cc in ap answer.Refused e
+    go : (x : Acceptance) → (outcome x (bill_of c a.labels v) room).result ≡ Err r → x ≡ Err r
+    go (Ok _) q = let z : ◌≡◌ {A = ℕ} 0 1 = cc in absurd (omega arith)
+    go (Err s) q = let e : s ≡ r = cc in ap Err e

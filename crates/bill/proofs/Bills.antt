@@ -13,9 +13,6 @@ use Rattle.weights.specs.declared.Label.{Label}
 use Rattle.weights.specs.Measures.{algebra}
 use Rattle.weights.proofs.Laws.{lawful}
 use Rattle.refusal.specs.declared.Refusal.{Refusal}
-use Rattle.refusal.specs.declared.Acceptance.{Acceptance}
-use Rattle.refusal.specs.declared.Acceptance.TheVariants as answer
-use Rattle.refusal.specs.declared.Extent.TheVariants.{Length, Refused}
 use Rattle.provenance.specs.Hypergraph.{Derivation, listing}
 use Rattle.provenance.specs.Labelling.{Made, Fixpoint}
 use Rattle.provenance.specs.Means.{Follows}
@@ -35,6 +32,8 @@ use Rattle.bill.specs.Billing.{bill_of, part_acceptance, bill_acceptance, outcom
 use Rattle.bill.specs.Listing.{amount, least_own}
 use Rattle.bill.proofs.Listing.{listing-nodes, listing-uses, listing_least}
 use Rattle.bill.specs.Bills.{BillWorth, IsBill, Printed}
+use Rattle.refusal.specs.Answers.{Acceptance}
+use Rattle.std.specs.Prelude.{Ok, Err}
 
 -- a part whose bill can be asked for
 pub record AcceptedPart (m : Measure) (c : Columns) (a : Entries) (v : ℕ) : Type 0 where
@@ -43,7 +42,7 @@ pub record AcceptedPart (m : Measure) (c : Columns) (a : Entries) (v : ℕ) : Ty
   pub fixed : Fixpoint (algebra m) (hypergraph c) (own_at c) (labels a.labels)
   pub made : Made (labels a.labels v)
 
-pub part_accepted : (m : Measure) (c : Columns) (a : Entries) (v : ℕ) → part_acceptance m c a v ≡ answer.Accepted → AcceptedPart m c a v
+pub part_accepted : (m : Measure) (c : Columns) (a : Entries) (v : ℕ) → part_acceptance m c a v ≡ Ok tt → AcceptedPart m c a v
 unfolding part_acceptance entries_of
 part_accepted m c a v p =
     let t = both_accepted _ _ p in
@@ -85,22 +84,22 @@ module _ {m : Measure} {c : Columns} {a : Entries} {v : ℕ} (p : AcceptedPart m
       }
 
 module _ (m : Measure) (c : Columns) (a : Entries) (v : ℕ) (room : List ℕ) where
-  pub bill_printed : (size : ℕ) → (billed m c a v room).result ≡ Length size → Printed m c a v room size (billed m c a v room).left
+  pub bill_printed : (size : ℕ) → (billed m c a v room).result ≡ Ok size → Printed m c a v room size (billed m c a v room).left
   unfolding billed bill_acceptance
   bill_printed size e = go (bill_acceptance m c a v (length room)) refl e
     where
-      go : (x : Acceptance) → bill_acceptance m c a v (length room) ≡ x → (outcome x (bill_of c a.labels v) room).result ≡ Length size
+      go : (x : Acceptance) → bill_acceptance m c a v (length room) ≡ x → (outcome x (bill_of c a.labels v) room).result ≡ Ok size
           → Printed m c a v room size (outcome x (bill_of c a.labels v) room).left
-      go (answer.Refused r) p q = let z : ◌≡◌ {A = ℕ} 0 1 = cc in absurd (omega arith)
-      go answer.Accepted p q =
+      go (Err r) p q = let z : ◌≡◌ {A = ℕ} 0 1 = cc in absurd (omega arith)
+      go (Ok _) p q =
           let h : size ≡ length (bill_of c a.labels v) = cc in
           record { bill = is_bill (part_accepted m c a v (both_accepted _ _ p).0); counted = h; holds = ap (λ (k : ℕ). bill_of c a.labels v ++ drop k room) (sym h) }
 
   -- a refusal leaves the room
-  pub bill_keeps : (r : Refusal) → (billed m c a v room).result ≡ Refused r → (billed m c a v room).left ≡ room
+  pub bill_keeps : (r : Refusal) → (billed m c a v room).result ≡ Err r → (billed m c a v room).left ≡ room
   unfolding billed
   bill_keeps r e = go (bill_acceptance m c a v (length room)) e
     where
-      go : (x : Acceptance) → (outcome x (bill_of c a.labels v) room).result ≡ Refused r → (outcome x (bill_of c a.labels v) room).left ≡ room
-      go (answer.Refused s) q = refl
-      go answer.Accepted q = let z : ◌≡◌ {A = ℕ} 0 1 = cc in absurd (omega arith)
+      go : (x : Acceptance) → (outcome x (bill_of c a.labels v) room).result ≡ Err r → (outcome x (bill_of c a.labels v) room).left ≡ room
+      go (Err s) q = refl
+      go (Ok _) q = let z : ◌≡◌ {A = ℕ} 0 1 = cc in absurd (omega arith)

@@ -1,4 +1,5 @@
 -- The laws of the column of lengths: a bill is the same from every depth that grounds it, and a walk leaves the column right. Assumes nothing.
+use Rattle.std.specs.Prelude.{Option}
 use mathlib.Core.Path.{◌≡◌, refl, sym, ◌∙◌, ap, ap₂, subst}
 use mathlib.Core.List.{List, [], ◌∷◌, ◌++◌}
 use Prim.Native.Nat.{ℕ, zero, suc, ◌≤◌, ◌<◌}
@@ -9,7 +10,6 @@ use lib.Seq.{get_or-set_same, get_or-set_other}
 use Rattle.provenance.specs.Support.{bills, bill}
 use Rattle.provenance.proofs.Existence.{zeros}
 use Rattle.columns.specs.Columns.{cell}
-use Rattle.bill.specs.declared.Budget.{Budget}
 use Rattle.bill.specs.Walk.{vertex_bill, Each, Grounded, Known, KnownStill, spend}
 use Rattle.bill.proofs.Walks.{grounded}
 
@@ -45,7 +45,7 @@ module _ {spans tails edges : List ℕ} where
     vertex_known k = omega (arith, k.places, (grounded spans tails edges depth v g).vertex)
 
     -- a length that is known is paid at once
-    pub known_paid : {lengths : List ℕ} → Known spans tails edges lengths → ¬ (cell lengths v ≡ 0) → (b : ℕ) {r : Budget} → r ≡ spend b (cell lengths v)
+    pub known_paid : {lengths : List ℕ} → Known spans tails edges lengths → ¬ (cell lengths v ≡ 0) → (b : ℕ) {r : Option ℕ} → r ≡ spend b (cell lengths v)
         → r ≡ spend b (length (vertex_bill spans tails edges depth v))
     known_paid k n b p = p ∙ ap (spend b) (k.right depth v g n)
 

@@ -1,4 +1,5 @@
 -- The laws by which `bill` goes: a part that is accepted has a grounded bill, which the walks read from three columns; and what the call leaves. Assumes nothing.
+use Rattle.std.specs.Prelude.{Some, None, Ok, Err}
 use mathlib.Core.Path.{◌≡◌, refl, ap, fun_ext}
 use mathlib.Core.Bool.{true}
 use mathlib.Core.List.{List, ◌∷◌}
@@ -12,8 +13,6 @@ use Rattle.weights.proofs.Choice.{both_true}
 use Rattle.weights.specs.Measures.{algebra}
 use Rattle.refusal.specs.declared.Refusal.{Refusal}
 use Rattle.refusal.specs.declared.Refusal.TheVariants.{BillRoom}
-use Rattle.refusal.specs.declared.Acceptance.TheVariants as answer
-use Rattle.refusal.specs.declared.Extent.TheVariants.{Length, Refused}
 use Rattle.provenance.specs.Labelling.{Made, AllMade, greatest_depth, deepest_in, Fixpoint}
 use Rattle.columns.specs.Filled.{filled}
 use Rattle.columns.specs.Columns.{Entries, Columns, own_at, tail_at}
@@ -22,7 +21,6 @@ use Rattle.provenance.specs.Support.{bills, bill}
 use Rattle.tables.specs.Table.{hypergraph}
 use Rattle.columns.specs.Acceptance.{most_vertices, all_below}
 use Rattle.columns.proofs.Accepted.{AcceptedColumns, table_accepted}
-use Rattle.bill.specs.declared.Budget.TheVariants.{Left, Spent}
 use Rattle.bill.specs.Walk.{vertex_bill, Each, Grounded, VertexFits, WrittenFrom, spend}
 use Rattle.bill.specs.Billing.{bill_of, part_acceptance, bill_acceptance, printed, billed}
 use Rattle.bill.proofs.Bills.{AcceptedPart, part_accepted}
@@ -68,25 +66,25 @@ module _ (spans tails edges : List ℕ) (depth v : ℕ) (room : List ℕ) where
   lines = vertex_bill spans tails edges depth v
 
   -- the budget was spent: nothing is written
-  pub print_short : spend (length room) (length lines) ≡ Spent → record { result = Refused BillRoom; left = room } ≡ printed lines room
+  pub print_short : spend (length room) (length lines) ≡ None → record { result = Err BillRoom; left = room } ≡ printed lines room
   print_short q = rw (lt-leb (length lines) (length room) (is_spent (length room) (length lines) q))
 
-  module _ {rest : ℕ} (q : spend (length room) (length lines) ≡ Left rest) where
+  module _ {rest : ℕ} (q : spend (length room) (length lines) ≡ Some rest) where
     pub print_fits : Grounded spans tails edges depth v → VertexFits spans tails edges depth v room
     print_fits g = record { grounded = g; fits = (is_left (length room) (length lines) q).0 }
 
-    pub print_written : {to : ℕ} {left : List ℕ} → WrittenFrom 0 lines room to left → record { result = Length to; left = left } ≡ printed lines room
+    pub print_written : {to : ℕ} {left : List ℕ} → WrittenFrom 0 lines room to left → record { result = Ok to; left = left } ≡ printed lines room
     unfolding filled
     print_written {to} {left} w =
         let e : to ≡ length lines = omega (arith, w.reaches) in
         rw (le-leb (length lines) (length room) (is_left (length room) (length lines) q).0, e, w.content)
 
 module _ (m : Measure) (c : Columns) (a : Entries) (v : ℕ) where
-  pub bill_refused : (room : List ℕ) {r : Refusal} → part_acceptance m c a v ≡ answer.Refused r → record { result = Refused r; left = room } ≡ billed m c a v room
+  pub bill_refused : (room : List ℕ) {r : Refusal} → part_acceptance m c a v ≡ Err r → record { result = Err r; left = room } ≡ billed m c a v room
   unfolding billed bill_acceptance
   bill_refused room p = rw p
 
-  module _ (p : part_acceptance m c a v ≡ answer.Accepted) where
+  module _ (p : part_acceptance m c a v ≡ Ok tt) where
     accepted : AcceptedPart m c a v
     accepted = part_accepted m c a v p
 

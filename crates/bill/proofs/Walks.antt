@@ -1,4 +1,5 @@
 -- The laws by which the walks of a bill go. Assumes nothing.
+use Rattle.std.specs.Prelude.{Option, Some, None, SomeIff}
 use mathlib.Core.Path.{◌≡◌, refl, sym, ◌∙◌, ap, subst}
 use mathlib.Core.List.{List, [], ◌∷◌, ◌++◌, append_assoc, append-nil}
 use Prim.Native.Nat.{ℕ, zero, suc, ◌+◌, ◌-◌, ◌*◌, ◌≤◌, ◌<◌}
@@ -11,8 +12,6 @@ use lib.Seq.{take_all, take-suc}
 use borrow.Author.Tests.{le-leb, lt-leb}
 use Rattle.provenance.specs.Support.{bills, bill}
 use Rattle.columns.specs.Columns.{cell, tail_of}
-use Rattle.bill.specs.declared.Budget.{Budget}
-use Rattle.bill.specs.declared.Budget.TheVariants.{Left, Spent}
 use Rattle.columns.specs.Lent.{Placed}
 use Rattle.bill.specs.Walk.{vertex_bill, tail_bill, Each, Grounded, AllGrounded, spend}
 
@@ -81,21 +80,26 @@ module _ (spans tails edges : List ℕ) where
 
 -- a budget pays for n lines, or for fewer
 module _ (b n : ℕ) where
-  pub spend_paid : n ≤ b → spend b n ≡ Left (b - n)
+  pub spend_paid : n ≤ b → spend b n ≡ Some (b - n)
   spend_paid h = rw (le-leb n b h)
 
-  pub spend_short : b < n → spend b n ≡ Spent
+  pub spend_short : b < n → spend b n ≡ None
   spend_short h = rw (lt-leb n b h)
 
   -- what a walk gave tells which
-  pub is_spent : spend b n ≡ Spent → b < n
+  pub is_spent : spend b n ≡ None → b < n
   is_spent e = go (dec_le n b)
     where
       go : Dec (n ≤ b) → b < n
       go (yes h) = let q = spend_paid h in let z : ◌≡◌ {A = ℕ} 0 1 = cc in absurd (omega arith)
       go (no k) = omega arith
 
-  pub is_left : {r : ℕ} → spend b n ≡ Left r → (n ≤ b) × (r ≡ b - n)
+  -- the subtraction of std that is `None` where it would go below 0
+  pub spend_checked : (r : Option ℕ) → SomeIff r (n ≤ b) (b - n) → r ≡ spend b n
+  spend_checked None h = sym (spend_short (omega (arith, h)))
+  spend_checked (Some x) h = ap Some h.1 ∙ sym (spend_paid h.0)
+
+  pub is_left : {r : ℕ} → spend b n ≡ Some r → (n ≤ b) × (r ≡ b - n)
   is_left {r} e = go (dec_le n b)
     where
       go : Dec (n ≤ b) → (n ≤ b) × (r ≡ b - n)
@@ -109,33 +113,33 @@ spend_more b n m h = go (dec_le m (b - n))
     go : Dec (m ≤ b - n) → spend (b - n) m ≡ spend b (n + m)
     go (yes k) =
         let e : b - n - m ≡ b - (n + m) = omega arith in
-        spend_paid (b - n) m k ∙ ap Left e ∙ sym (spend_paid b (n + m) (omega arith))
+        spend_paid (b - n) m k ∙ ap Some e ∙ sym (spend_paid b (n + m) (omega arith))
     go (no k) = spend_short (b - n) m (omega arith) ∙ sym (spend_short b (n + m) (omega arith))
 
 -- the root, and then its tail
 module _ (b : ℕ) {e : ℕ} {es xs : List ℕ} (q : xs ≡ e ∷ es) where
-  pub root_unpaid : b ≡ 0 → Spent ≡ spend b (length xs)
+  pub root_unpaid : b ≡ 0 → None ≡ spend b (length xs)
   root_unpaid h = rw (q, h) (sym (spend_short 0 (length (e ∷ es)) (omega arith)))
 
-  pub root_paid : ¬ (b ≡ 0) → {r : Budget} → r ≡ spend (b - 1) (length es) → r ≡ spend b (length xs)
+  pub root_paid : ¬ (b ≡ 0) → {r : Option ℕ} → r ≡ spend (b - 1) (length es) → r ≡ spend b (length xs)
   root_paid h {r} p =
       let k : 1 + length es ≡ length (e ∷ es) = omega arith in
       rw q (p ∙ spend_more b 1 (length es) (omega arith) ∙ ap (spend b) k)
 
 -- a line alone
-pub line_paid : (b : ℕ) {e : ℕ} {xs : List ℕ} → xs ≡ e ∷ [] → ¬ (b ≡ 0) → Left (b - 1) ≡ spend b (length xs)
+pub line_paid : (b : ℕ) {e : ℕ} {xs : List ℕ} → xs ≡ e ∷ [] → ¬ (b ≡ 0) → Some (b - 1) ≡ spend b (length xs)
 line_paid b q h = rw q (sym (spend_paid b 1 (omega arith)))
 
 -- a budget pays for the parts of a list up to a place: for none, for one more, for all
 module _ (b : ℕ) (f : ℕ → List ℕ) (xs : List ℕ) where
-  pub none_paid : Left b ≡ spend b (length (bills f (take 0 xs)))
-  none_paid = rw (bills_none f xs) (sym (spend_paid b 0 (omega arith) ∙ ap Left (sub-zero b)))
+  pub none_paid : Some b ≡ spend b (length (bills f (take 0 xs)))
+  none_paid = rw (bills_none f xs) (sym (spend_paid b 0 (omega arith) ∙ ap Some (sub-zero b)))
 
-  module _ {i l : ℕ} (p : Left l ≡ spend b (length (bills f (take i xs)))) where
-    pub all_paid : length xs ≤ i → Left l ≡ spend b (length (bills f xs))
+  module _ {i l : ℕ} (p : Some l ≡ spend b (length (bills f (take i xs)))) where
+    pub all_paid : length xs ≤ i → Some l ≡ spend b (length (bills f xs))
     all_paid h = p ∙ ap (λ (es : List ℕ). spend b (length es)) (bills-all f xs h)
 
-    pub next_paid : i < length xs → {r : Budget} → r ≡ spend l (length (f (get_or xs i 0))) → r ≡ spend b (length (bills f (take (i + 1) xs)))
+    pub next_paid : i < length xs → {r : Option ℕ} → r ≡ spend l (length (f (get_or xs i 0))) → r ≡ spend b (length (bills f (take (i + 1) xs)))
     next_paid h q =
         let n = length (bills f (take i xs)) in
         let m = length (f (get_or xs i 0)) in
@@ -143,7 +147,7 @@ module _ (b : ℕ) (f : ℕ → List ℕ) (xs : List ℕ) where
         let one = ap length (bills_next f xs h) ∙ length-append (bills f (take i xs)) (f (get_or xs i 0)) in
         q ∙ ap (λ (z : ℕ). spend z m) k.1 ∙ spend_more b n m k.0 ∙ ap (spend b) (sym one)
 
-    pub next_unpaid : i < length xs → Spent ≡ spend l (length (f (get_or xs i 0))) → Spent ≡ spend b (length (bills f xs))
+    pub next_unpaid : i < length xs → None ≡ spend l (length (f (get_or xs i 0))) → None ≡ spend b (length (bills f xs))
     next_unpaid h q =
         let n = is_spent b (length (bills f (take (i + 1) xs))) (sym (next_paid h q)) in
         sym (spend_short b (length (bills f xs)) (omega (arith, n, bills_within f xs (i + 1))))

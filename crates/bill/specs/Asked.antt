@@ -1,11 +1,9 @@
 -- When a bill is printed, and by what the call is refused. The paper's "Print a bill" and, of "What is turned away", "1 to 6 …; then 7, … 11, 8, 12, 13". Assumes
 -- nothing: these are definitions.
-use Rattle.std.specs.Prelude.{List, ◌++◌, ℕ, ◌≤◌, ◌<◌, length, drop}
+use Rattle.std.specs.Prelude.{List, ◌++◌, ℕ, ◌≤◌, ◌<◌, length, drop, Ok, Err}
 use Rattle.weights.specs.declared.Measure.{Measure}
 use Rattle.refusal.specs.declared.Refusal.{Refusal}
 use Rattle.refusal.specs.declared.Refusal.TheVariants.{NoSuchVertex, WrongAnswers, Underivable, BillRoom}
-use Rattle.refusal.specs.declared.Extent.{Extent}
-use Rattle.refusal.specs.declared.Extent.TheVariants.{Length, Refused}
 use Rattle.provenance.specs.Hypergraph.{Derivation}
 use Rattle.columns.specs.Columns.{Entries, Columns}
 use Rattle.tables.specs.Table.{hypergraph}
@@ -13,6 +11,7 @@ use Rattle.columns.specs.Owed.{Outcome, Owed}
 use Rattle.columns.specs.Right.{RightLent, WrongLent}
 use Rattle.settle.specs.Defined.{AllMean}
 use Rattle.bill.specs.Billing.{bill_of}
+use Rattle.refusal.specs.Answers.{Extent}
 
 -- v is a part, it has a make-up, the answers are the table's, and the room holds the bill
 pub record RightBill (m : Measure) (c : Columns) (a : Entries) (v places : ℕ) : Type 0 where
@@ -34,4 +33,4 @@ abbrev pub BillOwes : Measure → Columns → Entries → (v : ℕ) (entry : Lis
 BillOwes m c a v entry o =
     let es = bill_of c a.labels v in
     let n = length entry in
-    Owed Refused entry (RightBill m c a v n) (λ _. Length (length es)) (λ _. es ++ drop (length es) entry) (WrongBill m c a v n) o.result o.left
+    Owed Err entry (RightBill m c a v n) (λ _. Ok (length es)) (λ _. es ++ drop (length es) entry) (WrongBill m c a v n) o.result o.left

@@ -1,12 +1,8 @@
 -- Printing a bill: the bill of a part, the refusals of the call in the paper's order, and its outcome. The paper's "The calls" and "What is turned away".
 -- Assumes nothing: these are definitions.
-use Rattle.std.specs.Prelude.{List, ◌++◌, ℕ, length, drop, ltb, leb}
+use Rattle.std.specs.Prelude.{List, ◌++◌, ℕ, length, drop, ltb, leb, Ok, Err}
 use Rattle.weights.specs.declared.Measure.{Measure}
 use Rattle.refusal.specs.declared.Refusal.TheVariants.{NoSuchVertex, WrongAnswers, Underivable, BillRoom}
-use Rattle.refusal.specs.declared.Acceptance.{Acceptance}
-use Rattle.refusal.specs.declared.Acceptance.TheVariants as answer
-use Rattle.refusal.specs.declared.Extent.{Extent}
-use Rattle.refusal.specs.declared.Extent.TheVariants.{Length, Refused}
 use Rattle.columns.specs.Columns.{Answers, Entries, Columns}
 use Rattle.provenance.specs.BestFirst.{labels}
 use Rattle.provenance.specs.Support.{bill}
@@ -15,6 +11,7 @@ use Rattle.columns.specs.Acceptance.{test, and_then, lent_acceptance}
 use Rattle.columns.specs.Owed.{Outcome}
 use Rattle.columns.specs.Same.{same_entries}
 use Rattle.settle.specs.Settling.{entries_of}
+use Rattle.refusal.specs.Answers.{Acceptance, Extent}
 
 -- the bill of part v: the lines of its chosen make-up, as the answers tell it
 unfoldable pub bill_of : Columns → Answers → (v : ℕ) → List ℕ
@@ -27,11 +24,11 @@ part_acceptance m c a v =
     (test (ltb v c.vertices) NoSuchVertex
     (test (same_entries a (entries_of m c)) WrongAnswers
     (test (ltb 0 (labels a.labels v).depth) Underivable
-    answer.Accepted)))
+    (Ok tt))))
 
 -- 13: a bill longer than the room
 abbrev pub room_acceptance : (bill : List ℕ) → (places : ℕ) → Acceptance
-room_acceptance bill places = test (leb (length bill) places) BillRoom answer.Accepted
+room_acceptance bill places = test (leb (length bill) places) BillRoom (Ok tt)
 
 -- 1 to 7 and 21, 11, 8 and 12, then 13
 unfoldable pub bill_acceptance : Measure → Columns → Entries → (v places : ℕ) → Acceptance
@@ -39,8 +36,8 @@ bill_acceptance m c a v places = and_then (part_acceptance m c a v) (room_accept
 
 -- on acceptance the bill's length, and the bill with the room's old content behind it; on a refusal the room as it came
 abbrev pub outcome : Acceptance → (bill room : List ℕ) → Outcome Extent (List ℕ)
-outcome answer.Accepted bill room = record { result = Length (length bill); left = bill ++ drop (length bill) room }
-outcome (answer.Refused r) bill room = record { result = Refused r; left = room }
+outcome (Ok _) bill room = record { result = Ok (length bill); left = bill ++ drop (length bill) room }
+outcome (Err r) bill room = record { result = Err r; left = room }
 
 -- printing a bill into the room at entry
 abbrev pub printed : (bill room : List ℕ) → Outcome Extent (List ℕ)

@@ -1,6 +1,6 @@
 -- What the walks of a bill read and write: the lists of the lines and the chosen line of each part, as three columns hold them; what must hold of them; a room
 -- that is written from a place on, and what is copied in it; a budget, and the lengths that are known. Assumes nothing: these are definitions.
-use Rattle.std.specs.Prelude.{◌≡◌, List, [], ◌∷◌, ◌++◌, ℕ, zero, suc, ◌+◌, ◌-◌, ◌*◌, ◌≤◌, ◌<◌, length, get_or, take, drop, leb}
+use Rattle.std.specs.Prelude.{◌≡◌, List, [], ◌∷◌, ◌++◌, ℕ, zero, suc, ◌+◌, ◌-◌, ◌*◌, ◌≤◌, ◌<◌, length, get_or, take, drop, leb, Option, Some, None}
 use Rattle.weights.specs.declared.Label.{Label}
 use Rattle.weights.specs.Choice.{pick}
 use Rattle.provenance.specs.Hypergraph.{Hypergraph}
@@ -10,8 +10,6 @@ use Rattle.columns.specs.Filled.{filled}
 use Rattle.columns.specs.Lent.{Placed}
 use Rattle.columns.specs.Columns.{columns, answers, cell, tail_of}
 use Rattle.tables.specs.Table.{hypergraph}
-use Rattle.bill.specs.declared.Budget.{Budget}
-use Rattle.bill.specs.declared.Budget.TheVariants.{Left, Spent}
 
 -- of a table and its answers, what a bill reads: the lists of the lines, and the chosen line of each part
 abbrev pub lists : (spans tails : List ℕ) → Hypergraph
@@ -62,11 +60,6 @@ pub record Repeatable (at size : ℕ) (room : List ℕ) : Type 0 where
   pub stand : size ≤ at
   pub fits : at + size ≤ length room
 
--- k of them are copied
-pub record Copied (at size : ℕ) (room : List ℕ) (k : ℕ) (left : List ℕ) : Type 0 where
-  pub within : k ≤ size
-  pub written : WrittenFrom at (take k (standing at size room)) room (at + k) left
-
 -- the bill of v, if its line lists something, has this length
 abbrev pub Long : (spans tails edges : List ℕ) → (depth v size : ℕ) → Type 0
 Long spans tails edges depth v size = ¬ (cell spans (2 * get_or edges v 0 + 1) ≡ 0) → size ≡ length (vertex_bill spans tails edges depth v)
@@ -86,6 +79,6 @@ pub record KnownStill (spans tails edges before after : List ℕ) : Type 0 where
   pub known : Known spans tails edges after
   pub long : length after ≡ length before
 
--- what is left of a budget after so many lines
-abbrev pub spend : (budget lines : ℕ) → Budget
-spend budget lines = pick (leb lines budget) (Left (budget - lines)) Spent
+-- what is left of a budget after so many lines, if they do not spend it
+abbrev pub spend : (budget lines : ℕ) → Option ℕ
+spend budget lines = pick (leb lines budget) (Some (budget - lines)) None

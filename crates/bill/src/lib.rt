@@ -2,36 +2,23 @@
 // of each vertex of the root's tail, in order. A bill is measured before it is written: its length from
 // the lengths of the bills below it, each worked out once, so that a long bill is refused as soon as a
 // short one.
+//
+// Kept: columns and rooms are lent, or arrays of a fixed size: the library and its programs use no heap.
 
 #![tactic(auto)]
 
 ghost use Rattle.std.specs.Prelude.{◌≡◌, ◌≤◌, length};
-ghost use Rattle.columns.specs.Columns.{columns, entries};
 ghost use Rattle.columns.specs.Acceptance.{most_vertices};
+ghost use Rattle.columns.specs.Given.{columns_of, entries_in};
 ghost use Rattle.bill.specs.Billing.{part_acceptance, printed, billed};
 ghost use Rattle.bill.specs.Walk.{vertex_bill, tail_bill, Grounded, AllGrounded, VertexFits, TailFits, WrittenFrom, Repeatable, standing, Known, KnownStill, spend};
 
-use refusal::{Acceptance, Extent, Refusal};
+use columns::{Entries, Table};
+use refusal::Refusal;
 use weights::{Hyperedge, Measure, Vertex};
 
-// What is left of the room that a bill may take.
-#[derive(Clone, Copy)]
-enum Budget {
-    Left(usize),
-    Spent,
-}
-
-// What so many lines leave of a budget.
-fn pay(budget: usize, lines: usize) -> Budget
-    ensures { result ≡ spend budget lines }
-{
-    if lines > budget {
-        return Budget::Spent;
-    }
-    Budget::Left(budget - lines)
-}
-
-// What the bill of v, which is at most `depth` deep, leaves of a budget. The length of each vertex's
+// What the bill of v, which is at most `depth` deep, leaves of a budget, which is the room that a bill
+// may take, if it does not spend it. The length of each vertex's
 // bill is worked out once and kept in `lengths`, where 0 says that it is not known: a bill has a line.
 #[cycle(tail_spend_vertex_spend)]
 fn vertex_spend(
@@ -42,28 +29,25 @@ fn vertex_spend(
     edges: &[u64],
     lengths: &mut [u64],
     budget: usize,
-) -> Budget
+) -> Option<usize>
     requires { (Grounded spans.now tails.now edges.now depth v.0) × (Known spans.now tails.now edges.now lengths.old) }
     ensures value { result ≡ spend budget (length (vertex_bill spans.now tails.now edges.now depth v.0)) }
     ensures known { KnownStill spans.now tails.now edges.now lengths.old lengths.new }
 {
     if budget == 0 {
-        return Budget::Spent;
+        return None;
     }
     let i = v.0 as usize;
     let known = lengths[i] as usize;
     if known != 0 {
-        return pay(budget, known);
+        return budget.checked_sub(known);
     }
     let root = edges[i];
     let tail = columns::tail_of(Hyperedge(root), spans, tails);
     let below = budget - 1;
-    let b = tail_spend(depth - 1, tail, spans, tails, edges, lengths, below);
-    let Budget::Left(rest) = b else {
-        return Budget::Spent;
-    };
+    let rest = tail_spend(depth - 1, tail, spans, tails, edges, lengths, below)?;
     lengths[i] = (budget - rest) as u64;
-    Budget::Left(rest)
+    Some(rest)
 }
 
 // The same for the bills of the vertices of a tail. A loop, so that the stack grows with the depth of
@@ -78,34 +62,25 @@ fn tail_spend(
     edges: &[u64],
     lengths: &mut [u64],
     budget: usize,
-) -> Budget
+) -> Option<usize>
     requires { (AllGrounded spans.now tails.now edges.now depth tail.now) × (Known spans.now tails.now edges.now lengths.old) }
     ensures value { result ≡ spend budget (length (tail_bill spans.now tails.now edges.now depth tail.now)) }
     ensures known { KnownStill spans.now tails.now edges.now lengths.old lengths.new }
 {
     let mut left = budget;
-    let mut i = 0;
-    while i < tail.len() {
-        let v = tail[i];
-        let part = v as usize;
-        let root = edges[part] as usize;
+    for &v in tail {
+        let root = edges[v as usize] as usize;
         let size = spans[2 * root + 1];
         if size == 0 {
             if left == 0 {
-                return Budget::Spent;
+                return None;
             }
             left -= 1;
-            i += 1;
             continue;
         }
-        let b = vertex_spend(depth, Vertex(v), spans, tails, edges, lengths, left);
-        let Budget::Left(rest) = b else {
-            return Budget::Spent;
-        };
-        left = rest;
-        i += 1;
+        left = vertex_spend(depth, Vertex(v), spans, tails, edges, lengths, left)?;
     }
-    Budget::Left(left)
+    Some(left)
 }
 
 // Copies the `size` places before `at` behind them, and gives how far the room is filled then.
@@ -114,11 +89,7 @@ fn repeat(room: &mut [u64], at: usize, size: usize) -> usize
     ensures { WrittenFrom at (standing at size room.old) room.old result room.new }
 {
     let from = at - size;
-    let mut k = 0;
-    while k < size {
-        room[at + k] = room[from + k];
-        k += 1;
-    }
+    room.copy_within(from..at, at);
     at + size
 }
 
@@ -162,30 +133,24 @@ fn tail_bill(
 {
     let mut length = 0;
     let mut at = filled;
-    let mut i = 0;
-    while i < tail.len() {
-        let v = tail[i];
-        let part = v as usize;
-        let root = edges[part];
+    for (i, &v) in tail.iter().enumerate() {
+        let root = edges[v as usize];
         let e = root as usize;
         let listed = spans[2 * e + 1];
         if listed == 0 {
             room[at] = root;
             at += 1;
-            i += 1;
             continue;
         }
         if i > 0 {
             let before = tail[i - 1];
             if before == v {
                 at = repeat(room, at, length);
-                i += 1;
                 continue;
             }
         }
         length = vertex_bill(depth, Vertex(v), spans, tails, edges, &mut room[at..]);
         at += length;
-        i += 1;
     }
     at
 }
@@ -193,78 +158,48 @@ fn tail_bill(
 // Whether the table, the answers and the part allow a bill: 1 to 7 and 21, 11, 8 and 12.
 fn check_part(
     measure: Measure,
-    n: u64,
-    heads: &[u64],
-    own: &[u64],
-    strikes: &[u64],
-    spans: &[u64],
-    tails: &[u64],
-    weights: &[u64],
-    depths: &[u64],
-    edges: &[u64],
-    pieces: &[u64],
+    table: &Table,
+    entries: &Entries,
     part: Vertex,
-) -> Acceptance
-    ensures { let c = columns n heads.now own.now strikes.now spans.now tails.now in
-        let a = entries weights.now depths.now edges.now pieces.now in
+) -> Result<(), Refusal>
+    ensures { let c = columns_of table.now in
+        let a = entries_in entries.now in
         result ≡ part_acceptance measure c a part.0 }
 {
-    let a = columns::check_lent(
-        n, heads, own, strikes, spans, tails, weights, depths, edges, pieces,
-    );
-    match a {
-        Acceptance::Refused(r) => return Acceptance::Refused(r),
-        Acceptance::Accepted => {}
-    }
+    let Entries { depths, .. } = *entries;
+    let Table { vertices: n, .. } = *table;
+    columns::check_lent(table, entries)?;
     if part.0 >= n {
-        return Acceptance::Refused(Refusal::NoSuchVertex);
+        return Err(Refusal::NoSuchVertex);
     }
-    if !settle::answers_right(
-        measure, n, heads, own, strikes, spans, tails, weights, depths, edges, pieces,
-    ) {
-        return Acceptance::Refused(Refusal::WrongAnswers);
+    if !settle::answers_right(measure, table, entries) {
+        return Err(Refusal::WrongAnswers);
     }
     let i = part.0 as usize;
     if depths[i] == 0 {
-        return Acceptance::Refused(Refusal::Underivable);
+        return Err(Refusal::Underivable);
     }
-    Acceptance::Accepted
+    Ok(())
 }
 
-// What the bill of v leaves of a budget, with a column of its own for the lengths. A table of few
-// vertices is given few places, as every place has to be cleared.
-fn spend_few(
+// What the bill of v leaves of a budget, with a column of its own of N places for the lengths.
+fn spend_with<const N: usize>(
     depth: u64,
     v: Vertex,
     spans: &[u64],
     tails: &[u64],
     edges: &[u64],
     budget: usize,
-) -> Budget
-    requires { (Grounded spans.now tails.now edges.now depth v.0) × (length edges.now ≤ 64) }
+) -> Option<usize>
+    requires { (Grounded spans.now tails.now edges.now depth v.0) × (length edges.now ≤ N) × (N ≤ most_vertices) }
     ensures { result ≡ spend budget (length (vertex_bill spans.now tails.now edges.now depth v.0)) }
 {
-    let mut lengths = [0u64; 64];
+    let mut lengths = [0u64; N];
     vertex_spend(depth, v, spans, tails, edges, &mut lengths, budget)
 }
 
-// The same of any table.
-fn spend_many(
-    depth: u64,
-    v: Vertex,
-    spans: &[u64],
-    tails: &[u64],
-    edges: &[u64],
-    budget: usize,
-) -> Budget
-    requires { (Grounded spans.now tails.now edges.now depth v.0) × (length edges.now ≤ most_vertices) }
-    ensures { result ≡ spend budget (length (vertex_bill spans.now tails.now edges.now depth v.0)) }
-{
-    let mut lengths = [0u64; 1024];
-    vertex_spend(depth, v, spans, tails, edges, &mut lengths, budget)
-}
-
-// The same, with as many places as the table asks for.
+// The same, with as many places as the table asks for: a table of few vertices is given few, as every
+// place has to be cleared.
 fn spend_all(
     depth: u64,
     v: Vertex,
@@ -272,14 +207,14 @@ fn spend_all(
     tails: &[u64],
     edges: &[u64],
     budget: usize,
-) -> Budget
+) -> Option<usize>
     requires { (Grounded spans.now tails.now edges.now depth v.0) × (length edges.now ≤ most_vertices) }
     ensures { result ≡ spend budget (length (vertex_bill spans.now tails.now edges.now depth v.0)) }
 {
     if edges.len() <= 64 {
-        return spend_few(depth, v, spans, tails, edges, budget);
+        return spend_with::<64>(depth, v, spans, tails, edges, budget);
     }
-    spend_many(depth, v, spans, tails, edges, budget)
+    spend_with::<1024>(depth, v, spans, tails, edges, budget)
 }
 
 // Prints the bill of v, which is at most `depth` deep. Nothing is written before the whole bill is
@@ -291,46 +226,33 @@ fn print(
     tails: &[u64],
     edges: &[u64],
     room: &mut [u64],
-) -> Extent
+) -> Result<u64, Refusal>
     requires { (Grounded spans.now tails.now edges.now depth v.0) × (length edges.now ≤ most_vertices) }
     ensures { record { result = result; left = room.new } ≡ printed (vertex_bill spans.now tails.now edges.now depth v.0) room.old }
 {
-    let budget = spend_all(depth, v, spans, tails, edges, room.len());
-    match budget {
-        Budget::Spent => return Extent::Refused(Refusal::BillRoom),
-        Budget::Left(_) => {}
+    match spend_all(depth, v, spans, tails, edges, room.len()) {
+        None => return Err(Refusal::BillRoom),
+        Some(_) => {}
     }
     let length = vertex_bill(depth, v, spans, tails, edges, room);
-    Extent::Length(length as u64)
+    Ok(length as u64)
 }
 
 // Prints the bill of a part from the start of the room, and gives its length.
 pub fn bill(
     measure: Measure,
-    n: u64,
-    heads: &[u64],
-    own: &[u64],
-    strikes: &[u64],
-    spans: &[u64],
-    tails: &[u64],
-    weights: &[u64],
-    depths: &[u64],
-    edges: &[u64],
-    pieces: &[u64],
+    table: &Table,
+    entries: &Entries,
     part: Vertex,
     room: &mut [u64],
-) -> Extent
-    ensures { let c = columns n heads.now own.now strikes.now spans.now tails.now in
-        let a = entries weights.now depths.now edges.now pieces.now in
+) -> Result<u64, Refusal>
+    ensures { let c = columns_of table.now in
+        let a = entries_in entries.now in
         record { result = result; left = room.new } ≡ billed measure c a part.0 room.old }
 {
-    let a = check_part(
-        measure, n, heads, own, strikes, spans, tails, weights, depths, edges, pieces, part,
-    );
-    match a {
-        Acceptance::Refused(r) => return Extent::Refused(r),
-        Acceptance::Accepted => {}
-    }
+    let Entries { depths, edges, .. } = *entries;
+    let Table { spans, tails, .. } = *table;
+    check_part(measure, table, entries, part)?;
     let i = part.0 as usize;
     let depth = depths[i];
     print(depth, part, spans, tails, edges, room)

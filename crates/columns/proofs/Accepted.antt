@@ -14,21 +14,21 @@ use Rattle.weights.specs.declared.Hyperedge.{Hyperedge}
 use Rattle.weights.specs.Figures.{greatest, struck_mark}
 use Rattle.weights.proofs.Choice.{both_true}
 use Rattle.refusal.specs.declared.Refusal.{Refusal}
-use Rattle.refusal.specs.declared.Acceptance.{Acceptance}
-use Rattle.refusal.specs.declared.Acceptance.TheVariants.{Accepted, Refused}
 use Rattle.columns.specs.Columns.{Answers, Sized, Entries, SizedEntries, Columns, head_at, own_at, strike_at, offset_at, length_at, part}
 use Rattle.columns.specs.Acceptance.{most_vertices, most_edges, most_listed, longest_tail, test, and_then, all_below, edge_acceptance, edge_at, edges_acceptance, acceptance, lent_acceptance}
+use Rattle.refusal.specs.Answers.{Acceptance}
+use Rattle.std.specs.Prelude.{Ok, Err}
 
-pub refused : {r : Refusal} → Refused r ≡ Accepted → ⊥
+pub refused : {r : Refusal} → ◌≡◌ {A = Acceptance} (Err r) (Ok tt) → ⊥
 refused e = let z : ◌≡◌ {A = ℕ} 0 1 = cc in omega arith
 
-pub test_passed : (b : Bool) (r : Refusal) (a : Acceptance) → test b r a ≡ Accepted → (b ≡ true) × (a ≡ Accepted)
+pub test_passed : (b : Bool) (r : Refusal) (a : Acceptance) → test b r a ≡ Ok tt → (b ≡ true) × (a ≡ Ok tt)
 test_passed true r a e = (refl, e)
 test_passed false r a e = absurd (refused e)
 
-pub both_accepted : (a b : Acceptance) → and_then a b ≡ Accepted → (a ≡ Accepted) × (b ≡ Accepted)
-both_accepted Accepted b e = (refl, e)
-both_accepted (Refused r) b e = absurd (refused e)
+pub both_accepted : (a b : Acceptance) → and_then a b ≡ Ok tt → (a ≡ Ok tt) × (b ≡ Ok tt)
+both_accepted (Ok _) b e = (refl, e)
+both_accepted (Err r) b e = absurd (refused e)
 
 pub below_at : (n : ℕ) (vs : List ℕ) → all_below n vs ≡ true → (k : ℕ) → k < length vs → get_or vs k 0 < n
 unfolding all_below
@@ -65,7 +65,7 @@ pub record AcceptedEdge (n h o m offset size end : ℕ) (tails : List ℕ) : Typ
   pub within : offset + size ≤ length tails
   pub listed : all_below n (part offset size tails) ≡ true
 
-pub edge_accepted : (n : ℕ) (e : Hyperedge) (h o m offset size end : ℕ) (tails : List ℕ) → edge_acceptance n e h o m offset size end tails ≡ Accepted
+pub edge_accepted : (n : ℕ) (e : Hyperedge) (h o m offset size end : ℕ) (tails : List ℕ) → edge_acceptance n e h o m offset size end tails ≡ Ok tt
     → AcceptedEdge n h o m offset size end tails
 unfolding edge_acceptance
 edge_accepted n e h o m offset size end tails p =
@@ -87,7 +87,7 @@ edge_accepted n e h o m offset size end tails p =
     }
 
 pub edge_accepts : {n h o m offset size end : ℕ} {tails : List ℕ} (e : Hyperedge) → AcceptedEdge n h o m offset size end tails
-    → edge_acceptance n e h o m offset size end tails ≡ Accepted
+    → edge_acceptance n e h o m offset size end tails ≡ Ok tt
 unfolding edge_acceptance
 edge_accepts e g =
     rw (lt-ltb _ _ g.head, le-leb _ _ g.own, le-leb _ _ g.mark, le-leb _ _ g.from, le-leb _ _ g.short, le-leb _ _ g.within, g.listed)
@@ -96,7 +96,7 @@ edge_accepts e g =
 abbrev pub AcceptedAt : Columns → ℕ → Type 0
 AcceptedAt c e = (end : ℕ) × AcceptedEdge c.vertices (head_at c e) (own_at c e) (strike_at c e) (offset_at c e) (length_at c e) end c.tails
 
-edges_accepted : (c : Columns) (left e end : ℕ) → edges_acceptance c left e end ≡ Accepted → (x : ℕ) → e ≤ x → x < e + left → AcceptedAt c x
+edges_accepted : (c : Columns) (left e end : ℕ) → edges_acceptance c left e end ≡ Ok tt → (x : ℕ) → e ≤ x → x < e + left → AcceptedAt c x
 unfolding edges_acceptance
 edges_accepted c zero e end p x h l = absurd (omega arith)
 edges_accepted c (suc left) e end p x h l =
@@ -114,10 +114,10 @@ pub record AcceptedTable (c : Columns) : Type 0 where
   pub edges : length c.heads ≤ most_edges
   pub spans : length c.spans ≡ 2 * length c.heads
   pub tails : length c.tails ≤ most_listed
-  pub rest : edges_acceptance c (length c.heads) 0 0 ≡ Accepted
+  pub rest : edges_acceptance c (length c.heads) 0 0 ≡ Ok tt
   pub each : (e : ℕ) → e < length c.heads → AcceptedAt c e
 
-pub table_accepted : (c : Columns) → acceptance c ≡ Accepted → AcceptedTable c
+pub table_accepted : (c : Columns) → acceptance c ≡ Ok tt → AcceptedTable c
 unfolding acceptance
 table_accepted c p =
     let t1 = test_passed _ _ _ p in
@@ -139,17 +139,17 @@ table_accepted c p =
 
 -- an accepted table with three columns of its length, and with all four answer columns
 pub record AcceptedLabels (c : Columns) (a : Answers) : Type 0 where
-  pub table : acceptance c ≡ Accepted
+  pub table : acceptance c ≡ Ok tt
   pub sized : Sized c.vertices a
 
 pub record AcceptedColumns (c : Columns) (a : Entries) : Type 0 where
-  pub table : acceptance c ≡ Accepted
+  pub table : acceptance c ≡ Ok tt
   pub sized : SizedEntries c.vertices a
 
 pub labels_accepted : {c : Columns} {a : Entries} → AcceptedColumns c a → AcceptedLabels c a.labels
 labels_accepted h = record { table = h.table; sized = h.sized.labels }
 
-pub columns_accepted : (c : Columns) (a : Entries) → lent_acceptance c a ≡ Accepted → AcceptedColumns c a
+pub columns_accepted : (c : Columns) (a : Entries) → lent_acceptance c a ≡ Ok tt → AcceptedColumns c a
 unfolding lent_acceptance
 columns_accepted c a p =
     let t = both_accepted (acceptance c) _ p in
@@ -160,6 +160,6 @@ columns_accepted c a p =
     let labels : Sized c.vertices a.labels = record { weights = eqb-true _ _ t1.0; depths = eqb-true _ _ t2.0; edges = eqb-true _ _ t3.0 } in
     record { table = t.0; sized = record { labels = labels; pieces = eqb-true _ _ t4.0 } }
 
-pub columns_accept : (c : Columns) (a : Entries) → acceptance c ≡ Accepted → SizedEntries c.vertices a → lent_acceptance c a ≡ Accepted
+pub columns_accept : (c : Columns) (a : Entries) → acceptance c ≡ Ok tt → SizedEntries c.vertices a → lent_acceptance c a ≡ Ok tt
 unfolding lent_acceptance
 columns_accept c a p s = rw (p, eq-eqb _ _ s.labels.weights, eq-eqb _ _ s.labels.depths, eq-eqb _ _ s.labels.edges, eq-eqb _ _ s.pieces)

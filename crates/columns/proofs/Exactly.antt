@@ -11,16 +11,16 @@ use lib.Dec.{ltb, leb, eqb}
 use borrow.Author.Tests.{ltb-true, ltb-false, leb-true, leb-false, eqb-true, eqb-false, lt-ltb, le-ltb, le-leb, lt-leb, eq-eqb}
 use Rattle.weights.specs.Figures.{greatest, struck_mark}
 use Rattle.refusal.specs.declared.Refusal.{Refusal}
-use Rattle.refusal.specs.declared.Acceptance.{Acceptance}
-use Rattle.refusal.specs.declared.Acceptance.TheVariants.{Accepted, Refused}
 use Rattle.columns.specs.Columns.{Entries, Columns, head_at, own_at, strike_at, offset_at, length_at, tail_at}
 use Rattle.columns.specs.Acceptance.{most_vertices, most_edges, most_listed, longest_tail, test, all_below, edge_acceptance, edge_at, edges_acceptance, acceptance, lent_acceptance}
 use Rattle.columns.proofs.Accepted.{both_accepted, below_at, below_all, part_at, part_length, edge_accepted, edge_accepts, table_accepted, columns_accepted, columns_accept}
 use Rattle.columns.specs.Right.{Few, Level, end_before, RightHead, RightOwn, RightMark, RightSpan, RightTail, RightEdge, RightTable, WrongEdge, FirstWrong, WrongTable, RightLent, WrongLent}
 use Rattle.columns.proofs.Refuses.{Refuses, none_refuses, test_refuses, then_refuses}
+use Rattle.refusal.specs.Answers.{Acceptance}
+use Rattle.std.specs.Prelude.{Ok, Err}
 
 -- of tests that refuse alike one fails
-one_fails : (b : Bool) (r : Refusal) (a : Acceptance) → (b ≡ true → a ≡ Refused r) → test b r a ≡ Refused r
+one_fails : (b : Bool) (r : Refusal) (a : Acceptance) → (b ≡ true → a ≡ Err r) → test b r a ≡ Err r
 one_fails true r a f = f refl
 one_fails false r a f = refl
 
@@ -38,13 +38,13 @@ module _ (c : Columns) (e : ℕ) where
       let i : k < length_at c e = omega arith in
       subst (λ (x : ℕ). x < c.vertices) (sym (part_at (offset_at c e) (length_at c e) c.tails k i)) (f k i))
 
-  edge_right : edge_at c e (end_before c e) ≡ Accepted → RightEdge c e
+  edge_right : edge_at c e (end_before c e) ≡ Ok tt → RightEdge c e
   edge_right p =
       let g = edge_accepted _ _ _ _ _ _ _ _ _ p in
       let s : RightSpan c e = record { from = g.from; short = g.short; within = g.within } in
       record { head = g.head; own = g.own; mark = g.mark; span = s; tail = listed_right s g.listed }
 
-  right_edge : RightEdge c e → edge_at c e (end_before c e) ≡ Accepted
+  right_edge : RightEdge c e → edge_at c e (end_before c e) ≡ Ok tt
   right_edge g =
       let s = g.span in
       edge_accepts _ (record {
@@ -80,7 +80,7 @@ module _ (c : Columns) (e : ℕ) where
       let s : RightSpan c e = record { from = leb-true (end_before c e) off f; short = leb-true len longest_tail l; within = leb-true (off + len) all w } in
       test_refuses (all_below n (tail_at c e)) _ _ (λ b. WrongEdge.tail h o m s (λ t. not_both (sym (right_listed s t) ∙ b))) (λ _. none_refuses)))))))
 
-  wrong-edge : {r : Refusal} → WrongEdge c e r → edge_at c e (end_before c e) ≡ Refused r
+  wrong-edge : {r : Refusal} → WrongEdge c e r → edge_at c e (end_before c e) ≡ Err r
   unfolding edge_acceptance
   wrong-edge (WrongEdge.head n) = rw (le-ltb (head_at c e) c.vertices (omega (arith, n)))
   wrong-edge (WrongEdge.own h n) = rw (lt-ltb (head_at c e) c.vertices h, lt-leb (own_at c e) greatest (omega (arith, n)))
@@ -110,19 +110,19 @@ module _ (c : Columns) where
   onward : (P : Acceptance → Type 0) (left e : ℕ) → P (edges_acceptance c left (e + 1) (end_before c (e + 1))) → P (edges_acceptance c left (e + 1) (offset_at c e + length_at c e))
   onward P left e p = subst (λ (k : ℕ). P (edges_acceptance c left (e + 1) k)) (sym (next_end e)) p
 
-  edges_right : (left e : ℕ) → edges_acceptance c left e (end_before c e) ≡ Accepted → (x : ℕ) → e ≤ x → x < e + left → RightEdge c x
+  edges_right : (left e : ℕ) → edges_acceptance c left e (end_before c e) ≡ Ok tt → (x : ℕ) → e ≤ x → x < e + left → RightEdge c x
   unfolding edges_acceptance
   edges_right zero e p x h l = absurd (omega arith)
   edges_right (suc left) e p x h l =
       let t = both_accepted (edge_at c e (end_before c e)) (edges_acceptance c left (e + 1) (offset_at c e + length_at c e)) p in
-      let q = subst (λ (k : ℕ). edges_acceptance c left (e + 1) k ≡ Accepted) (next_end e) t.1 in
+      let q = subst (λ (k : ℕ). edges_acceptance c left (e + 1) k ≡ Ok tt) (next_end e) t.1 in
       ⊎_elim (λ i. subst (RightEdge c) i (edge_right c e t.0)) (λ i. edges_right left (e + 1) q x (omega arith) (omega arith)) (eq-or-lt_of_le h)
 
-  right_edges : (left e : ℕ) → ((x : ℕ) → e ≤ x → x < e + left → RightEdge c x) → edges_acceptance c left e (end_before c e) ≡ Accepted
+  right_edges : (left e : ℕ) → ((x : ℕ) → e ≤ x → x < e + left → RightEdge c x) → edges_acceptance c left e (end_before c e) ≡ Ok tt
   unfolding edges_acceptance
   right_edges zero e f = refl
   right_edges (suc left) e f =
-      let r = onward (λ (a : Acceptance). a ≡ Accepted) left e (right_edges left (e + 1) (λ x h l. f x (omega arith) (omega arith))) in
+      let r = onward (λ (a : Acceptance). a ≡ Ok tt) left e (right_edges left (e + 1) (λ x h l. f x (omega arith) (omega arith))) in
       rw (right_edge c e (f e (omega arith) (omega arith)), r)
 
   -- up to line e all lines are right
@@ -135,18 +135,18 @@ module _ (c : Columns) where
       onward (Refuses (λ r. (x : ℕ) × FirstWrong c x r)) left e (edges_wrong left (e + 1) (omega arith) (λ x h.
       ⊎_elim (λ i. subst (RightEdge c) (sym i) (edge_right c e q)) (λ i. f x i) (eq-or-lt_of_le (omega arith)))))
 
-  wrong_edges : (left e x : ℕ) {r : Refusal} → e ≤ x → x < e + left → FirstWrong c x r → edges_acceptance c left e (end_before c e) ≡ Refused r
+  wrong_edges : (left e x : ℕ) {r : Refusal} → e ≤ x → x < e + left → FirstWrong c x r → edges_acceptance c left e (end_before c e) ≡ Err r
   unfolding edges_acceptance
   wrong_edges zero e x h l w = absurd (omega arith)
   wrong_edges (suc left) e x {r} h l w =
       ⊎_elim
       (λ i. let q = wrong-edge c e (subst (λ (y : ℕ). WrongEdge c y r) (sym i) w.wrong) in rw q)
       (λ i.
-      let q = onward (λ (a : Acceptance). a ≡ Refused r) left e (wrong_edges left (e + 1) x (omega arith) (omega arith) w) in
+      let q = onward (λ (a : Acceptance). a ≡ Err r) left e (wrong_edges left (e + 1) x (omega arith) (omega arith) w) in
       rw (right_edge c e (w.before e i), q))
       (eq-or-lt_of_le h)
 
-  accepted_right : acceptance c ≡ Accepted → RightTable c
+  accepted_right : acceptance c ≡ Ok tt → RightTable c
   accepted_right p =
       let t = table_accepted c p in
       record {
@@ -155,7 +155,7 @@ module _ (c : Columns) where
         each = λ e h. edges_right (length c.heads) 0 t.rest e (omega arith) (omega arith);
       }
 
-  right_accepted : RightTable c → acceptance c ≡ Accepted
+  right_accepted : RightTable c → acceptance c ≡ Ok tt
   unfolding acceptance
   right_accepted t =
       let l = t.level in
@@ -188,7 +188,7 @@ module _ (c : Columns) where
       let w = edges_wrong m 0 (omega arith) (λ x h. absurd (omega arith)) in
       record { holds = λ q. let x = w.holds q in WrongTable.edge f l x.0 x.1 }))))))
 
-  wrong_refused : {r : Refusal} → WrongTable c r → acceptance c ≡ Refused r
+  wrong_refused : {r : Refusal} → WrongTable c r → acceptance c ≡ Err r
   unfolding acceptance
   wrong_refused (WrongTable.many n) = rw (lt-leb c.vertices most_vertices (omega (arith, n)))
   wrong_refused (WrongTable.unlevel f n) =
@@ -213,11 +213,11 @@ module _ (c : Columns) where
       (wrong_edges (length c.heads) 0 e (omega arith) (omega (arith, w.numbered)) w)
 
   -- "A table is accepted if none of the refusals about its own columns (here 1 to 6) applies", and not 21
-  pub accepted_exactly : (acceptance c ≡ Accepted) ↔ RightTable c
+  pub accepted_exactly : (acceptance c ≡ Ok tt) ↔ RightTable c
   accepted_exactly = (accepted_right, right_accepted)
 
   -- the first refusal that applies, and its line
-  pub refused_exactly : (r : Refusal) → (acceptance c ≡ Refused r) ↔ WrongTable c r
+  pub refused_exactly : (r : Refusal) → (acceptance c ≡ Err r) ↔ WrongTable c r
   refused_exactly r = (refused_wrong.holds, wrong_refused)
 
 module _ (c : Columns) (a : Entries) where
@@ -236,7 +236,7 @@ module _ (c : Columns) (a : Entries) where
       test_refuses (eqb e n) _ _ (λ b. WrongLent.answers t (λ g. eqb-false e n b g.labels.edges)) (λ _.
       test_refuses (eqb s n) _ _ (λ b. WrongLent.answers t (λ g. eqb-false s n b g.pieces)) (λ _. none_refuses)))))
 
-  lent_refused : {r : Refusal} → WrongLent c a r → lent_acceptance c a ≡ Refused r
+  lent_refused : {r : Refusal} → WrongLent c a r → lent_acceptance c a ≡ Err r
   unfolding lent_acceptance
   lent_refused (WrongLent.table w) = let q = (refused_exactly c _).1 w in rw q
   lent_refused (WrongLent.answers t n) =
@@ -248,11 +248,11 @@ module _ (c : Columns) (a : Entries) where
       absurd (n (record { labels = record { weights = eqb-true _ _ w; depths = eqb-true _ _ d; edges = eqb-true _ _ e }; pieces = eqb-true _ _ s })))))))
 
   -- the same with the answer columns
-  pub lent_exactly : (lent_acceptance c a ≡ Accepted) ↔ RightLent c a
+  pub lent_exactly : (lent_acceptance c a ≡ Ok tt) ↔ RightLent c a
   lent_exactly = (
     λ p. let g = columns_accepted c a p in record { table = (accepted_exactly c).0 g.table; sized = g.sized },
     λ g. columns_accept c a ((accepted_exactly c).1 g.table) g.sized,
   )
 
-  pub lent_refused_exactly : (r : Refusal) → (lent_acceptance c a ≡ Refused r) ↔ WrongLent c a r
+  pub lent_refused_exactly : (r : Refusal) → (lent_acceptance c a ≡ Err r) ↔ WrongLent c a r
   lent_refused_exactly r = (refused_lent.holds, lent_refused)

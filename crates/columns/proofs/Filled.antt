@@ -6,7 +6,7 @@ use mathlib.Core.List.{List, [], ◌∷◌, ◌++◌, append_assoc, append-nil}
 use native.Mathlib.Numerals.{add-one}
 use native.Mathlib.Omega.{arith}
 use lib.ListN.{length, get_or, take, drop, set, length-append, length-drop, drop_of_length-le}
-use lib.Seq.{length-take-le, take-suc, take_all, take_at, drop_at, drop-drop, drop-cons, set_at, append_snoc}
+use lib.Seq.{take_all, take_at, drop_at, drop-drop, drop-cons, set_at, append_snoc}
 use Rattle.columns.specs.Filled.{filled}
 
 pub filled_none : (old : List ℕ) → old ≡ filled [] old
@@ -54,12 +54,3 @@ pub part_back : (xs ys : List ℕ) (n : ℕ) → take n xs ++ (ys ++ drop (lengt
 part_back xs ys n =
     let l : length (drop n xs) ≤ length xs - n = let m = length-drop n xs in omega arith in
     ap (λ (z : List ℕ). take n xs ++ (ys ++ z)) (drop_of_length-le (drop n xs) l) ∙ ap (λ (z : List ℕ). take n xs ++ z) (append-nil ys)
-
--- filled by a list, number for number
-pub filled_more : (new old : List ℕ) (i : ℕ) → i < length new → length new ≤ length old → set (filled (take i new) old) i (get_or new i 0) ≡ filled (take (i + 1) new) old
-filled_more new old i h l =
-    filled-set (take i new) old i (get_or new i 0) (length-take-le i new (omega arith)) (omega arith)
-    ∙ ap (λ (z : List ℕ). filled z old) (sym (ap (λ (k : ℕ). take k new) (add-one i) ∙ take-suc new i 0 h))
-
-pub filled_whole : (new old : List ℕ) (i : ℕ) → length new ≤ i → filled (take i new) old ≡ filled new old
-filled_whole new old i h = ap (λ (z : List ℕ). filled z old) (take_all i new h)

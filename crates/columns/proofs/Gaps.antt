@@ -10,11 +10,11 @@ use lib.Seq.{get_or-take, get_or-drop, ext_get_or}
 use lib.Dec.{leb, ltb}
 use Rattle.weights.specs.Figures.{greatest, struck_mark}
 use Rattle.refusal.specs.declared.Refusal.TheVariants.{Head, Own, Span, Tail, StrikeMark}
-use Rattle.refusal.specs.declared.Acceptance.TheVariants.{Accepted}
 use Rattle.columns.specs.Columns.{Entries, Columns, head_at, own_at, strike_at, offset_at, length_at, part, tail_of, tail_at}
 use Rattle.columns.specs.Acceptance.{longest_tail, test, and_then, all_below, edge_acceptance, edge_at, edges_acceptance, acceptance, lent_acceptance}
 use Rattle.columns.proofs.Accepted.{table_accepted}
 use Rattle.columns.specs.Gaps.{Gapped, with_tails}
+use Rattle.std.specs.Prelude.{Ok}
 
 -- parts of two columns of one length that agree place for place
 same_part : (offset size : ℕ) (xs ys : List ℕ) → length xs ≡ length ys → ((k : ℕ) → k < size → get_or xs (offset + k) 0 ≡ get_or ys (offset + k) 0) → part offset size xs ≡ part offset size ys
@@ -45,7 +45,7 @@ module _ (c : Columns) (tails : List ℕ) (g : Gapped c tails) where
       (test (leb (length_at c e) longest_tail) (Span (record { 0 = e }))
       (test (leb (offset_at c e + length_at c e) k) (Span (record { 0 = e }))
       (test (all_below c.vertices xs) (Tail (record { 0 = e }))
-      Accepted)))))))
+      (Ok tt))))))))
       g.level (tail_alike e h)
 
   edges_alike : (left e end : ℕ) → e + left ≤ length c.heads → edges_acceptance c left e end ≡ edges_acceptance c' left e end
@@ -63,13 +63,13 @@ module _ (c : Columns) (tails : List ℕ) (g : Gapped c tails) where
   gaps_lent a = rw gaps_accepted
 
   -- beyond the last line no span is read
-  beyond : (xs : List ℕ) → acceptance c ≡ Accepted → (e : ℕ) → length c.heads ≤ e → tail_of c.spans xs e ≡ []
+  beyond : (xs : List ℕ) → acceptance c ≡ Ok tt → (e : ℕ) → length c.heads ≤ e → tail_of c.spans xs e ≡ []
   beyond xs p e h =
       let s = (table_accepted c p).spans in
       let l = get_or-eq_default c.spans 0 {n = 2 * e + 1} (omega arith) in
       ap (λ (k : ℕ). part (offset_at c e) k xs) l
 
-  pub all_tails_alike : acceptance c ≡ Accepted → (e : ℕ) → tail_at c e ≡ tail_at c' e
+  pub all_tails_alike : acceptance c ≡ Ok tt → (e : ℕ) → tail_at c e ≡ tail_at c' e
   all_tails_alike p e = go (dec_le (length c.heads) e)
     where
       go : Dec (length c.heads ≤ e) → tail_at c e ≡ tail_at c' e

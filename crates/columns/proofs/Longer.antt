@@ -7,12 +7,12 @@ use native.Mathlib.Nat.{eq-or-lt_of_le}
 use native.Mathlib.Omega.{arith}
 use lib.ListN.{length, get_or, take, drop, length-append, length-take, length-drop, get_or-append}
 use lib.Seq.{get_or_at, get_or-append-add, get_or-take, get_or-drop, take_all, drop_at, length-take-le, ext_get_or}
-use Rattle.refusal.specs.declared.Acceptance.TheVariants.{Accepted}
 use Rattle.columns.specs.Columns.{Columns, head_at, own_at, strike_at, offset_at, length_at, part, tail_at}
 use Rattle.columns.specs.Acceptance.{most_edges, most_listed, acceptance}
 use Rattle.columns.specs.Right.{end_before, RightEdge, RightTable}
 use Rattle.columns.specs.Longer.{NewLine, end_in, end_of, longer, RightLine, OneMore}
 use Rattle.columns.proofs.Exactly.{accepted_exactly}
+use Rattle.std.specs.Prelude.{Ok}
 
 -- where the span before a line ends, by the columns
 pub end_before_lem : (c : Columns) (e : ℕ) → end_in c.spans e ≡ end_before c e
@@ -60,7 +60,7 @@ part_start off size k xs ys h l =
     ∙ get_or-take k xs (off + i) 0 (omega arith)
     ∙ sym (get_or-take size (drop off xs) i 0 s ∙ get_or-drop off xs i 0))
 
-module _ (c : Columns) (l : NewLine) (p : acceptance c ≡ Accepted) where
+module _ (c : Columns) (l : NewLine) (p : acceptance c ≡ Ok tt) where
   right : RightTable c
   right = (accepted_exactly c).0 p
 
@@ -195,7 +195,7 @@ module _ (c : Columns) (l : NewLine) (p : acceptance c ≡ Accepted) where
               omega (arith, g.listed k i);
         }
 
-    pub longer_accepted : acceptance (longer c l) ≡ Accepted
+    pub longer_accepted : acceptance (longer c l) ≡ Ok tt
     longer_accepted = (accepted_exactly (longer c l)).1 (record {
       few = right.few;
       level = record {

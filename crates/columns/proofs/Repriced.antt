@@ -7,11 +7,11 @@ use native.Mathlib.Decide.{ℕ_discrete}
 use lib.ListN.{length, get_or, set, length-set}
 use lib.Seq.{get_or-set_same, get_or-set_other, set-set, set-get_or}
 use Rattle.weights.specs.Figures.{greatest, struck_mark}
-use Rattle.refusal.specs.declared.Acceptance.TheVariants.{Accepted}
 use Rattle.columns.specs.Columns.{Columns, columns, own_at, strike_at, with_own, with_strike}
 use Rattle.columns.specs.Acceptance.{acceptance}
 use Rattle.columns.specs.Right.{end_before, RightOwn, RightMark}
 use Rattle.columns.proofs.Exactly.{accepted_exactly}
+use Rattle.std.specs.Prelude.{Ok}
 
 -- one place of a column changed to a number within a limit: every place that was within it still is
 set-low : (xs : List ℕ) (e w limit : ℕ) → e < length xs → w ≤ limit → (x : ℕ) → get_or xs x 0 ≤ limit → get_or (set xs e w) x 0 ≤ limit
@@ -32,7 +32,7 @@ module _ (c : Columns) (own strikes : List ℕ) where
 
   marked_kept : length own ≡ length c.own → length strikes ≡ length c.strikes
       → ((e : ℕ) → RightOwn c e → RightOwn c' e) → ((e : ℕ) → RightMark c e → RightMark c' e)
-      → acceptance c ≡ Accepted → acceptance c' ≡ Accepted
+      → acceptance c ≡ Ok tt → acceptance c' ≡ Ok tt
   marked_kept o k low lower p =
       let t = (accepted_exactly c).0 p in
       let l = t.level in
@@ -60,7 +60,7 @@ module _ (c : Columns) (e w : ℕ) where
     pub own_here : own_at (with_own c e w) e ≡ w
     own_here = get_or-set_same c.own e w 0 fits
 
-    pub acceptance_kept : w ≤ greatest → acceptance c ≡ Accepted → acceptance (with_own c e w) ≡ Accepted
+    pub acceptance_kept : w ≤ greatest → acceptance c ≡ Ok tt → acceptance (with_own c e w) ≡ Ok tt
     acceptance_kept low =
         marked_kept c (set c.own e w) c.strikes (length-set c.own e w) refl (set-low c.own e w greatest fits low) (λ x h. h)
 
@@ -79,6 +79,6 @@ module _ (c : Columns) (e s : ℕ) where
     pub strike_here : strike_at (with_strike c e s) e ≡ s
     strike_here = get_or-set_same c.strikes e s 0 fits
 
-    pub strike_kept : s ≤ struck_mark → acceptance c ≡ Accepted → acceptance (with_strike c e s) ≡ Accepted
+    pub strike_kept : s ≤ struck_mark → acceptance c ≡ Ok tt → acceptance (with_strike c e s) ≡ Ok tt
     strike_kept low =
         marked_kept c c.own (set c.strikes e s) refl (length-set c.strikes e s) (λ x h. h) (set-low c.strikes e s struck_mark fits low)

@@ -1,14 +1,12 @@
 -- The laws of the test whether columns are the same, place for place. Assumes nothing.
-use mathlib.Core.Path.{◌≡◌, refl, ap}
-use mathlib.Core.Bool.{Bool, true, false}
+use mathlib.Core.Path.{◌≡◌, refl}
+use mathlib.Core.Bool.{Bool, true, false, ◌&&◌}
 use mathlib.Core.List.{List, [], ◌∷◌}
-use Prim.Native.Nat.{ℕ, ◌+◌, ◌≤◌, ◌<◌}
-use native.Mathlib.Numerals.{add-one}
-use native.Mathlib.Omega.{arith}
-use lib.ListN.{length, get_or, drop, drop_of_length-le}
-use lib.Seq.{drop-cons}
+use Prim.Native.Nat.{ℕ}
 use lib.Dec.{eqb}
-use borrow.Author.Tests.{eqb-true, eq-eqb, ne_eqb}
+use lib.Pointwise.{pointwise}
+use borrow.Author.Tests.{eqb-true, eq-eqb}
+use Rattle.weights.specs.Choice.{pick}
 use Rattle.weights.proofs.Choice.{apart, both_true}
 use Rattle.columns.specs.Columns.{Answers, Entries}
 use Rattle.columns.specs.Same.{equal, same_answers, same_entries}
@@ -29,27 +27,17 @@ equal-true (x ∷ xs) (y ∷ ys) e =
     let q = equal-true xs ys t.1 in
     λ i. p i ∷ q i
 
--- columns of different lengths are not the same
-pub equal_lengths : (xs ys : List ℕ) → ¬ (length xs ≡ length ys) → false ≡ equal xs ys
-equal_lengths xs ys n = go (equal xs ys) refl
-  where
-    go : (x : Bool) → equal xs ys ≡ x → false ≡ x
-    go true e = absurd (n (ap length (equal-true xs ys e)))
-    go false e = refl
+-- so `==` of two slices says
+and_pick : (a b : Bool) → (a && b) ≡ pick a b false
+and_pick true b = refl
+and_pick false b = refl
 
--- of two columns from place i on: one place more that is the same, one that is not, and none left
-module _ (xs ys : List ℕ) (i : ℕ) (l : length xs ≡ length ys) where
-  pub equal_more : i < length xs → get_or xs i 0 ≡ get_or ys i 0 → equal (drop (i + 1) xs) (drop (i + 1) ys) ≡ equal (drop i xs) (drop i ys)
-  unfolding equal
-  equal_more h p = let k : i < length ys = omega arith in rw (add-one i, drop-cons xs i 0 h, drop-cons ys i 0 k, eq-eqb _ _ p)
-
-  pub equal_stop : i < length xs → ¬ (get_or xs i 0 ≡ get_or ys i 0) → false ≡ equal (drop i xs) (drop i ys)
-  unfolding equal
-  equal_stop h n = let k : i < length ys = omega arith in rw (drop-cons xs i 0 h, drop-cons ys i 0 k, ne_eqb _ _ n)
-
-  pub equal_end : length xs ≤ i → true ≡ equal (drop i xs) (drop i ys)
-  unfolding equal
-  equal_end h = let k : length ys ≤ i = omega arith in rw (drop_of_length-le xs h, drop_of_length-le ys k)
+pub equal_pointwise : (xs ys : List ℕ) → pointwise eqb xs ys ≡ equal xs ys
+unfolding equal
+equal_pointwise [] [] = refl
+equal_pointwise [] (y ∷ ys) = refl
+equal_pointwise (x ∷ xs) [] = refl
+equal_pointwise (x ∷ xs) (y ∷ ys) = rw (equal_pointwise xs ys, and_pick)
 
 pub same_refl : (a : Answers) → same_answers a a ≡ true
 unfolding same_answers

@@ -10,13 +10,13 @@ use Rattle.weights.specs.declared.Hyperedge.{Hyperedge}
 use Rattle.weights.specs.Figures.{greatest, struck_mark}
 use Rattle.refusal.specs.declared.Refusal.{Refusal}
 use Rattle.refusal.specs.declared.Refusal.TheVariants.{Tail}
-use Rattle.refusal.specs.declared.Acceptance.{Acceptance}
-use Rattle.refusal.specs.declared.Acceptance.TheVariants.{Accepted, Refused}
 use Rattle.columns.specs.Columns.{Columns, part}
 use Rattle.columns.specs.Acceptance.{most_vertices, most_edges, most_listed, longest_tail, test, and_then, all_below}
 use Rattle.columns.specs.Acceptance.{fields_acceptance, edge_acceptance, edges_acceptance, sizes_acceptance, acceptance}
 use Rattle.columns.specs.Right.{Few, Level}
 use Rattle.columns.proofs.Accepted.{test_passed}
+use Rattle.refusal.specs.Answers.{Acceptance}
+use Rattle.std.specs.Prelude.{Ok, Err}
 
 test_then : (b : Bool) (r : Refusal) (a y x : Acceptance) → y ≡ and_then a x → test b r y ≡ and_then (test b r a) x
 test_then true r a y x p = p
@@ -33,13 +33,13 @@ module _ (c : Columns) where
       (test_then (eqb (length c.spans) (2 * length c.heads)) _ _ _ _
       (test_then (leb (length c.tails) most_listed) _ _ _ _ refl)))))
 
-  pub sizes_refused : (r : Refusal) → sizes_acceptance c ≡ Refused r → Refused r ≡ acceptance c
+  pub sizes_refused : (r : Refusal) → sizes_acceptance c ≡ Err r → Err r ≡ acceptance c
   sizes_refused r p = sym (sizes_first ∙ ap (λ (a : Acceptance). and_then a (edges_acceptance c (length c.heads) 0 0)) p)
 
-  pub sizes_passed : sizes_acceptance c ≡ Accepted → edges_acceptance c (length c.heads) 0 0 ≡ acceptance c
+  pub sizes_passed : sizes_acceptance c ≡ Ok tt → edges_acceptance c (length c.heads) 0 0 ≡ acceptance c
   sizes_passed p = sym (sizes_first ∙ ap (λ (a : Acceptance). and_then a (edges_acceptance c (length c.heads) 0 0)) p)
 
-  pub sizes_level : sizes_acceptance c ≡ Accepted → Few c × Level c
+  pub sizes_level : sizes_acceptance c ≡ Ok tt → Few c × Level c
   unfolding sizes_acceptance
   sizes_level p =
       let t1 = test_passed _ _ _ p in
@@ -56,7 +56,7 @@ module _ (n : ℕ) (e : Hyperedge) (head own mark offset size end : ℕ) (tails 
   fields = fields_acceptance n e head own mark offset size end (length tails)
 
   abbrev tail : Acceptance
-  tail = test (all_below n (part offset size tails)) (Tail e) Accepted
+  tail = test (all_below n (part offset size tails)) (Tail e) (Ok tt)
 
   pub fields_first : edge_acceptance n e head own mark offset size end tails ≡ and_then fields tail
   unfolding edge_acceptance fields_acceptance
@@ -68,17 +68,17 @@ module _ (n : ℕ) (e : Hyperedge) (head own mark offset size end : ℕ) (tails 
       (test_then (leb size longest_tail) _ _ _ _
       (test_then (leb (offset + size) (length tails)) _ _ _ _ refl)))))
 
-  pub fields_refused : (r : Refusal) → fields ≡ Refused r → Refused r ≡ edge_acceptance n e head own mark offset size end tails
+  pub fields_refused : (r : Refusal) → fields ≡ Err r → Err r ≡ edge_acceptance n e head own mark offset size end tails
   fields_refused r p = sym (fields_first ∙ ap (λ (a : Acceptance). and_then a tail) p)
 
-  pub fields_passed : fields ≡ Accepted → tail ≡ edge_acceptance n e head own mark offset size end tails
+  pub fields_passed : fields ≡ Ok tt → tail ≡ edge_acceptance n e head own mark offset size end tails
   fields_passed p = sym (fields_first ∙ ap (λ (a : Acceptance). and_then a tail) p)
 
-  pub fields_head : fields_acceptance n e head own mark offset size end (length tails) ≡ Accepted → head < n
+  pub fields_head : fields_acceptance n e head own mark offset size end (length tails) ≡ Ok tt → head < n
   unfolding fields_acceptance
   fields_head p = ltb-true _ _ (test_passed _ _ _ p).0
 
-  pub fields_within : fields_acceptance n e head own mark offset size end (length tails) ≡ Accepted → offset + size ≤ length tails
+  pub fields_within : fields_acceptance n e head own mark offset size end (length tails) ≡ Ok tt → offset + size ≤ length tails
   unfolding fields_acceptance
   fields_within p =
       let t1 = test_passed (ltb head n) _ _ p in

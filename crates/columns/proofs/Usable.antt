@@ -4,11 +4,11 @@ use mathlib.Core.List.{List}
 use Prim.Native.Nat.{ℕ, ◌≤◌, ◌<◌}
 use native.Mathlib.Omega.{arith}
 use lib.ListN.{length}
-use Rattle.refusal.specs.declared.Acceptance.TheVariants.{Accepted}
 use Rattle.columns.specs.Columns.{Answers, Sized, Columns, columns, head_at, cell}
 use Rattle.columns.specs.Acceptance.{most_vertices, acceptance}
 use Rattle.columns.proofs.Accepted.{table_accepted, below_at}
 use Rattle.columns.specs.Lent.{EdgeIn, Usable, Turning}
+use Rattle.std.specs.Prelude.{Ok}
 
 module _ {c : Columns} {ws ds : List ℕ} (u : Usable c ws ds) (e : ℕ) (h : e < length c.heads) where
   pub head_in : head_at c e < length ds
@@ -29,11 +29,11 @@ module _ {c : Columns} {ws ds : List ℕ} (u : Usable c ws ds) (e : ℕ) (h : e 
 abbrev pub same_table : Columns → ℕ → Columns
 same_table c n = columns n c.heads c.own c.strikes c.spans c.tails
 
-pub turning_columns : (c : Columns) (a : Answers) → acceptance c ≡ Accepted → Sized c.vertices a → ((v : ℕ) → cell a.depths v ≤ most_vertices) → Turning (same_table c (length a.depths)) a
+pub turning_columns : (c : Columns) (a : Answers) → acceptance c ≡ Ok tt → Sized c.vertices a → ((v : ℕ) → cell a.depths v ≤ most_vertices) → Turning (same_table c (length a.depths)) a
 turning_columns c a p s shallow =
     record {
       usable = record {
-        accepted = subst (λ (n : ℕ). acceptance (same_table c n) ≡ Accepted) (sym s.depths) p;
+        accepted = subst (λ (n : ℕ). acceptance (same_table c n) ≡ Ok tt) (sym s.depths) p;
         level = s.weights ∙ sym s.depths;
         vertices = refl;
         shallow = shallow;

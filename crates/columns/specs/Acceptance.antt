@@ -1,14 +1,13 @@
 -- Which tables and answer columns are accepted: the refusals 1 to 6 and 21, and then 7, in the paper's order ("What is turned away"; document 02, 2026-02: 21 "after 4
 -- in that line"). Assumes nothing: these are definitions.
-use Rattle.std.specs.Prelude.{ℕ, zero, suc, ◌+◌, ◌*◌, Bool, true, false, List, [], ◌∷◌, length, ltb, leb, eqb}
+use Rattle.std.specs.Prelude.{ℕ, zero, suc, ◌+◌, ◌*◌, Bool, true, false, List, [], ◌∷◌, length, ltb, leb, eqb, Ok, Err}
 use Rattle.weights.specs.declared.Hyperedge.{Hyperedge}
 use Rattle.weights.specs.Figures.{greatest, struck_mark}
 use Rattle.weights.specs.Choice.{pick}
 use Rattle.refusal.specs.declared.Refusal.{Refusal}
 use Rattle.refusal.specs.declared.Refusal.TheVariants.{TooManyVertices, Lengths, Head, Own, Span, Tail, AnswerLength, StrikeMark}
-use Rattle.refusal.specs.declared.Acceptance.{Acceptance}
-use Rattle.refusal.specs.declared.Acceptance.TheVariants.{Accepted, Refused}
 use Rattle.columns.specs.Columns.{Entries, Columns, head_at, own_at, strike_at, offset_at, length_at, part}
+use Rattle.refusal.specs.Answers.{Acceptance}
 
 -- the greatest numbers of parts, of lines, of needed parts in all and of one line
 abbrev pub most_vertices : ℕ
@@ -26,12 +25,12 @@ longest_tail = 16
 -- a test that refuses by r where it fails
 abbrev pub test : Bool → Refusal → Acceptance → Acceptance
 test true r a = a
-test false r a = Refused r
+test false r a = Err r
 
 -- the first refusal of two answers
 abbrev pub and_then : Acceptance → Acceptance → Acceptance
-and_then Accepted b = b
-and_then (Refused r) b = Refused r
+and_then (Ok _) b = b
+and_then (Err r) b = Err r
 
 -- every listed part is below n
 unfoldable pub all_below : ℕ → List ℕ → Bool
@@ -47,7 +46,7 @@ fields_acceptance n e head own mark offset size end all =
     (test (leb end offset) (Span e)
     (test (leb size longest_tail) (Span e)
     (test (leb (offset + size) all) (Span e)
-    Accepted)))))
+    (Ok tt))))))
 
 -- refusals 3, 4, 21, 5 and 6 of one line, where the span before it ends at `end`
 unfoldable pub edge_acceptance : (n : ℕ) → Hyperedge → (head own mark offset size end : ℕ) → List ℕ → Acceptance
@@ -59,14 +58,14 @@ edge_acceptance n e head own mark offset size end tails =
     (test (leb size longest_tail) (Span e)
     (test (leb (offset + size) (length tails)) (Span e)
     (test (all_below n (part offset size tails)) (Tail e)
-    Accepted))))))
+    (Ok tt)))))))
 
 abbrev pub edge_at : Columns → (e end : ℕ) → Acceptance
 edge_at c e end = edge_acceptance c.vertices (record { 0 = e }) (head_at c e) (own_at c e) (strike_at c e) (offset_at c e) (length_at c e) end c.tails
 
 -- the first refusal of the `left` lines from e on
 unfoldable pub edges_acceptance : Columns → (left e end : ℕ) → Acceptance
-edges_acceptance c zero e end = Accepted
+edges_acceptance c zero e end = Ok tt
 edges_acceptance c (suc left) e end = and_then (edge_at c e end) (edges_acceptance c left (e + 1) (offset_at c e + length_at c e))
 
 -- refusals 1 and 2
@@ -78,7 +77,7 @@ sizes_acceptance c =
     (test (leb (length c.heads) most_edges) Lengths
     (test (eqb (length c.spans) (2 * length c.heads)) Lengths
     (test (leb (length c.tails) most_listed) Lengths
-    Accepted)))))
+    (Ok tt))))))
 
 -- a table is accepted, or refused by the first of 1 to 6 and 21 that applies
 unfoldable pub acceptance : Columns → Acceptance
@@ -99,4 +98,4 @@ lent_acceptance c a =
     (test (eqb (length a.labels.depths) c.vertices) AnswerLength
     (test (eqb (length a.labels.edges) c.vertices) AnswerLength
     (test (eqb (length a.pieces) c.vertices) AnswerLength
-    Accepted))))
+    (Ok tt)))))

@@ -1,7 +1,6 @@
 -- What the functions below a call know of the lent columns: the table that they hold, and records of what each may ask of its caller. Assumes nothing: these are
 -- definitions.
-use Rattle.std.specs.Prelude.{◌≡◌, ℕ, ◌+◌, ◌*◌, ◌≤◌, ◌<◌, List, length}
-use Rattle.refusal.specs.declared.Acceptance.TheVariants.{Accepted}
+use Rattle.std.specs.Prelude.{◌≡◌, ℕ, ◌+◌, ◌*◌, ◌≤◌, ◌<◌, List, length, Ok}
 use Rattle.columns.specs.Columns.{Answers, Columns, columns, cell, tail_of}
 use Rattle.columns.specs.Acceptance.{most_vertices, longest_tail, acceptance}
 
@@ -30,7 +29,7 @@ pub record EdgeIn (e : ℕ) (os ms ss ts ws ds : List ℕ) : Type 0 where
 
 -- an accepted table with columns of its length
 pub record Usable (c : Columns) (ws ds : List ℕ) : Type 0 where
-  pub accepted : acceptance c ≡ Accepted
+  pub accepted : acceptance c ≡ Ok tt
   pub level : length ws ≡ length ds
   pub vertices : length ds ≡ c.vertices
   pub shallow : (v : ℕ) → cell ds v ≤ most_vertices

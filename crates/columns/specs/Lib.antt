@@ -8,3 +8,4 @@ pub mod Owed
 pub mod Lent
 pub mod Worked
 pub mod Longer
+pub mod Given

@@ -13,17 +13,16 @@ use Rattle.command.specs.declared.Name.{Name}
 use Rattle.command.specs.declared.Name.TheVariants as name
 use Rattle.command.specs.declared.Next.{Next}
 use Rattle.command.specs.declared.Next.TheVariants.{Number, End, Neither}
-use Rattle.command.specs.declared.Numbers.{Numbers}
-use Rattle.command.specs.declared.Numbers.TheVariants.{Count, Wrong}
+use Rattle.std.specs.Prelude.{Option, Some, None}
 use Rattle.command.specs.declared.Command.{Command}
 use Rattle.command.specs.declared.Command.TheVariants.{Ask, Append, Mean, Misuse}
 use Rattle.command.specs.declared.Line.{Line}
 use Rattle.command.specs.Command.{Gathered, gathered, next_at, on_next, numbers_from, name_in, takes, as_command, line, line_with, line_of, command_in}
 
 -- at most so many numbers were gathered
-abbrev Most : ℕ → Numbers → Type 0
-Most n (Count k) = k ≤ n
-Most n Wrong = Unit {0}
+abbrev Most : ℕ → Option ℕ → Type 0
+Most n (Some k) = k ≤ n
+Most n None = Unit {0}
 
 next_most : (n : ℕ) (x : Next) (i : ℕ) (c : List ℕ) (more : (v stop : ℕ) → Gathered) → i ≤ n → ((v stop : ℕ) → Most n (more v stop).numbers) → Most n (on_next x i c more).numbers
 next_most n End i c more h f = h
@@ -32,7 +31,7 @@ next_most n (Number v stop) i c more h f = f v stop
 
 gathered_most : (left : ℕ) (s : List ℕ) (at i : ℕ) (c : List ℕ) (n : ℕ) → i + left ≤ n → Most n (numbers_from left s at i c).numbers
 unfolding numbers_from
-gathered_most zero s at i c n h = next_most n (next_at s at) i c (λ v stop. gathered Wrong c) (omega arith) (λ v stop. tt)
+gathered_most zero s at i c n h = next_most n (next_at s at) i c (λ v stop. gathered None c) (omega arith) (λ v stop. tt)
 gathered_most (suc left) s at i c n h =
     next_most n (next_at s at) i c (λ v stop. numbers_from left s stop (i + 1) (set c i v)) (omega arith)
     (λ v stop. gathered_most left s stop (i + 1) (set c i v) n (omega arith))
@@ -45,7 +44,7 @@ next_kept n (Number v stop) i c more h f = f v stop
 
 gathered_kept : (left : ℕ) (s : List ℕ) (at i : ℕ) (c : List ℕ) (n : ℕ) → length c ≡ n → length (numbers_from left s at i c).column ≡ n
 unfolding numbers_from
-gathered_kept zero s at i c n h = next_kept n (next_at s at) i c (λ v stop. gathered Wrong c) h (λ v stop. h)
+gathered_kept zero s at i c n h = next_kept n (next_at s at) i c (λ v stop. gathered None c) h (λ v stop. h)
 gathered_kept (suc left) s at i c n h =
     next_kept n (next_at s at) i c (λ v stop. numbers_from left s stop (i + 1) (set c i v)) h
     (λ v stop. gathered_kept left s stop (i + 1) (set c i v) n (length-set c i v ∙ h))
@@ -90,9 +89,9 @@ with_taken n x k c h =
     (λ t. record { most = h; least = λ v w e. appended_takes x (get_or c 0 0) (get_or c 1 0) k t (subst Appends (sym e) tt) })
     (λ _. misuse_taken n)
 
-line_taken : (n : ℕ) (x : Name) (m : Numbers) (c : List ℕ) → Most n m → Taken n (line_of x m c)
-line_taken n x (Count k) c h = with_taken n x k c h
-line_taken n x Wrong c h = misuse_taken n
+line_taken : (n : ℕ) (x : Name) (m : Option ℕ) (c : List ℕ) → Most n m → Taken n (line_of x m c)
+line_taken n x (Some k) c h = with_taken n x k c h
+line_taken n x None c h = misuse_taken n
 
 pub command_taken : (s old : List ℕ) → Taken (length old) (command_in s old).line
 unfolding command_in

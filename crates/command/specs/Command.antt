@@ -1,9 +1,7 @@
 -- Which command a line of words is: its name and its numbers, single spaces between them and an LF behind the last. Numbers are written as the table's text
 -- writes them. Assumes nothing: these are definitions.
-use Rattle.std.specs.Prelude.{ℕ, zero, suc, ◌+◌, Bool, true, false, List, [], ◌∷◌, length, get_or, set, replicate, eqb, leb}
+use Rattle.std.specs.Prelude.{ℕ, zero, suc, ◌+◌, Bool, true, false, List, [], ◌∷◌, length, get_or, set, replicate, eqb, leb, Option, Some, None}
 use Rattle.weights.specs.Choice.{pick}
-use Rattle.cursor.specs.declared.Found.{Found}
-use Rattle.cursor.specs.declared.Found.TheVariants as found
 use Rattle.cursor.specs.declared.Separator.{Separator}
 use Rattle.cursor.specs.declared.Separator.TheVariants as separator
 use Rattle.cursor.specs.Cursor.{number_at, separator_at}
@@ -13,8 +11,6 @@ use Rattle.command.specs.declared.Name.TheVariants as name
 use Rattle.command.specs.declared.Named.{Named}
 use Rattle.command.specs.declared.Next.{Next}
 use Rattle.command.specs.declared.Next.TheVariants.{Number, End, Neither}
-use Rattle.command.specs.declared.Numbers.{Numbers}
-use Rattle.command.specs.declared.Numbers.TheVariants.{Count, Wrong}
 use Rattle.command.specs.declared.Command.{Command}
 use Rattle.command.specs.declared.Question.{Question}
 use Rattle.command.specs.declared.Question.TheVariants.{Price, Bill, Reprice, Strike, Restore, Compare, Replay}
@@ -91,9 +87,9 @@ name_in s =
 
 -- The numbers ----------------------------------------------------------------------------------------------------------------------------------
 
-abbrev pub as_next : (stop : ℕ) → Found → Next
-as_next stop (found.Number v) = Number v stop
-as_next stop found.NotANumber = Neither
+abbrev pub as_next : (stop : ℕ) → (Option ℕ) → Next
+as_next stop (Some v) = Number v stop
+as_next stop None = Neither
 
 unfoldable pub found_number : List ℕ → ℕ → Next
 found_number s at = as_next (number_at s at number_limit).stop (number_at s at number_limit).found
@@ -109,21 +105,21 @@ next_at s at = on_separator s (separator_at s at)
 
 -- how many numbers came, or that something else did, and the column that they were put into
 pub record Gathered : Type 0 where
-  pub numbers : Numbers
+  pub numbers : Option ℕ
   pub column : List ℕ
 
-abbrev pub gathered : Numbers → List ℕ → Gathered
+abbrev pub gathered : Option ℕ → List ℕ → Gathered
 gathered n c = record { numbers = n; column = c }
 
 -- by what comes next: the line's end, a number and the place behind it, or something else
 abbrev pub on_next : Next → (i : ℕ) → List ℕ → ((v stop : ℕ) → Gathered) → Gathered
-on_next End i c more = gathered (Count i) c
-on_next Neither i c more = gathered Wrong c
+on_next End i c more = gathered (Some i) c
+on_next Neither i c more = gathered None c
 on_next (Number v stop) i c more = more v stop
 
 -- at most `left` more numbers stand from a place on; i stand already in the column
 unfoldable pub numbers_from : (left : ℕ) → List ℕ → (at i : ℕ) → List ℕ → Gathered
-numbers_from zero s at i c = on_next (next_at s at) i c (λ v stop. gathered Wrong c)
+numbers_from zero s at i c = on_next (next_at s at) i c (λ v stop. gathered None c)
 numbers_from (suc left) s at i c = on_next (next_at s at) i c (λ v stop. numbers_from left s stop (i + 1) (set c i v))
 
 -- The command ----------------------------------------------------------------------------------------------------------------------------------
@@ -166,9 +162,9 @@ line x k = record { command = x; count = k }
 abbrev pub line_with : Name → (count : ℕ) → List ℕ → Line
 line_with x k c = pick (takes x k) (line (as_command x (get_or c 0 0) (get_or c 1 0)) k) (line Misuse 0)
 
-abbrev pub line_of : Name → Numbers → List ℕ → Line
-line_of x (Count k) c = line_with x k c
-line_of x Wrong c = line Misuse 0
+abbrev pub line_of : Name → Option ℕ → List ℕ → Line
+line_of x (Some k) c = line_with x k c
+line_of x None c = line Misuse 0
 
 -- the command of a line, and the column with its numbers
 pub record CommandLine : Type 0 where

@@ -1,12 +1,14 @@
 // A desk's command, read from a line of words: its name and its numbers, single spaces between them
 // and an LF behind the last.
+//
+// Kept: columns and rooms are lent, or arrays of a fixed size: the library and its programs use no heap.
 
 #![tactic(auto)]
 
 ghost use Rattle.std.specs.Prelude.{◌≡◌, length};
 ghost use Rattle.command.specs.Command.{most_numbers, named, name_in, found_number, next_at, numbers_from, takes, as_command, line_with, command_in, question_second, query_second, command_second, takes_second};
 
-use cursor::{Found, Separator, number_at, separator_at};
+use cursor::{Separator, number_at, separator_at};
 use reading::agree;
 use weights::{Hyperedge, Vertex, Weight};
 
@@ -30,6 +32,7 @@ pub enum Name {
     Mean,
     Compare,
     Replay,
+    // Kept: a row of `takes` and `as_command` like the others; as an `Option` both would be asked twice.
     Unknown,
 }
 
@@ -42,18 +45,12 @@ pub struct Named {
 
 // What stands behind a name or a number: one more number and the place behind it, the line's end,
 // or something else.
+// Kept: an end is neither a number nor a mistake; an `Option` within a `Result` would hide which is which.
 #[derive(Clone, Copy)]
 pub enum Next {
     Number(u64, usize),
     End,
     Neither,
-}
-
-// How many numbers a line has, or that it has something else.
-#[derive(Clone, Copy)]
-pub enum Numbers {
-    Count(usize),
-    Wrong,
 }
 
 // What is asked of a table and its answers.
@@ -102,6 +99,8 @@ fn as_named(name: Name, stop: usize) -> Named
 fn name_of(words: &[u8]) -> Named
     ensures { result ≡ name_in words.now }
 {
+    // Kept: the tests stand in their order, since `check` begins `check-order`; a table of words and names
+    // walked by a loop says no more.
     if agree(words, b"price") == 5 {
         return as_named(Name::Price, 5);
     }
@@ -148,7 +147,7 @@ fn found_at(words: &[u8], at: usize) -> Next
     let token = number_at(words, at, LIMIT);
     let stop = token.stop;
     let found = token.found;
-    let Found::Number(v) = found else {
+    let Some(v) = found else {
         return Next::Neither;
     };
     Next::Number(v, stop)
@@ -170,29 +169,28 @@ fn next_at(words: &[u8], at: usize) -> Next
     }
 }
 
-// The numbers from a place on, put into a column.
-fn numbers_from(words: &[u8], from: usize, column: &mut [u64]) -> Numbers
+// The numbers from a place on, put into a column: how many there are, or none where a line has
+// something else.
+fn numbers_from(words: &[u8], from: usize, column: &mut [u64]) -> Option<usize>
     ensures { record { numbers = result; column = column.new } ≡ numbers_from (length column.old) words.now from 0 column.old }
 {
     let mut at = from;
-    let mut i: usize = 0;
-    while i < column.len() {
+    for i in 0..column.len() {
         let next = next_at(words, at);
         match next {
-            Next::End => return Numbers::Count(i),
-            Next::Neither => return Numbers::Wrong,
+            Next::End => return Some(i),
+            Next::Neither => return None,
             Next::Number(v, stop) => {
                 column[i] = v;
                 at = stop;
             }
         }
-        i += 1;
     }
-    let next = next_at(words, at);
-    match next {
-        Next::End => Numbers::Count(i),
-        Next::Neither => Numbers::Wrong,
-        Next::Number(_, _) => Numbers::Wrong,
+    let last = next_at(words, at);
+    match last {
+        Next::End => Some(column.len()),
+        Next::Neither => None,
+        Next::Number(_, _) => None,
     }
 }
 
@@ -200,18 +198,11 @@ fn takes(name: Name, count: usize) -> bool
     ensures { result ≡ takes name count }
 {
     match name {
-        Name::Price => count == 0,
-        Name::Bill => count == 1,
-        Name::Uses => count == 1,
+        Name::Price | Name::Check | Name::CheckOrder | Name::Mean | Name::Compare | Name::Replay =>
+            count == 0,
+        Name::Bill | Name::Uses | Name::Strike | Name::Restore => count == 1,
         Name::Reprice => count == 2,
-        Name::Strike => count == 1,
-        Name::Restore => count == 1,
         Name::Append => count >= 2,
-        Name::Check => count == 0,
-        Name::CheckOrder => count == 0,
-        Name::Mean => count == 0,
-        Name::Compare => count == 0,
-        Name::Replay => count == 0,
         Name::Unknown => false,
     }
 }
@@ -262,11 +253,11 @@ pub fn read_command(words: &[u8], numbers: &mut [u64; MOST_NUMBERS]) -> Line
     let stop = named.stop;
     let found = numbers_from(words, stop, numbers);
     match found {
-        Numbers::Wrong => Line {
+        None => Line {
             command: Command::Misuse,
             count: 0,
         },
-        Numbers::Count(k) => line_with(name, k, numbers),
+        Some(k) => line_with(name, k, numbers),
     }
 }
 
@@ -274,15 +265,7 @@ pub fn read_command(words: &[u8], numbers: &mut [u64; MOST_NUMBERS]) -> Line
 fn question_second(question: Question) -> bool
     ensures { result ≡ question_second question }
 {
-    match question {
-        Question::Price => false,
-        Question::Bill(_) => false,
-        Question::Reprice(_, _) => false,
-        Question::Strike(_) => false,
-        Question::Restore(_) => false,
-        Question::Compare => true,
-        Question::Replay => true,
-    }
+    matches!(question, Question::Compare | Question::Replay)
 }
 
 fn query_second(query: Query) -> bool
@@ -290,9 +273,7 @@ fn query_second(query: Query) -> bool
 {
     match query {
         Query::Settled(question) => question_second(question),
-        Query::Uses(_) => false,
-        Query::Check => false,
-        Query::CheckOrder => false,
+        Query::Uses(_) | Query::Check | Query::CheckOrder => false,
     }
 }
 
@@ -301,9 +282,7 @@ fn command_second(command: Command) -> bool
 {
     match command {
         Command::Ask(query) => query_second(query),
-        Command::Append(_, _) => false,
-        Command::Mean => false,
-        Command::Misuse => false,
+        Command::Append(_, _) | Command::Mean | Command::Misuse => false,
     }
 }
 

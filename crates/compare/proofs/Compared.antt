@@ -15,11 +15,7 @@ use Rattle.weights.specs.declared.Weight.{Weight}
 use Rattle.weights.specs.declared.Entry.{Entry}
 use Rattle.weights.specs.Choice.{pick}
 use Rattle.weights.specs.Figures.{is_over}
-use Rattle.refusal.specs.declared.Acceptance.{Acceptance}
-use Rattle.refusal.specs.declared.Acceptance.TheVariants.{Accepted}
 use Rattle.refusal.specs.declared.Header.{Header}
-use Rattle.refusal.specs.declared.Reading.{Reading}
-use Rattle.refusal.specs.declared.Reading.TheVariants as reading
 use Rattle.columns.specs.Columns.{Entries, Columns}
 use Rattle.columns.specs.Acceptance.{most_vertices, acceptance}
 use Rattle.columns.proofs.Accepted.{table_accepted}
@@ -42,6 +38,8 @@ use Rattle.compare.specs.Compared.{RowExactly, Absent, Compared, ComparedAny}
 use Rattle.compare.specs.Pieces.{half, rest}
 use Rattle.compare.proofs.Rows.{row_split, half_most, rest_most, no_row, a_row}
 use Rattle.compare.proofs.Said.{long_said, short_said}
+use Rattle.refusal.specs.Answers.{Acceptance, Reading}
+use Rattle.std.specs.Prelude.{Ok, Err}
 
 -- A row exactly if the entries differ ------------------------------------------------------------------------------------------------------------
 
@@ -106,7 +104,7 @@ none_differs a (suc n) = ap₂ (λ (u t : List ℕ). u ++ t) (none_differs a n) 
 
 -- The text of a table ----------------------------------------------------------------------------------------------------------------------------
 
-module _ (n : ℕ) (a : Entries) (second : List ℕ) (short : length second ≤ most_input) (g : Header) (e : (read_input second).answer ≡ reading.Table g) where
+module _ (n : ℕ) (a : Entries) (second : List ℕ) (short : length second ≤ most_input) (g : Header) (e : (read_input second).answer ≡ Ok g) where
   abbrev table : Columns
   table = columns_read g (read_input second)
 
@@ -120,7 +118,7 @@ module _ (n : ℕ) (a : Entries) (second : List ℕ) (short : length second ≤ 
       ∙ ap (λ (z : Reading). compared_with n a z (read_input second)) e
       ∙ ap₂ (λ (x : Acceptance) (y : Entries). on_second x (answered (differences a y (max n g.vertices)))) r l
 
-module _ (n : ℕ) (a : Entries) (m : Measure) (c : Columns) (t : acceptance c ≡ Accepted) (short : length (render m c) ≤ most_input) where
+module _ (n : ℕ) (a : Entries) (m : Measure) (c : Columns) (t : acceptance c ≡ Ok tt) (short : length (render m c) ≤ most_input) where
   pub rendered_compared : compared_said n a (render m c) ≡ answered (differences a (entries_of m c) (max n c.vertices))
   rendered_compared =
       table_compared n a (render m c) short (header_for m (closed c)) (ap (λ (x : ReadOutcome). x.answer) (rendered m c t))
@@ -128,7 +126,7 @@ module _ (n : ℕ) (a : Entries) (m : Measure) (c : Columns) (t : acceptance c �
       ∙ ap (λ (z : Entries). answered (differences a z (max n c.vertices))) (entries_closed m c t)
 
 -- a part that a table does not have
-pub absent : (m : Measure) (c : Columns) → acceptance c ≡ Accepted → Absent m c
+pub absent : (m : Measure) (c : Columns) → acceptance c ≡ Ok tt → Absent m c
 absent m c t v h =
     let z = (entries_sized m c t).labels.depths in
     let y = (entries_sized m c t).labels.weights in
@@ -136,7 +134,7 @@ absent m c t v h =
     let w = (labels (entries_of m c).labels v).weight.0 in
     (ap (λ (k : ℕ). pick (eqb k 0) Unmade (pick (is_over w) Over Made)) d, get_or-eq_default (entries_of m c).labels.weights 0 {n = v} (omega arith))
 
-pub compared : (m m' : Measure) (c c' : Columns) → acceptance c ≡ Accepted → acceptance c' ≡ Accepted → length (render m' c') ≤ most_input → Compared m m' c c' (render m' c')
+pub compared : (m m' : Measure) (c c' : Columns) → acceptance c ≡ Ok tt → acceptance c' ≡ Ok tt → length (render m' c') ≤ most_input → Compared m m' c c' (render m' c')
 compared m m' c c' t t' h = record {
   printed = rendered_compared c.vertices (entries_of m c) m' c' t' h;
   row_iff = λ v l. row_exactly v (entry_at (entries_of m c) v) (entry_at (entries_of m' c') v);
@@ -145,7 +143,7 @@ compared m m' c c' t t' h = record {
 }
 
 -- a table and its own text
-pub compared_with_itself : (m : Measure) (c : Columns) → acceptance c ≡ Accepted → length (render m c) ≤ most_input → compared_said c.vertices (entries_of m c) (render m c) ≡ answered []
+pub compared_with_itself : (m : Measure) (c : Columns) → acceptance c ≡ Ok tt → length (render m c) ≤ most_input → compared_said c.vertices (entries_of m c) (render m c) ≡ answered []
 compared_with_itself m c t h = rendered_compared c.vertices (entries_of m c) m c t h ∙ ap answered (none_differs (entries_of m c) (max c.vertices c.vertices))
 
 -- How long it is ---------------------------------------------------------------------------------------------------------------------------------
@@ -171,7 +169,7 @@ differences_most a b f g (suc n) h =
     omega arith
 
 -- the figures of an accepted table are of 64 bits
-pub figures_fit : (m : Measure) (c : Columns) → acceptance c ≡ Accepted → (v : ℕ) → (entry_at (entries_of m c) v).weight.0 < 2 ^ 64
+pub figures_fit : (m : Measure) (c : Columns) → acceptance c ≡ Ok tt → (v : ℕ) → (entry_at (entries_of m c) v).weight.0 < 2 ^ 64
 figures_fit m c t v = let w = (answers_ranged m c t v).label.weight in omega arith
 
 module _ (n : ℕ) (a : Entries) (second : List ℕ) (few : n ≤ most_vertices) (f : (v : ℕ) → (entry_at a v).weight.0 < 2 ^ 64) where
@@ -188,12 +186,12 @@ module _ (n : ℕ) (a : Entries) (second : List ℕ) (few : n ≤ most_vertices)
   short_fits h = go (read_input second).answer refl
     where
       go : (x : Reading) → (read_input second).answer ≡ x → length (compared_said n a second).bytes ≤ most_reply
-      go (reading.Refused r) e =
+      go (Err r) e =
           let s = ap (λ (z : Said). length z.bytes) (short_said n a second h ∙ ap (λ (z : Reading). compared_with n a z (read_input second)) e) in
           let q = ap length (report-short second h ∙ ap (λ (z : Reading). listed_as z (read_input second)) e) in
           let k = report_fits second in
           omega arith
-      go (reading.Table g) e =
+      go (Ok g) e =
           let c = columns_read g (read_input second) in
           let t = input_accepted second g e in
           let v = (table_accepted c t).few in

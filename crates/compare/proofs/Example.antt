@@ -8,7 +8,6 @@ use lib.ListN.{length}
 use Rattle.weights.specs.declared.Measure.TheVariants.{Cost}
 use Rattle.weights.specs.Measures.{fold, weigh}
 use Rattle.weights.specs.Labels.{ahead_of}
-use Rattle.refusal.specs.declared.Acceptance.TheVariants.{Accepted}
 use Rattle.columns.specs.Columns.{Columns, with_strike}
 use Rattle.columns.specs.Worked.{worked}
 use Rattle.columns.specs.Acceptance.{all_below, edge_acceptance, edges_acceptance, acceptance}
@@ -24,6 +23,7 @@ use Rattle.report.specs.Report.{most_input, state_word}
 use Rattle.reply.specs.Reply.{answered}
 use Rattle.compare.specs.Compare.{difference_row, same_state, agrees, row_if, differences, compared_said}
 use Rattle.compare.proofs.Compared.{rendered_compared}
+use Rattle.std.specs.Prelude.{Ok}
 
 abbrev struck : Columns
 struck = with_strike worked 1 1
@@ -54,7 +54,7 @@ printed =
     ∷ 50 ∷ 32 ∷ 109 ∷ 97 ∷ 100 ∷ 101 ∷ 32 ∷ 50 ∷ 48 ∷ 48 ∷ 48 ∷ 32 ∷ 109 ∷ 97 ∷ 100 ∷ 101 ∷ 32 ∷ 50 ∷ 49 ∷ 48 ∷ 48 ∷ 10
     ∷ 51 ∷ 32 ∷ 109 ∷ 97 ∷ 100 ∷ 101 ∷ 32 ∷ 50 ∷ 54 ∷ 48 ∷ 48 ∷ 32 ∷ 117 ∷ 110 ∷ 109 ∷ 97 ∷ 100 ∷ 101 ∷ 32 ∷ 48 ∷ 10 ∷ []
 
-accepted : acceptance struck ≡ Accepted
+accepted : acceptance struck ≡ Ok tt
 unfolding all_below edge_acceptance edges_acceptance acceptance
 accepted = refl
 

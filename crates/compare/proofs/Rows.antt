@@ -7,7 +7,8 @@ use native.Mathlib.Numerals.{add-one}
 use native.Mathlib.Omega.{arith}
 use lib.ListN.{length, take, drop, length-append}
 use lib.Dec.{eqb}
-use borrow.Author.Tests.{eq-eqb, ne_eqb}
+use denote.Enum.Bare.{sameb}
+use Rattle.weights.specs.contracts.State.{the_type}
 use Rattle.weights.specs.declared.State.{State}
 use Rattle.weights.specs.declared.State.TheVariants.{Made, Over, Unmade}
 use Rattle.weights.specs.declared.Entry.{Entry}
@@ -21,7 +22,7 @@ use Rattle.writing.proofs.Widths.{width_20}
 use Rattle.report.specs.Report.{state_word}
 use Rattle.reply.proofs.Room.{behind_starts, behind_room, written_behind}
 use Rattle.compare.specs.Compare.{most_row, difference_row, same_state, agrees, row_if, differences}
-use Rattle.compare.specs.Pieces.{most_half, most_rest, half, rest, rank}
+use Rattle.compare.specs.Pieces.{most_half, most_rest, half, rest}
 
 -- Pieces -----------------------------------------------------------------------------------------------------------------------------------------
 
@@ -61,29 +62,26 @@ rest_most s w y =
 
 -- When there is a row ----------------------------------------------------------------------------------------------------------------------------
 
-by_rank : (s t : State) → eqb (rank s) (rank t) ≡ same_state s t
+by_state : (s t : State) → sameb the_type s t ≡ same_state s t
 unfolding same_state
-by_rank Made Made = refl
-by_rank Made Over = refl
-by_rank Made Unmade = refl
-by_rank Over Made = refl
-by_rank Over Over = refl
-by_rank Over Unmade = refl
-by_rank Unmade Made = refl
-by_rank Unmade Over = refl
-by_rank Unmade Unmade = refl
+by_state Made Made = refl
+by_state Made Over = refl
+by_state Made Unmade = refl
+by_state Over Made = refl
+by_state Over Over = refl
+by_state Over Unmade = refl
+by_state Unmade Made = refl
+by_state Unmade Over = refl
+by_state Unmade Unmade = refl
 
-module _ (x y : Entry) (i j : ℕ) (p : i ≡ rank x.state) (q : j ≡ rank y.state) where
-  states : same_state x.state y.state ≡ eqb i j
-  states = sym (ap₂ eqb p q ∙ by_rank x.state y.state)
-
-  pub state_differs : (i ≡ j → ⊥) → false ≡ agrees x y
+module _ (x y : Entry) where
+  pub state_differs : sameb the_type x.state y.state ≡ false → false ≡ agrees x y
   unfolding agrees
-  state_differs n = sym (ap (λ (b : Bool). pick b (eqb x.weight.0 y.weight.0) false) (states ∙ ne_eqb i j n))
+  state_differs e = sym (ap (λ (b : Bool). pick b (eqb x.weight.0 y.weight.0) false) (sym (by_state x.state y.state) ∙ e))
 
-  pub by_figure : i ≡ j → eqb x.weight.0 y.weight.0 ≡ agrees x y
+  pub by_figure : sameb the_type x.state y.state ≡ true → eqb x.weight.0 y.weight.0 ≡ agrees x y
   unfolding agrees
-  by_figure e = sym (ap (λ (b : Bool). pick b (eqb x.weight.0 y.weight.0) false) (states ∙ eq-eqb i j e))
+  by_figure e = sym (ap (λ (b : Bool). pick b (eqb x.weight.0 y.weight.0) false) (sym (by_state x.state y.state) ∙ e))
 
 pub no_row : (v : ℕ) (x y : Entry) → agrees x y ≡ true → row_if v x y ≡ []
 unfolding row_if

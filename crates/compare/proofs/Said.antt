@@ -7,11 +7,7 @@ use borrow.Author.Tests.{lt-ltb, le-ltb}
 use Rattle.weights.specs.declared.Measure.{Measure}
 use Rattle.refusal.specs.declared.Refusal.{Refusal}
 use Rattle.refusal.specs.declared.Refusal.TheVariants.{InputLength}
-use Rattle.refusal.specs.declared.Acceptance.{Acceptance}
-use Rattle.refusal.specs.declared.Acceptance.TheVariants as answer
 use Rattle.refusal.specs.declared.Header.{Header}
-use Rattle.refusal.specs.declared.Reading.{Reading}
-use Rattle.refusal.specs.declared.Reading.TheVariants as reading
 use Rattle.columns.specs.Columns.{Entries, Columns, entries}
 use Rattle.columns.specs.Acceptance.{most_vertices}
 use Rattle.settle.specs.Settling.{settled}
@@ -25,6 +21,8 @@ use Rattle.reply.specs.declared.Status.TheVariants.{Answered}
 use Rattle.reply.specs.declared.Reply.{Reply}
 use Rattle.reply.specs.Reply.{Said, answered, second_refused, on_second, Replied}
 use Rattle.compare.specs.Compare.{differences, compared_as, compared_with, compared_said}
+use Rattle.refusal.specs.Answers.{Acceptance, Reading}
+use Rattle.std.specs.Prelude.{Ok, Err}
 
 -- a reply that says what is to be said
 pub replied_as : {s t : Said} (old : List ℕ) (r : Reply) (room : List ℕ) → s ≡ t → Replied s old r room → Replied t old r room
@@ -36,16 +34,16 @@ module _ (n k : ℕ) (a : Entries) (m : Measure) (c : Columns) (b₀ : Entries) 
   told : on_second x (answered (differences a b (max n k))) ≡ compared_as n k a (settled m c b₀)
   told = ap (compared_as n k a) q
 
-  pub settled_refused : (r : Refusal) → x ≡ answer.Refused r → second_refused r ≡ compared_as n k a (settled m c b₀)
+  pub settled_refused : (r : Refusal) → x ≡ Err r → second_refused r ≡ compared_as n k a (settled m c b₀)
   unfolding on_second
   settled_refused r e = ap (λ (z : Acceptance). on_second z (answered (differences a b (max n k)))) (sym e) ∙ told
 
-  pub settled_accepted : x ≡ answer.Accepted → answered (differences a b (max n k)) ≡ compared_as n k a (settled m c b₀)
+  pub settled_accepted : x ≡ Ok tt → answered (differences a b (max n k)) ≡ compared_as n k a (settled m c b₀)
   unfolding on_second
   settled_accepted e = ap (λ (z : Acceptance). on_second z (answered (differences a b (max n k)))) (sym e) ∙ told
 
   -- the rows of as many parts are written
-  pub reply_rows : x ≡ answer.Accepted → (parts : ℕ) → parts ≡ max n k → (old : List ℕ) (w : ℕ) (room : List ℕ) → Written (differences a b parts) old w room
+  pub reply_rows : x ≡ Ok tt → (parts : ℕ) → parts ≡ max n k → (old : List ℕ) (w : ℕ) (room : List ℕ) → Written (differences a b parts) old w room
       → Replied (compared_as n k a (settled m c b₀)) old (record { width = w; status = Answered }) room
   reply_rows e parts p old w room h =
       replied_as old (record { width = w; status = Answered }) room (settled_accepted e)
@@ -72,9 +70,9 @@ module _ (n : ℕ) (a : Entries) (second : List ℕ) where
     by_reading : compared_with n a x (read_outcome x h o ms s t) ≡ compared_said n a second
     by_reading = ap (λ (z : ReadOutcome). compared_with n a z.answer z) q ∙ sym (short_said short)
 
-    pub unread_said : (r : Refusal) → x ≡ reading.Refused r → second_refused r ≡ compared_said n a second
+    pub unread_said : (r : Refusal) → x ≡ Err r → second_refused r ≡ compared_said n a second
     unread_said r e = ap (λ (z : Reading). compared_with n a z (read_outcome x h o ms s t)) (sym e) ∙ by_reading
 
-    pub table_said_lem : (g : Header) → x ≡ reading.Table g
+    pub table_said_lem : (g : Header) → x ≡ Ok g
         → compared_as n g.vertices a (settled g.measure (lent_columns g h o ms s t) (blank_entries g.vertices)) ≡ compared_said n a second
     table_said_lem g e = ap (λ (z : Reading). compared_with n a z (read_outcome z h o ms s t)) (sym e) ∙ by_reading

@@ -1,13 +1,10 @@
 -- Two tables side by side: "a row for each part that differs: its state and figure in both tables". Assumes nothing: these are definitions.
-use Rattle.std.specs.Prelude.{ℕ, zero, suc, max, Bool, true, false, List, [], ◌∷◌, ◌++◌, length, eqb, ltb}
+use Rattle.std.specs.Prelude.{ℕ, zero, suc, max, Bool, true, false, List, [], ◌∷◌, ◌++◌, length, eqb, ltb, Ok, Err}
 use Rattle.weights.specs.declared.State.{State}
 use Rattle.weights.specs.declared.State.TheVariants.{Made, Over, Unmade}
 use Rattle.weights.specs.declared.Entry.{Entry}
 use Rattle.weights.specs.Choice.{pick}
 use Rattle.refusal.specs.declared.Refusal.TheVariants.{InputLength}
-use Rattle.refusal.specs.declared.Acceptance.{Acceptance}
-use Rattle.refusal.specs.declared.Reading.{Reading}
-use Rattle.refusal.specs.declared.Reading.TheVariants as reading
 use Rattle.columns.specs.Columns.{Entries}
 use Rattle.columns.specs.Owed.{Outcome}
 use Rattle.settle.specs.Settling.{entry_at, settled}
@@ -15,6 +12,7 @@ use Rattle.text.specs.Render.{digits}
 use Rattle.readtable.specs.Read.{ReadOutcome, columns_read}
 use Rattle.report.specs.Report.{most_input, state_word, blank_entries, read_input}
 use Rattle.reply.specs.Reply.{Said, answered, second_refused, on_second}
+use Rattle.refusal.specs.Answers.{Acceptance, Reading}
 
 -- a bound on the bytes of a row: three numbers of 20 digits and two states' words
 abbrev pub most_row : ℕ
@@ -54,8 +52,8 @@ compared_as n k a o = on_second o.result (answered (differences a o.left (max n 
 
 -- by what reading the second text returned
 abbrev pub compared_with : (n : ℕ) → Entries → Reading → ReadOutcome → Said
-compared_with n a (reading.Refused r) x = second_refused r
-compared_with n a (reading.Table g) x = compared_as n g.vertices a (settled g.measure (columns_read g x) (blank_entries g.vertices))
+compared_with n a (Err r) x = second_refused r
+compared_with n a (Ok g) x = compared_as n g.vertices a (settled g.measure (columns_read g x) (blank_entries g.vertices))
 
 -- 17 comes first, then 14
 unfoldable pub compared_said : (n : ℕ) → Entries → (second : List ℕ) → Said

@@ -1,7 +1,6 @@
--- The pieces in which a row is written, and the numbers by which states are compared. Assumes nothing: these are definitions.
+-- The pieces in which a row is written. Assumes nothing: these are definitions.
 use Rattle.std.specs.Prelude.{ℕ, List, [], ◌∷◌, ◌++◌}
 use Rattle.weights.specs.declared.State.{State}
-use Rattle.weights.specs.declared.State.TheVariants.{Made, Over, Unmade}
 use Rattle.text.specs.Render.{digits, tail_text}
 use Rattle.report.specs.Report.{state_word}
 
@@ -19,8 +18,3 @@ half v s w = (digits v ++ (32 ∷ state_word s)) ++ (32 ∷ digits w)
 -- its state and figure in the second
 unfoldable pub rest : State → (figure : ℕ) → List ℕ
 rest s w = (32 ∷ state_word s) ++ (tail_text (w ∷ []) ++ 10 ∷ [])
-
-abbrev pub rank : State → ℕ
-rank Made = 0
-rank Over = 1
-rank Unmade = 2

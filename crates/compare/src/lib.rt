@@ -1,21 +1,25 @@
 // Two tables side by side: a row for each part that differs, with its state and its figure in
 // both.
+//
+// Kept: columns and rooms are lent, or arrays of a fixed size: the library and its programs use no heap.
 
 #![tactic(auto)]
 
-ghost use Rattle.std.specs.Prelude.{◌≡◌, ◌*◌, ◌≤◌, max, length};
+ghost use Rattle.std.specs.Prelude.{◌≡◌, ◌*◌, ◌≤◌, length};
 ghost use Rattle.columns.specs.Columns.{columns, entries};
 ghost use Rattle.columns.specs.Acceptance.{most_vertices};
+ghost use Rattle.columns.specs.Given.{entries_in};
 ghost use Rattle.settle.specs.Settling.{settled};
 ghost use Rattle.writing.specs.Written.{Written};
 ghost use Rattle.report.specs.Report.{most_output, blank_entries};
 ghost use Rattle.report.specs.Pieces.{Lent, lent_columns};
 ghost use Rattle.reply.specs.Reply.{most_reply, Replied};
 ghost use Rattle.compare.specs.Compare.{most_row, agrees, difference_row, row_if, differences, compared_as, compared_said};
-ghost use Rattle.compare.specs.Pieces.{most_half, most_rest, half, rest, rank};
+ghost use Rattle.compare.specs.Pieces.{most_half, most_rest, half, rest};
 
+use columns::{Entries, Table};
 use readtable::read_table;
-use refusal::{Acceptance, Header, Reading, Refusal};
+use refusal::{Header, Refusal};
 use reply::{Reply, Status, put_second_refusal};
 use report::{MOST_INPUT, put_state, put_stem};
 use weights::{Entry, Measure, State, Vertex};
@@ -61,29 +65,11 @@ fn put_row(room: &mut [u8], v: u64, first: Entry, second: Entry) -> usize
     at + width
 }
 
-// A number for each state.
-fn rank(state: State) -> u64
-    ensures { result ≡ rank state }
-{
-    match state {
-        State::Made => 0,
-        State::Over => 1,
-        State::Unmade => 2,
-    }
-}
-
 // Whether state and figure are the same.
 fn agrees(first: Entry, second: Entry) -> bool
     ensures { result ≡ agrees first second }
 {
-    let state = first.state;
-    let other_state = second.state;
-    let weight = first.weight;
-    let other_weight = second.weight;
-    if rank(state) != rank(other_state) {
-        return false;
-    }
-    weight.0 == other_weight.0
+    first.state == second.state && first.weight == second.weight
 }
 
 // The row of a part if it differs, and nothing if it does not.
@@ -99,83 +85,78 @@ fn put_row_if(room: &mut [u8], v: u64, first: Entry, second: Entry) -> usize
 }
 
 // The rows of the first n parts.
-fn put_differences(
-    room: &mut [u8],
-    n: u64,
-    weights: &[u64],
-    depths: &[u64],
-    edges: &[u64],
-    pieces: &[u64],
-    figures: &[u64],
-    levels: &[u64],
-    roots: &[u64],
-    counts: &[u64],
-) -> usize
+fn put_differences(room: &mut [u8], n: u64, entries: &Entries, others: &Entries) -> usize
     requires { most_row * n ≤ length room.old }
-    ensures { let a = entries weights.now depths.now edges.now pieces.now in
-        let b = entries figures.now levels.now roots.now counts.now in
+    ensures { let a = entries_in entries.now in
+        let b = entries_in others.now in
         Written (differences a b n) room.old result room.new }
 {
     let mut at: usize = 0;
-    let mut i: u64 = 0;
-    while i < n {
+    for i in 0..n {
         let v = Vertex(i);
-        let first = settle::entry(weights, depths, edges, pieces, v);
-        let second = settle::entry(figures, levels, roots, counts, v);
+        let first = settle::entry(entries, v);
+        let second = settle::entry(others, v);
         at += put_row_if(&mut room[at..], i, first, second);
-        i += 1;
     }
     at
 }
 
-fn greater(a: u64, b: u64) -> u64
-    ensures { result ≡ max a b }
-{
-    if a < b {
-        return b;
-    }
-    a
-}
-
 // The second table, of k parts, is settled, and compared with the answers of the first.
-fn put_settled(
+fn put_settled<'a>(
     room: &mut [u8],
     n: u64,
-    weights: &[u64],
-    depths: &[u64],
-    edges: &[u64],
-    pieces: &[u64],
+    first: &Entries,
     measure: Measure,
     k: u64,
-    heads: &[u64],
-    own: &[u64],
-    strikes: &[u64],
-    spans: &[u64],
-    tails: &[u64],
-    figures: &mut [u64],
-    levels: &mut [u64],
-    roots: &mut [u64],
-    counts: &mut [u64],
+    table: &Table,
+    figures: &'a mut [u64],
+    levels: &'a mut [u64],
+    roots: &'a mut [u64],
+    counts: &'a mut [u64],
 ) -> Reply
     requires most_reply_in_bounds { most_reply ≤ length room.old }
     requires n_le_most_vertices { n ≤ most_vertices }
     requires k_le_most_vertices { k ≤ most_vertices }
-    ensures { let a = entries weights.now depths.now edges.now pieces.now in
-        let c = columns k heads.now own.now strikes.now spans.now tails.now in
+    ensures { let a = entries_in first.now in
+        let c = columns k table.now.heads.now table.now.own.now table.now.strikes.now table.now.spans.now table.now.tails.now in
         let b = entries figures.old levels.old roots.old counts.old in
         Replied (compared_as n k a (settled measure c b)) room.old result room.new }
 {
+    let Table {
+        heads,
+        own,
+        strikes,
+        spans,
+        tails,
+        ..
+    } = *table;
     let answer = settle::settle(
-        measure, k, heads, own, strikes, spans, tails, figures, levels, roots, counts,
+        measure,
+        &Table {
+            vertices: k,
+            heads,
+            own,
+            strikes,
+            spans,
+            tails,
+        },
+        figures,
+        levels,
+        roots,
+        counts,
     );
     match answer {
-        Acceptance::Refused(r) => return put_second_refusal(room, r),
-        Acceptance::Accepted => {}
+        Err(r) => return put_second_refusal(room, r),
+        Ok(()) => {}
     }
-    let parts = greater(n, k);
-    let width = put_differences(
-        room, parts, weights, depths, edges, pieces, figures, levels, roots, counts,
-    );
+    let parts = n.max(k);
+    let second = Entries {
+        weights: figures,
+        depths: levels,
+        edges: roots,
+        pieces: counts,
+    };
+    let width = put_differences(room, parts, first, &second);
     Reply {
         width,
         status: Status::Answered,
@@ -183,28 +164,23 @@ fn put_settled(
 }
 
 // The second table, which was read, has answer columns of zeros.
-fn put_read(
-    room: &mut [u8],
-    n: u64,
-    weights: &[u64],
-    depths: &[u64],
-    edges: &[u64],
-    pieces: &[u64],
-    header: Header,
-    heads: &[u64],
-    own: &[u64],
-    strikes: &[u64],
-    spans: &[u64],
-    tails: &[u64],
-) -> Reply
+fn put_read(room: &mut [u8], n: u64, entries: &Entries, header: Header, table: &Table) -> Reply
     requires most_reply_in_bounds { most_reply ≤ length room.old }
     requires n_le_most_vertices { n ≤ most_vertices }
-    requires lent { Lent header heads.now own.now strikes.now spans.now tails.now most_output }
-    ensures { let a = entries weights.now depths.now edges.now pieces.now in
-        let c = lent_columns header heads.now own.now strikes.now spans.now tails.now in
+    requires lent { Lent header table.now.heads.now table.now.own.now table.now.strikes.now table.now.spans.now table.now.tails.now most_output }
+    ensures { let a = entries_in entries.now in
+        let c = lent_columns header table.now.heads.now table.now.own.now table.now.strikes.now table.now.spans.now table.now.tails.now in
         let o = settled header.measure c (blank_entries header.vertices) in
         Replied (compared_as n header.vertices a o) room.old result room.new }
 {
+    let Table {
+        heads,
+        own,
+        strikes,
+        spans,
+        tails,
+        ..
+    } = *table;
     let measure = header.measure;
     let k = header.vertices;
     let parts = k as usize;
@@ -218,17 +194,17 @@ fn put_read(
     put_settled(
         room,
         n,
-        weights,
-        depths,
-        edges,
-        pieces,
+        entries,
         measure,
         k,
-        &heads[..lines],
-        &own[..lines],
-        &strikes[..lines],
-        &spans[..places],
-        &tails[..listed],
+        &Table {
+            vertices: n,
+            heads: &heads[..lines],
+            own: &own[..lines],
+            strikes: &strikes[..lines],
+            spans: &spans[..places],
+            tails: &tails[..listed],
+        },
         &mut figures[..parts],
         &mut levels[..parts],
         &mut roots[..parts],
@@ -238,18 +214,10 @@ fn put_read(
 
 // The answers of a table of n parts, compared with those of the table of a second text; or by
 // what that text is refused.
-pub fn put_comparison(
-    room: &mut [u8],
-    n: u64,
-    weights: &[u64],
-    depths: &[u64],
-    edges: &[u64],
-    pieces: &[u64],
-    second: &[u8],
-) -> Reply
+pub fn put_comparison(room: &mut [u8], n: u64, entries: &Entries, second: &[u8]) -> Reply
     requires most_reply_in_bounds { most_reply ≤ length room.old }
     requires n_le_most_vertices { n ≤ most_vertices }
-    ensures { let a = entries weights.now depths.now edges.now pieces.now in
+    ensures { let a = entries_in entries.now in
         Replied (compared_said n a second.now) room.old result room.new }
 {
     if second.len() > MOST_INPUT {
@@ -269,9 +237,20 @@ pub fn put_comparison(
         &mut tails,
     );
     match reading {
-        Reading::Refused(r) => put_second_refusal(room, r),
-        Reading::Table(header) => put_read(
-            room, n, weights, depths, edges, pieces, header, &heads, &own, &strikes, &spans, &tails,
+        Err(r) => put_second_refusal(room, r),
+        Ok(header) => put_read(
+            room,
+            n,
+            entries,
+            header,
+            &Table {
+                vertices: n,
+                heads: &heads,
+                own: &own,
+                strikes: &strikes,
+                spans: &spans,
+                tails: &tails,
+            },
         ),
     }
 }

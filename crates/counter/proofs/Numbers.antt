@@ -17,12 +17,6 @@ use Rattle.weights.specs.Labels.{ahead_of}
 use Rattle.weights.specs.Measures.{fold, weigh}
 use Rattle.refusal.specs.declared.Refusal.{Refusal}
 use Rattle.refusal.specs.declared.Refusal.TheVariants.{MeasureNumber}
-use Rattle.refusal.specs.declared.Acceptance.{Acceptance}
-use Rattle.refusal.specs.declared.Acceptance.TheVariants as answer
-use Rattle.refusal.specs.declared.Extent.{Extent}
-use Rattle.refusal.specs.declared.Extent.TheVariants.{Length, Refused}
-use Rattle.refusal.specs.declared.MeasureChoice.{MeasureChoice}
-use Rattle.refusal.specs.declared.MeasureChoice.TheVariants as choice
 use Rattle.refusal.specs.Refusals.{number_of, measure_of}
 use Rattle.columns.specs.Columns.{Entries, Columns, columns, entries}
 use Rattle.provenance.specs.BestFirst.{opening, next, turn, turns, best_first}
@@ -46,6 +40,8 @@ use Rattle.counter.specs.Results.{settled_result, repriced_result, most_room, bi
 use Rattle.counter.specs.Decoded.{Decoded, extent_of, measured}
 use Rattle.counter.specs.Numbers.{settle_list, reprice_list, bill_list}
 use Rattle.counter.proofs.Decoded.{settled_decoded, repriced_decoded, billed_decoded}
+use Rattle.refusal.specs.Answers.{Acceptance, Extent, MeasureChoice}
+use Rattle.std.specs.Prelude.{Ok, Err}
 
 -- No other number ------------------------------------------------------------------------------------------------------------------------------
 
@@ -78,16 +74,16 @@ listed n (k ∷ ns) e = go (eqb k n) refl e (listed n ns)
     go true p q rest = Memᴰ.head (sym (eqb-true k n p))
     go false p q rest = Memᴰ.tail (rest q)
 
-answered : (x : Acceptance) {r : Refusal} → extent_of x ≡ Refused r → x ≡ answer.Refused r
-answered answer.Accepted e = let z : ◌≡◌ {A = ℕ} 0 1 = cc in absurd (omega arith)
-answered (answer.Refused s) {r} e = let q : s ≡ r = cc in ap answer.Refused q
+answered : (x : Acceptance) {r : Refusal} → extent_of x ≡ Err r → x ≡ Err r
+answered (Ok _) e = let z : ◌≡◌ {A = ℕ} 0 1 = cc in absurd (omega arith)
+answered (Err s) {r} e = let q : s ≡ r = cc in ap Err q
 
 -- a measure's number is refused by 16
-measure_number : (k : ℕ) {s : Refusal} → measure_of k ≡ choice.Refused s → number_of s ≡ 16
+measure_number : (k : ℕ) {s : Refusal} → measure_of k ≡ Err s → number_of s ≡ 16
 measure_number k = go (eqb k 0) (eqb k 1) (eqb k 2)
   where
     go : (a b d : Bool) {s : Refusal}
-        → pick a (choice.Measure Cost) (pick b (choice.Measure Days) (pick d (choice.Measure Grade) (choice.Refused MeasureNumber))) ≡ choice.Refused s → number_of s ≡ 16
+        → pick a (Ok Cost) (pick b (Ok Days) (pick d (Ok Grade) (Err MeasureNumber))) ≡ Err s → number_of s ≡ 16
     go true b d e = let z : ◌≡◌ {A = ℕ} 0 1 = cc in absurd (omega arith)
     go false true d e = let z : ◌≡◌ {A = ℕ} 0 1 = cc in absurd (omega arith)
     go false false true e = let z : ◌≡◌ {A = ℕ} 0 1 = cc in absurd (omega arith)
@@ -95,18 +91,18 @@ measure_number k = go (eqb k 0) (eqb k 1) (eqb k 2)
 
 -- so a call whose other refusals are in the list, with 0 and 16, gives none but those
 only : (ns : List ℕ) (f : Measure → Extent) (k : ℕ) {n : ℕ} → Decoded (measured (measure_of k) f) n → among 0 ns ≡ true → among 16 ns ≡ true
-    → ((m : Measure) (r : Refusal) → f m ≡ Refused r → Memᴰ (number_of r) ns) → Memᴰ (n / 4_294_967_296) ns
+    → ((m : Measure) (r : Refusal) → f m ≡ Err r → Memᴰ (number_of r) ns) → Memᴰ (n / 4_294_967_296) ns
 only ns f k {n} d z h rest = go (measured (measure_of k) f) refl
   where
-    refused : (o : MeasureChoice) (r : Refusal) → measure_of k ≡ o → measured o f ≡ Refused r → Memᴰ (number_of r) ns
-    refused (choice.Measure m) r p q = rest m r q
-    refused (choice.Refused s) r p q = let j : s ≡ r = cc in Memᴰ.cast (ap number_of (sym j) ∙ measure_number k p) (listed 16 ns h)
+    refused : (o : MeasureChoice) (r : Refusal) → measure_of k ≡ o → measured o f ≡ Err r → Memᴰ (number_of r) ns
+    refused (Ok m) r p q = rest m r q
+    refused (Err s) r p q = let j : s ≡ r = cc in Memᴰ.cast (ap number_of (sym j) ∙ measure_number k p) (listed 16 ns h)
 
     go : (x : Extent) → measured (measure_of k) f ≡ x → Memᴰ (n / 4_294_967_296) ns
-    go (Length size) p = let l = (d.accepted size p).1 in let q : n / 4_294_967_296 ≡ 0 = omega arith in Memᴰ.cast q (listed 0 ns z)
-    go (Refused r) p = Memᴰ.cast (d.refused r p).number (refused (measure_of k) r refl p)
+    go (Ok size) p = let l = (d.accepted size p).1 in let q : n / 4_294_967_296 ≡ 0 = omega arith in Memᴰ.cast q (listed 0 ns z)
+    go (Err r) p = Memᴰ.cast (d.refused r p).number (refused (measure_of k) r refl p)
 
-settle_among : (c : Columns) (a : Entries) (m : Measure) (r : Refusal) → extent_of (settled m c a).result ≡ Refused r → Memᴰ (number_of r) settle_list
+settle_among : (c : Columns) (a : Entries) (m : Measure) (r : Refusal) → extent_of (settled m c a).result ≡ Err r → Memᴰ (number_of r) settle_list
 unfolding among
 settle_among c a m r e =
     let L = settle_list in
@@ -114,7 +110,7 @@ settle_among c a m r e =
     lent_number (λ n. Memᴰ n L) (l 1 refl) (l 2 refl) (l 3 refl) (l 4 refl) (l 21 refl) (l 5 refl) (l 6 refl) (l 7 refl)
     ((lent_refused_exactly c a r).0 (sym (settled_result_lem m c a) ∙ answered (settled m c a).result e))
 
-reprice_among : (c : Columns) (a : Entries) (e w : ℕ) (m : Measure) (r : Refusal) → extent_of (repriced m c a e w).result ≡ Refused r → Memᴰ (number_of r) reprice_list
+reprice_among : (c : Columns) (a : Entries) (e w : ℕ) (m : Measure) (r : Refusal) → extent_of (repriced m c a e w).result ≡ Err r → Memᴰ (number_of r) reprice_list
 unfolding among
 reprice_among c a e w m r q = go ((reprice_refused_exactly m c a e w r).0 (sym (repriced_result_lem m c a e w) ∙ answered (repriced m c a e w).result q))
   where
@@ -127,7 +123,7 @@ reprice_among c a e w m r q = go ((reprice_refused_exactly m c a e w r).0 (sym (
     go (WrongChange.further x n h) = l 10 refl
     go (WrongChange.answers x n h f) = l 8 refl
 
-bill_among : (c : Columns) (a : Entries) (v : ℕ) (room : List ℕ) (m : Measure) (r : Refusal) → (billed m c a v room).result ≡ Refused r → Memᴰ (number_of r) bill_list
+bill_among : (c : Columns) (a : Entries) (v : ℕ) (room : List ℕ) (m : Measure) (r : Refusal) → (billed m c a v room).result ≡ Err r → Memᴰ (number_of r) bill_list
 unfolding among
 bill_among c a v room m r q = go ((bill_refused_exactly m c a v (length room) r).0 ((bill_refused m c a v room r).0 q))
   where
@@ -158,7 +154,7 @@ record Shown (n : ℕ) : Type 0 where
   columns : Columns
   answers : Entries
   refusal : Refusal
-  refused : lent_acceptance columns answers ≡ answer.Refused refusal
+  refused : lent_acceptance columns answers ≡ Err refusal
   number : number_of refusal ≡ n
 
 abbrev nothing : Entries

@@ -10,8 +10,6 @@ use Rattle.weights.specs.declared.Measure.TheVariants.{Cost, Days, Grade}
 use Rattle.weights.specs.Choice.{pick}
 use Rattle.refusal.specs.declared.Refusal.{Refusal}
 use Rattle.refusal.specs.declared.Refusal.TheVariants.{MeasureNumber}
-use Rattle.refusal.specs.declared.Acceptance.TheVariants as answer
-use Rattle.refusal.specs.declared.MeasureChoice.TheVariants as choice
 use Rattle.refusal.specs.Refusals.{place_of, last_place, measure_of}
 use Rattle.columns.specs.Columns.{Entries, Columns}
 use Rattle.columns.specs.Acceptance.{most_edges, lent_acceptance}
@@ -23,6 +21,7 @@ use Rattle.reprice.proofs.Changes.{reprice_refused_exactly}
 use Rattle.bill.specs.Billing.{bill_acceptance}
 use Rattle.bill.specs.Asked.{WrongBill}
 use Rattle.bill.proofs.Asked.{bill_refused_exactly}
+use Rattle.std.specs.Prelude.{Ok, Err}
 
 -- a line is the place of its refusals
 pub edge_place : {c : Columns} {e : ℕ} {r : Refusal} → WrongEdge c e r → e ≤ most_edges → place_of r ≤ last_place
@@ -41,7 +40,7 @@ pub wrong_place : {c : Columns} {a : Entries} {r : Refusal} → WrongLent c a r 
 wrong_place (WrongLent.table w) = table_place w
 wrong_place (WrongLent.answers t n) = omega arith
 
-pub lent_place : (c : Columns) (a : Entries) {s : Refusal} → lent_acceptance c a ≡ answer.Refused s → place_of s ≤ last_place
+pub lent_place : (c : Columns) (a : Entries) {s : Refusal} → lent_acceptance c a ≡ Err s → place_of s ≤ last_place
 lent_place c a {s} p = wrong_place ((lent_refused_exactly c a s).0 p)
 
 -- of a change, whose own refusal has a place that fits
@@ -51,10 +50,10 @@ change_place h (WrongChange.line l n) = omega arith
 change_place h (WrongChange.further l n f) = h
 change_place h (WrongChange.answers l n f w) = omega arith
 
-pub reprice_place : (m : Measure) (c : Columns) (a : Entries) (e w : ℕ) {s : Refusal} → reprice_acceptance m c a e w ≡ answer.Refused s → place_of s ≤ last_place
+pub reprice_place : (m : Measure) (c : Columns) (a : Entries) (e w : ℕ) {s : Refusal} → reprice_acceptance m c a e w ≡ Err s → place_of s ≤ last_place
 reprice_place m c a e w {s} p = change_place (omega arith) ((reprice_refused_exactly m c a e w s).0 p)
 
-pub bill_place : (m : Measure) (c : Columns) (a : Entries) (v places : ℕ) {s : Refusal} → bill_acceptance m c a v places ≡ answer.Refused s → place_of s ≤ last_place
+pub bill_place : (m : Measure) (c : Columns) (a : Entries) (v places : ℕ) {s : Refusal} → bill_acceptance m c a v places ≡ Err s → place_of s ≤ last_place
 bill_place m c a v places {s} p = go ((bill_refused_exactly m c a v places s).0 p)
   where
     go : {r : Refusal} → WrongBill m c a v places r → place_of r ≤ last_place
@@ -64,11 +63,11 @@ bill_place m c a v places {s} p = go ((bill_refused_exactly m c a v places s).0 
     go (WrongBill.unmade l h f n) = omega arith
     go (WrongBill.room l h f d n) = omega arith
 
-pub measure_place : (k : ℕ) {s : Refusal} → measure_of k ≡ choice.Refused s → place_of s ≤ last_place
+pub measure_place : (k : ℕ) {s : Refusal} → measure_of k ≡ Err s → place_of s ≤ last_place
 measure_place k = go (eqb k 0) (eqb k 1) (eqb k 2)
   where
     go : (a b d : Bool) {s : Refusal}
-        → pick a (choice.Measure Cost) (pick b (choice.Measure Days) (pick d (choice.Measure Grade) (choice.Refused MeasureNumber))) ≡ choice.Refused s → place_of s ≤ last_place
+        → pick a (Ok Cost) (pick b (Ok Days) (pick d (Ok Grade) (Err MeasureNumber))) ≡ Err s → place_of s ≤ last_place
     go true b d e = let z : ◌≡◌ {A = ℕ} 0 1 = cc in absurd (omega arith)
     go false true d e = let z : ◌≡◌ {A = ℕ} 0 1 = cc in absurd (omega arith)
     go false false true e = let z : ◌≡◌ {A = ℕ} 0 1 = cc in absurd (omega arith)

@@ -1,15 +1,10 @@
 -- What a program in C can tell from the one number that a call gives it: below 2^32 it is an acceptance, and 0 or the bill's length; otherwise the quotient by 2^32 is the
 -- refusal's number and the remainder its place. The paper's "The calls": "on a refusal the refusal's number times 4,294,967,296, plus the place". Assumes nothing: these are definitions.
-use Rattle.std.specs.Prelude.{◌≡◌, ℕ, ◌/◌, ◌%◌, ◌≤◌, ◌<◌}
+use Rattle.std.specs.Prelude.{◌≡◌, ℕ, ◌/◌, ◌%◌, ◌≤◌, ◌<◌, Ok, Err}
 use Rattle.weights.specs.declared.Measure.{Measure}
 use Rattle.refusal.specs.declared.Refusal.{Refusal}
-use Rattle.refusal.specs.declared.Acceptance.{Acceptance}
-use Rattle.refusal.specs.declared.Acceptance.TheVariants as answer
-use Rattle.refusal.specs.declared.Extent.{Extent}
-use Rattle.refusal.specs.declared.Extent.TheVariants.{Length, Refused}
-use Rattle.refusal.specs.declared.MeasureChoice.{MeasureChoice}
-use Rattle.refusal.specs.declared.MeasureChoice.TheVariants as choice
 use Rattle.refusal.specs.Refusals.{number_of, place_of}
+use Rattle.refusal.specs.Answers.{Acceptance, Extent, MeasureChoice}
 
 -- the number names refusal r
 pub record Names (r : Refusal) (n : ℕ) : Type 0 where
@@ -20,16 +15,16 @@ pub record Names (r : Refusal) (n : ℕ) : Type 0 where
 
 -- the number tells the answer x: a length, which is 0 where a call returns acceptance alone, or a refusal
 pub record Decoded (x : Extent) (n : ℕ) : Type 0 where
-  pub accepted : (size : ℕ) → x ≡ Length size → (n ≡ size) × (n < 4_294_967_296)
-  pub below : n < 4_294_967_296 → x ≡ Length n
-  pub refused : (r : Refusal) → x ≡ Refused r → Names r n
+  pub accepted : (size : ℕ) → x ≡ Ok size → (n ≡ size) × (n < 4_294_967_296)
+  pub below : n < 4_294_967_296 → x ≡ Ok n
+  pub refused : (r : Refusal) → x ≡ Err r → Names r n
 
 -- acceptance alone, as a length
 abbrev pub extent_of : Acceptance → Extent
-extent_of answer.Accepted = Length 0
-extent_of (answer.Refused r) = Refused r
+extent_of (Ok _) = Ok 0
+extent_of (Err r) = Err r
 
 -- what a call answers, before it is made one number: a measure's number is tested before everything
 abbrev pub measured : MeasureChoice → (Measure → Extent) → Extent
-measured (choice.Refused r) f = Refused r
-measured (choice.Measure m) f = f m
+measured (Err r) f = Err r
+measured (Ok m) f = f m

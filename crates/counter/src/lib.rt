@@ -8,7 +8,7 @@ ghost use Rattle.refusal.specs.Refusals.{measure_of};
 ghost use Rattle.columns.specs.Columns.{columns, entries};
 ghost use Rattle.counter.specs.Results.{settled_result, repriced_result, most_room, billed_result};
 
-use refusal::MeasureChoice;
+use columns::{Entries, Table};
 use weights::{Hyperedge, Vertex, Weight};
 
 #[unsafe(no_mangle)]
@@ -32,12 +32,24 @@ pub extern "C" fn settle(
 {
     let choice = refusal::measure_numbered(measure);
     match choice {
-        MeasureChoice::Refused(r) => return r.result(),
-        MeasureChoice::Measure(m) => {
+        Err(r) => return r.result(),
+        Ok(m) => {
             let a = settle::settle(
-                m, n, heads, own, strikes, spans, tails, weights, depths, edges, pieces,
+                m,
+                &Table {
+                    vertices: n,
+                    heads,
+                    own,
+                    strikes,
+                    spans,
+                    tails,
+                },
+                weights,
+                depths,
+                edges,
+                pieces,
             );
-            return a.result();
+            return refusal::result(a);
         }
     }
 }
@@ -65,8 +77,8 @@ pub extern "C" fn reprice(
 {
     let choice = refusal::measure_numbered(measure);
     match choice {
-        MeasureChoice::Refused(r) => return r.result(),
-        MeasureChoice::Measure(m) => {
+        Err(r) => return r.result(),
+        Ok(m) => {
             let a = reprice::reprice(
                 m,
                 n,
@@ -82,7 +94,7 @@ pub extern "C" fn reprice(
                 Hyperedge(line),
                 Weight(figure),
             );
-            return a.result();
+            return refusal::result(a);
         }
     }
 }
@@ -123,25 +135,29 @@ pub extern "C" fn bill(
 {
     let choice = refusal::measure_numbered(measure);
     match choice {
-        MeasureChoice::Refused(r) => return r.result(),
-        MeasureChoice::Measure(m) => {
+        Err(r) => return r.result(),
+        Ok(m) => {
             let places = counted(room.len());
             let x = bill::bill(
                 m,
-                n,
-                heads,
-                own,
-                strikes,
-                spans,
-                tails,
-                weights,
-                depths,
-                edges,
-                pieces,
+                &Table {
+                    vertices: n,
+                    heads,
+                    own,
+                    strikes,
+                    spans,
+                    tails,
+                },
+                &Entries {
+                    weights,
+                    depths,
+                    edges,
+                    pieces,
+                },
                 Vertex(part),
                 &mut room[..places],
             );
-            return x.result();
+            return refusal::result(x);
         }
     }
 }

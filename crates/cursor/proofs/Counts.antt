@@ -13,13 +13,10 @@ use Rattle.weights.specs.declared.Mark.{Mark}
 use Rattle.weights.specs.Figures.{greatest, standing, struck_mark}
 use Rattle.text.specs.Machine.{digit_of}
 use Rattle.text.proofs.Digits.{pick_by}
-use Rattle.cursor.specs.declared.Found.{Found}
-use Rattle.cursor.specs.declared.Found.TheVariants.{Number, NotANumber}
 use Rattle.cursor.specs.declared.Token.{Token}
 use Rattle.cursor.specs.declared.WeightToken.{WeightToken}
-use Rattle.cursor.specs.declared.FoundWeight.{FoundWeight}
-use Rattle.cursor.specs.declared.FoundWeight.TheVariants.{Own, NotAWeight}
-use Rattle.cursor.specs.Cursor.{token, digits_from, number_of, number_at, weight_token, marked_from, weight_at}
+use Rattle.cursor.specs.Cursor.{FoundWeight, token, digits_from, number_of, number_at, weight_token, marked_from, weight_at}
+use Rattle.std.specs.Prelude.{Option, Some, None}
 
 pub byte_within : (s : List ℕ) (at b : ℕ) → get_or s at 0 ≡ b → 0 < b → at < length s
 byte_within s at b e h = go (ltb at (length s)) refl
@@ -29,9 +26,9 @@ byte_within s at b e h = go (ltb at (length s)) refl
     go false f = let z = get_or-eq_default s 0 (ltb-false at (length s) f) in absurd (omega arith)
 
 -- what a number that was found tells: it is below the limit, and the place where it stopped is after `at` and not after `end`
-abbrev CountsOf : (at limit end stop : ℕ) → Found → Type 0
-CountsOf at limit end stop (Number v) = (v < limit) × (at < stop) × (stop ≤ end)
-CountsOf at limit end stop NotANumber = Unit {0}
+abbrev CountsOf : (at limit end stop : ℕ) → (Option ℕ) → Type 0
+CountsOf at limit end stop (Some v) = (v < limit) × (at < stop) × (stop ≤ end)
+CountsOf at limit end stop None = Unit {0}
 
 abbrev Counts : (at limit end : ℕ) → Token → Type 0
 Counts at limit end t = CountsOf at limit end t.stop t.found
@@ -59,25 +56,25 @@ number_count (b ∷ bs) at limit =
     (λ m. rw e at (digits_count bs at (at + 1) limit (digit_of b) (omega arith) (ltb-true _ _ m)))
     (λ m. tt)) (λ d. tt)
 
-pub number_counts : (s : List ℕ) (at limit start stop v : ℕ) → number_at s at limit ≡ token start stop (Number v) → (v < limit) × (at < stop) × (stop ≤ length s)
+pub number_counts : (s : List ℕ) (at limit start stop v : ℕ) → number_at s at limit ≡ token start stop (Some v) → (v < limit) × (at < stop) × (stop ≤ length s)
 unfolding number_at
 number_counts s at limit start stop v e =
-    let r : Counts at limit (at + length (drop at s)) (token start stop (Number v)) = rw e at (number_count (drop at s) at limit) in
+    let r : Counts at limit (at + length (drop at s)) (token start stop (Some v)) = rw e at (number_count (drop at s) at limit) in
     let l = length-drop at s in
     (r.0, r.1, omega arith)
 
 -- the same of an own figure, with its mark
 abbrev WeightCountsOf : (at end stop : ℕ) → FoundWeight → Type 0
-WeightCountsOf at end stop (Own w k) = (w.0 ≤ greatest) × (k.0 ≤ struck_mark) × (at < stop) × (stop ≤ end)
-WeightCountsOf at end stop NotAWeight = Unit {0}
+WeightCountsOf at end stop (Some (w, k)) = (w.0 ≤ greatest) × (k.0 ≤ struck_mark) × (at < stop) × (stop ≤ end)
+WeightCountsOf at end stop None = Unit {0}
 
 abbrev WeightCounts : (at end : ℕ) → WeightToken → Type 0
 WeightCounts at end t = WeightCountsOf at end t.stop t.found
 
-marked_counts : (s : List ℕ) (at from : ℕ) (k : Mark) (start stop : ℕ) (f : Found) → at ≤ from → k.0 ≤ struck_mark → number_at s from (greatest + 1) ≡ token start stop f
+marked_counts : (s : List ℕ) (at from : ℕ) (k : Mark) (start stop : ℕ) (f : (Option ℕ)) → at ≤ from → k.0 ≤ struck_mark → number_at s from (greatest + 1) ≡ token start stop f
     → WeightCounts at (length s) (marked_from at k (token start stop f))
-marked_counts s at from k start stop (Number v) h m e = let r = number_counts s from (greatest + 1) start stop v e in (omega arith, m, omega arith, r.2)
-marked_counts s at from k start stop NotANumber h m e = tt
+marked_counts s at from k start stop (Some v) h m e = let r = number_counts s from (greatest + 1) start stop v e in (omega arith, m, omega arith, r.2)
+marked_counts s at from k start stop None h m e = tt
 
 weight_count : (s : List ℕ) (at : ℕ) → WeightCounts at (length s) (weight_at s at)
 unfolding weight_at
@@ -88,7 +85,7 @@ weight_count s at =
     (λ e. marked_counts s at (at + 1) (record { 0 = struck_mark }) struck.start struck.stop struck.found (omega arith) (omega arith) refl)
     (λ e. marked_counts s at at (record { 0 = standing }) stands.start stands.stop stands.found (omega arith) (omega arith) refl)
 
-pub weight_counts : (s : List ℕ) (at : ℕ) (start stop : ℕ) (w : Weight) (k : Mark) → weight_at s at ≡ weight_token start stop (Own w k)
+pub weight_counts : (s : List ℕ) (at : ℕ) (start stop : ℕ) (w : Weight) (k : Mark) → weight_at s at ≡ weight_token start stop (Some (w, k))
     → (w.0 ≤ greatest) × (k.0 ≤ struck_mark) × (at < stop) × (stop ≤ length s)
 weight_counts s at start stop w k e = rw e at (weight_count s at)
 

@@ -3,20 +3,12 @@
 
 #![tactic(auto)]
 
-ghost use Rattle.std.specs.Prelude.{◌≡◌, length, get_or, leb, ◌+◌};
+ghost use Rattle.std.specs.Prelude.{◌≡◌, length, get_or, leb, ◌+◌, Some, None};
 ghost use Rattle.weights.specs.Figures.{greatest};
 ghost use Rattle.text.specs.Machine.{digit_of};
-ghost use Rattle.cursor.specs.declared.Found.TheVariants.{Number, NotANumber};
 ghost use Rattle.cursor.specs.Cursor.{token, number_at, as_weight, marked_from, weight_at, separator_at};
 
 use weights::{Mark, Weight};
-
-// A number, or none where one was looked for.
-#[derive(Clone, Copy)]
-pub enum Found {
-    Number(u64),
-    NotANumber,
-}
 
 // Where the reading of a number began, where it stopped, found or not, and what it found. It stops at
 // the first byte that can't go on with the number, or at the text's end.
@@ -24,25 +16,20 @@ pub enum Found {
 pub struct Token {
     pub start: usize,
     pub stop: usize,
-    pub found: Found,
+    pub found: Option<u64>,
 }
 
-// An own weight and the strike mark of its line.
-#[derive(Clone, Copy)]
-pub enum FoundWeight {
-    Own(Weight, Mark),
-    NotAWeight,
-}
-
-// The same of an own weight, which begins at the `-` of a struck line.
+// The same of an own weight, which begins at the `-` of a struck line, and the strike mark of its
+// line.
 #[derive(Clone, Copy)]
 pub struct WeightToken {
     pub start: usize,
     pub stop: usize,
-    pub found: FoundWeight,
+    pub found: Option<(Weight, Mark)>,
 }
 
 // A single space or the end of a line, with the place behind it.
+// Kept: of its three cases two tell a place; an `Option` within a `Result` would hide which is which.
 #[derive(Clone, Copy)]
 pub enum Separator {
     Space(usize),
@@ -54,42 +41,39 @@ pub enum Separator {
 pub fn byte_at(text: &[u8], at: usize) -> u8
     ensures { result ≡ get_or text.now at 0 }
 {
-    if at >= text.len() {
-        return 0;
-    }
-    text[at]
+    text.get(at).copied().unwrap_or(0)
 }
 
-// The digit that a byte is, else 10. Counted round the 256 bytes from `0` on, the digits come first:
-// one comparison tells them from all others.
+// The digit that a byte is, else 10.
+#[tactic(auto, using(crate::proofs::Laws::tests), unfolding(text::specs::Machine::digit_of))]
 pub fn digit(b: u8) -> u64
     ensures { result ≡ digit_of b }
 {
-    let d = (b as u64 + 208) % 256;
-    if d > 9 {
-        return 10;
+    match b {
+        b'0'..=b'9' => (b - b'0') as u64,
+        _ => 10,
     }
-    d
 }
 
 impl Token {
     fn of_number(start: usize, stop: usize, v: u64) -> Token
-        ensures { result ≡ token start stop (Number v) }
+        ensures { result ≡ token start stop (Some v) }
     {
-        let found = Found::Number(v);
+        let found = Some(v);
         Token { start, stop, found }
     }
 
     fn no_number(start: usize, stop: usize) -> Token
-        ensures { result ≡ token start stop NotANumber }
+        ensures { result ≡ token start stop None }
     {
-        let found = Found::NotANumber;
+        let found = None;
         Token { start, stop, found }
     }
 }
 
 // The number at a place: decimal, without leading zeros, below the limit. However many digits stand
 // there, the first that makes it too great ends the reading, before a sum is made that could wrap.
+#[tactic(auto, using(crate::proofs::Laws::number_steps))]
 pub fn number_at(text: &[u8], at: usize, limit: u64) -> Token
     ensures { result ≡ number_at text.now at limit }
 {
@@ -97,42 +81,31 @@ pub fn number_at(text: &[u8], at: usize, limit: u64) -> Token
         return Token::no_number(at, at);
     }
     let first = digit(text[at]);
-    if first >= 10 {
-        return Token::no_number(at, at);
-    }
-    if first >= limit {
+    if first >= 10 || first >= limit {
         return Token::no_number(at, at);
     }
     let mut v = first;
-    let mut i = at + 1;
-    while i < text.len() {
+    for i in at + 1..text.len() {
         let d = digit(text[i]);
         if d >= 10 {
             return Token::of_number(at, i, v);
         }
-        if v == 0 {
-            return Token::no_number(at, i);
-        }
-        if d >= limit {
-            return Token::no_number(at, i);
-        }
-        if v > (limit - 1 - d) / 10 {
+        if v == 0 || d >= limit || v > (limit - 1 - d) / 10 {
             return Token::no_number(at, i);
         }
         v = 10 * v + d;
-        i += 1;
     }
-    Token::of_number(at, i, v)
+    Token::of_number(at, text.len(), v)
 }
 
 // What was found as a number, as the own weight of a line with this mark.
-fn as_weight(mark: Mark, found: Found) -> FoundWeight
+fn as_weight(mark: Mark, found: Option<u64>) -> Option<(Weight, Mark)>
     ensures { result ≡ as_weight mark found }
 {
-    let Found::Number(v) = found else {
-        return FoundWeight::NotAWeight;
-    };
-    FoundWeight::Own(Weight(v), mark)
+    match found {
+        Some(v) => Some((Weight(v), mark)),
+        None => None,
+    }
 }
 
 // The number at a place, as the own weight of a line with this mark, which began at `start`.
@@ -140,37 +113,34 @@ fn figure_at(text: &[u8], start: usize, mark: Mark, at: usize) -> WeightToken
     ensures { result ≡ marked_from start mark (number_at text.now at (greatest + 1)) }
 {
     let number = number_at(text, at, Weight::GREATEST.0 + 1);
-    let stop = number.stop;
-    let figure = number.found;
-    let found = as_weight(mark, figure);
-    WeightToken { start, stop, found }
+    WeightToken {
+        start,
+        stop: number.stop,
+        found: as_weight(mark, number.found),
+    }
 }
 
 // The own weight at a place: a number, and in a struck line `-` directly before it.
+#[tactic(auto, using(crate::proofs::Laws::tests), unfolding(crate::specs::Cursor::weight_at))]
 pub fn weight_at(text: &[u8], at: usize) -> WeightToken
     ensures { result ≡ weight_at text.now at }
 {
-    let b = byte_at(text, at);
-    if b == b'-' {
-        let from = at + 1;
-        return figure_at(text, at, Mark::STRUCK, from);
+    if byte_at(text, at) == b'-' {
+        figure_at(text, at, Mark::STRUCK, at + 1)
+    } else {
+        figure_at(text, at, Mark::STANDS, at)
     }
-    figure_at(text, at, Mark::STANDS, at)
 }
 
+#[tactic(auto, using(crate::proofs::Laws::tests), unfolding(crate::specs::Cursor::separator_at))]
 pub fn separator_at(text: &[u8], at: usize) -> Separator
     ensures { result ≡ separator_at text.now at }
 {
-    let b = byte_at(text, at);
-    if b == b' ' {
-        let next = at + 1;
-        return Separator::Space(next);
+    match byte_at(text, at) {
+        b' ' => Separator::Space(at + 1),
+        b'\n' => Separator::LineEnd(at + 1),
+        _ => Separator::Neither,
     }
-    if b == b'\n' {
-        let next = at + 1;
-        return Separator::LineEnd(next);
-    }
-    Separator::Neither
 }
 
 // Whether no byte stands at a place.

@@ -6,10 +6,6 @@ use native.Mathlib.Omega.{arith}
 use lib.ListN.{length, take, replicate, length-append}
 use lib.Seq.{take-append_seam}
 use Rattle.refusal.specs.declared.Refusal.{Refusal}
-use Rattle.refusal.specs.declared.Acceptance.{Acceptance}
-use Rattle.refusal.specs.declared.Acceptance.TheVariants as answer
-use Rattle.refusal.specs.declared.Extent.{Extent}
-use Rattle.refusal.specs.declared.Extent.TheVariants as extent
 use Rattle.refusal.specs.declared.Header.{Header}
 use Rattle.columns.specs.Columns.{Entries, entries}
 use Rattle.columns.specs.Acceptance.{most_vertices, most_listed}
@@ -23,6 +19,8 @@ use Rattle.reply.specs.Reply.{refused_by, on_extent}
 use Rattle.amend.specs.Amend.{appended_said}
 use Rattle.desk.specs.Desk.{lent_whole, in_use_of, indexed_said, append_said}
 use Rattle.desk.proofs.Laws.{settled_refused, settled_accepted}
+use Rattle.refusal.specs.Answers.{Acceptance, Extent}
+use Rattle.std.specs.Prelude.{Ok, Err}
 
 -- The index ------------------------------------------------------------------------------------------------------------------------------------
 
@@ -32,11 +30,11 @@ module _ (g : Header) (x : ReadOutcome) (a : Entries) (index list : List ℕ) (l
   unfolding indexed_said
   by_outcome = ap (λ (z : IndexOutcome). on_extent z.result (λ _. appended_said g.measure (lent_whole g x) (in_use_of g) a z.index z.list l)) (sym q)
 
-  pub index_refused : (r : Refusal) → o ≡ extent.Refused r → indexed_said g x a index list l ≡ refused_by r
+  pub index_refused : (r : Refusal) → o ≡ Err r → indexed_said g x a index list l ≡ refused_by r
   unfolding on_extent
   index_refused r e = by_outcome ∙ ap (λ (z : Extent). on_extent z (λ _. appended_said g.measure (lent_whole g x) (in_use_of g) a i j l)) e
 
-  pub index_made : (k : ℕ) → o ≡ extent.Length k → indexed_said g x a index list l ≡ appended_said g.measure (lent_whole g x) (in_use_of g) a i j l
+  pub index_made : (k : ℕ) → o ≡ Ok k → indexed_said g x a index list l ≡ appended_said g.measure (lent_whole g x) (in_use_of g) a i j l
   unfolding on_extent
   index_made k e = by_outcome ∙ ap (λ (z : Extent). on_extent z (λ _. appended_said g.measure (lent_whole g x) (in_use_of g) a i j l)) e
 
@@ -71,13 +69,13 @@ module _ (g : Header) (t : ReadOutcome) (l : NewLine) (few : g.vertices ≤ most
   from_blank : record { result = x; left = b } ≡ settled g.measure (columns_read g t) (blank_entries g.vertices)
   from_blank = q ∙ ap (λ (z : List ℕ). settled g.measure (columns_read g t) (entries z z z z)) (take_zeros g.vertices most_vertices few)
 
-  pub append_refused : (r : Refusal) → x ≡ answer.Refused r → append_said g t l ≡ refused_by r
+  pub append_refused : (r : Refusal) → x ≡ Err r → append_said g t l ≡ refused_by r
   unfolding append_said
   append_refused r e =
       sym (settled_refused g.measure (columns_read g t) (blank_entries g.vertices) x b from_blank
       (λ a. indexed_said g t a (replicate (2 * most_vertices) 0) (replicate most_listed 0) l) r e)
 
-  pub append_accepted : x ≡ answer.Accepted → append_said g t l ≡ indexed_said g t b (replicate (2 * most_vertices) 0) (replicate most_listed 0) l
+  pub append_accepted : x ≡ Ok tt → append_said g t l ≡ indexed_said g t b (replicate (2 * most_vertices) 0) (replicate most_listed 0) l
   unfolding append_said
   append_accepted e =
       sym (settled_accepted g.measure (columns_read g t) (blank_entries g.vertices) x b from_blank

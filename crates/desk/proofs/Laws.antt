@@ -10,12 +10,8 @@ use Rattle.weights.specs.declared.Vertex.{Vertex}
 use Rattle.weights.specs.declared.Weight.{Weight}
 use Rattle.weights.specs.declared.Hyperedge.{Hyperedge}
 use Rattle.refusal.specs.declared.Refusal.{Refusal}
-use Rattle.refusal.specs.declared.Acceptance.{Acceptance}
-use Rattle.refusal.specs.declared.Acceptance.TheVariants as answer
 use Rattle.refusal.specs.declared.Refusal.TheVariants.{InputLength}
 use Rattle.refusal.specs.declared.Header.{Header}
-use Rattle.refusal.specs.declared.Reading.{Reading}
-use Rattle.refusal.specs.declared.Reading.TheVariants as reading
 use Rattle.columns.specs.Columns.{Entries, Columns, entries}
 use Rattle.columns.specs.Longer.{new_line}
 use Rattle.weights.specs.Figures.{standing}
@@ -48,6 +44,8 @@ use Rattle.ledger.specs.Ledger.{replay_said}
 use Rattle.quote.specs.Quote.{bill_said}
 use Rattle.amend.specs.Amend.{repriced_said, stricken_said, restored_said}
 use Rattle.desk.specs.Desk.{settled_said, answer_said, table_said, append_said, needed_in, read_said, on_reading, input_said, sample_said, command_said, desk_said, Answered, Stands, Takes}
+use Rattle.refusal.specs.Answers.{Acceptance, Reading}
+use Rattle.std.specs.Prelude.{Ok, Err}
 
 -- a reply that says what is to be said
 pub replied_as : {s t : Said} (old : List ℕ) (r : Reply) (room : List ℕ) → s ≡ t → Replied s old r room → Replied t old r room
@@ -55,11 +53,11 @@ replied_as old r room e h = subst (λ (z : Said). Replied z old r room) e h
 
 -- An acceptance ---------------------------------------------------------------------------------------------------------------------------------
 
-pub acceptance_refused : (x : Acceptance) (r : Refusal) → x ≡ answer.Refused r → refused_by r ≡ on_acceptance x (answered [])
+pub acceptance_refused : (x : Acceptance) (r : Refusal) → x ≡ Err r → refused_by r ≡ on_acceptance x (answered [])
 unfolding on_acceptance
 acceptance_refused x r e = ap (λ (z : Acceptance). on_acceptance z (answered [])) (sym e)
 
-pub acceptance_accepted : (x : Acceptance) → x ≡ answer.Accepted → answered [] ≡ on_acceptance x (answered [])
+pub acceptance_accepted : (x : Acceptance) → x ≡ Ok tt → answered [] ≡ on_acceptance x (answered [])
 unfolding on_acceptance
 acceptance_accepted x e = ap (λ (z : Acceptance). on_acceptance z (answered [])) (sym e)
 
@@ -71,18 +69,18 @@ module _ (m : Measure) (c : Columns) (a : Entries) (x : Acceptance) (b : Entries
   unfolding settled_said
   told f = ap (λ (o : Outcome Acceptance Entries). on_acceptance o.result (f o.left)) q
 
-  pub settled_refused : (f : Entries → Said) (r : Refusal) → x ≡ answer.Refused r → refused_by r ≡ settled_said m c a f
+  pub settled_refused : (f : Entries → Said) (r : Refusal) → x ≡ Err r → refused_by r ≡ settled_said m c a f
   unfolding on_acceptance
   settled_refused f r e = ap (λ (z : Acceptance). on_acceptance z (f b)) (sym e) ∙ told f
 
-  pub settled_accepted : (f : Entries → Said) → x ≡ answer.Accepted → f b ≡ settled_said m c a f
+  pub settled_accepted : (f : Entries → Said) → x ≡ Ok tt → f b ≡ settled_said m c a f
   unfolding on_acceptance
   settled_accepted f e = ap (λ (z : Acceptance). on_acceptance z (f b)) (sym e) ∙ told f
 
   -- the columns left are the table's answers
-  pub settled_holds : (room : ℕ) → x ≡ answer.Accepted → most_reply ≤ room → Answered m c b room
+  pub settled_holds : (room : ℕ) → x ≡ Ok tt → most_reply ≤ room → Answered m c b room
   settled_holds room e h =
-      let p : lent_acceptance c a ≡ answer.Accepted = sym (settled_result_lem m c a) ∙ sym (ap (λ (o : Outcome Acceptance Entries). o.result) q) ∙ e in
+      let p : lent_acceptance c a ≡ (Ok tt) = sym (settled_result_lem m c a) ∙ sym (ap (λ (o : Outcome Acceptance Entries). o.result) q) ∙ e in
       record { table = (columns_accepted c a p).table; answers = ap (λ (o : Outcome Acceptance Entries). o.left) q ∙ settled_left m c a p; large = h }
 
 -- the list of a table's answers has a row for each part, and fits the room
@@ -174,10 +172,10 @@ module _ (s : List ℕ) (y : Command) (k : ℕ) (ns input : List ℕ) where
     by_reading : on_reading s y k ns a (read_outcome a h o ms sp t) ≡ input_said s y k ns input
     by_reading = ap (λ (z : ReadOutcome). on_reading s y k ns z.answer z) q ∙ sym (short_said short)
 
-    pub unread_said : (r : Refusal) → a ≡ reading.Refused r → refused_by r ≡ input_said s y k ns input
+    pub unread_said : (r : Refusal) → a ≡ Err r → refused_by r ≡ input_said s y k ns input
     unread_said r e = ap (λ (z : Reading). on_reading s y k ns z (read_outcome a h o ms sp t)) (sym e) ∙ by_reading
 
-    pub table_said_lem : (g : Header) → a ≡ reading.Table g → read_said s y k ns g (read_outcome (reading.Table g) h o ms sp t) ≡ input_said s y k ns input
+    pub table_said_lem : (g : Header) → a ≡ Ok g → read_said s y k ns g (read_outcome (Ok g) h o ms sp t) ≡ input_said s y k ns input
     table_said_lem g e = ap (λ (z : Reading). on_reading s y k ns z (read_outcome z h o ms sp t)) (sym e) ∙ by_reading
 
 -- a sample's text
@@ -191,7 +189,7 @@ short_sample input h = rw (le-ltb most_input (length input) h)
 
 -- a table that was read stands at the start of the columns
 pub input_stands : (input : List ℕ) → length input ≤ most_input → (a : Reading) (h o ms s t : List ℕ) → read_outcome a h o ms s t ≡ read_input input
-    → (g : Header) → a ≡ reading.Table g → Stands g h o ms s t
+    → (g : Header) → a ≡ Ok g → Stands g h o ms s t
 input_stands input short a h o ms s t q g e =
     let f = sym (ap (λ (z : ReadOutcome). z.answer) q) ∙ e in
     let l = input_lent input g most_output short refl f in

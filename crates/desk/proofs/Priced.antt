@@ -8,10 +8,6 @@ use lib.ListN.{length, replicate}
 use lib.Dec.{ltb}
 use Rattle.weights.specs.Choice.{pick}
 use Rattle.refusal.specs.declared.Refusal.TheVariants.{InputLength}
-use Rattle.refusal.specs.declared.Acceptance.{Acceptance}
-use Rattle.refusal.specs.declared.Acceptance.TheVariants as answer
-use Rattle.refusal.specs.declared.Reading.{Reading}
-use Rattle.refusal.specs.declared.Reading.TheVariants as reading
 use Rattle.columns.specs.Columns.{Entries, Columns}
 use Rattle.columns.specs.Acceptance.{acceptance}
 use Rattle.weights.specs.declared.Measure.{Measure}
@@ -29,16 +25,18 @@ use Rattle.command.specs.Command.{most_numbers, CommandLine}
 use Rattle.command.proofs.Lines.{price_line}
 use Rattle.desk.specs.Desk.{settled_said, on_reading, input_said, command_said, desk_said}
 use Rattle.desk.specs.Priced.{PricesAsListed, PricesAgain}
+use Rattle.refusal.specs.Answers.{Acceptance, Reading}
+use Rattle.std.specs.Prelude.{Ok, Err}
 
 by_answer : (n : ℕ) (x : Acceptance) (a : Entries) → (on_acceptance x (answered (list a n))).bytes ≡ priced_as n x a
 unfolding on_acceptance
-by_answer n answer.Accepted a = refl
-by_answer n (answer.Refused r) a = refl
+by_answer n (Ok _) a = refl
+by_answer n (Err r) a = refl
 
 by_reading : (s : List ℕ) (k : ℕ) (ns : List ℕ) (a : Reading) (x : ReadOutcome) → (on_reading s (Ask (Settled Price)) k ns a x).bytes ≡ listed_as a x
 unfolding listed_as settled_said
-by_reading s k ns (reading.Refused r) x = refl
-by_reading s k ns (reading.Table g) x =
+by_reading s k ns (Err r) x = refl
+by_reading s k ns (Ok g) x =
     let o = settled g.measure (columns_read g x) (blank_entries g.vertices) in
     by_answer g.vertices o.result o.left
 
@@ -53,5 +51,5 @@ prices_as_listed input second =
     ∙ by_length (ltb most_input (length input)) (on_reading second (Ask (Settled Price)) 0 (replicate most_numbers 0) (read_input input).answer (read_input input)) (listed (read_input input))
     (by_reading second 0 (replicate most_numbers 0) (read_input input).answer (read_input input))
 
-pub prices_again : (m : Measure) (t : Columns) (s : Said) → Printed m t s → acceptance t ≡ answer.Accepted → length (render m t) ≤ most_input → PricesAgain m t s
+pub prices_again : (m : Measure) (t : Columns) (s : Said) → Printed m t s → acceptance t ≡ Ok tt → length (render m t) ≤ most_input → PricesAgain m t s
 prices_again m t s p a h = ap (λ (z : Said). report z.bytes) (p.fits h) ∙ report_rendered m t a h

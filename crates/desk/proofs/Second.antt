@@ -10,10 +10,7 @@ use Rattle.weights.specs.declared.Measure.{Measure}
 use Rattle.weights.specs.Choice.{pick}
 use Rattle.weights.proofs.Choice.{apart}
 use Rattle.refusal.specs.declared.Refusal.TheVariants.{InputLength}
-use Rattle.refusal.specs.declared.Acceptance.TheVariants.{Accepted}
 use Rattle.refusal.specs.declared.Header.{Header}
-use Rattle.refusal.specs.declared.Reading.{Reading}
-use Rattle.refusal.specs.declared.Reading.TheVariants as reading
 use Rattle.columns.specs.Columns.{Entries, Columns}
 use Rattle.columns.specs.Acceptance.{acceptance}
 use Rattle.settle.specs.Settling.{settled, entries_of}
@@ -37,6 +34,8 @@ use Rattle.command.proofs.Lines.{compare_line_lem, replay_line_lem}
 use Rattle.desk.specs.Desk.{settled_said, answer_said, table_said, on_reading, input_said, command_said, desk_said}
 use Rattle.desk.specs.Second.{compare_line, replay_line, SecondUnlooked, Compares, Replays}
 use Rattle.desk.proofs.Laws.{settled_accepted, table_said_lem, words_ask}
+use Rattle.refusal.specs.Answers.{Reading}
+use Rattle.std.specs.Prelude.{Ok, Err}
 
 -- What does not look at it -----------------------------------------------------------------------------------------------------------------------
 
@@ -58,11 +57,11 @@ module _ (s t : List ℕ) where
   by_query CheckOrder e m c a = refl
 
   by_reading : (y : Command) → command_second y ≡ false → (k : ℕ) (ns : List ℕ) (a : Reading) (x : ReadOutcome) → on_reading s y k ns a x ≡ on_reading t y k ns a x
-  by_reading y e k ns (reading.Refused r) x = refl
-  by_reading (Ask q) e k ns (reading.Table g) x = by_query q e g.measure (columns_read g x) (blank_entries g.vertices)
-  by_reading (Append h w) e k ns (reading.Table g) x = refl
-  by_reading Mean e k ns (reading.Table g) x = refl
-  by_reading Misuse e k ns (reading.Table g) x = refl
+  by_reading y e k ns (Err r) x = refl
+  by_reading (Ask q) e k ns (Ok g) x = by_query q e g.measure (columns_read g x) (blank_entries g.vertices)
+  by_reading (Append h w) e k ns (Ok g) x = refl
+  by_reading Mean e k ns (Ok g) x = refl
+  by_reading Misuse e k ns (Ok g) x = refl
 
   by_input : (y : Command) → command_second y ≡ false → (k : ℕ) (ns input : List ℕ) → input_said s y k ns input ≡ input_said t y k ns input
   unfolding input_said
@@ -83,7 +82,7 @@ second_unlooked words e input s t =
 -- The text of a table ----------------------------------------------------------------------------------------------------------------------------
 
 -- a table that was read is settled, so what is asked is said of it and its answers
-module _ (s input : List ℕ) (short : length input ≤ most_input) (g : Header) (e : (read_input input).answer ≡ reading.Table g) where
+module _ (s input : List ℕ) (short : length input ≤ most_input) (g : Header) (e : (read_input input).answer ≡ Ok g) where
   abbrev table : Columns
   table = columns_read g (read_input input)
 
@@ -98,7 +97,7 @@ module _ (s input : List ℕ) (short : length input ≤ most_input) (g : Header)
       ∙ sym (settled_accepted g.measure table b o.result o.left refl (answer_said s q g.measure table) r)
       ∙ ap (answer_said s q g.measure table) l
 
-module _ (m : Measure) (c : Columns) (p : acceptance c ≡ Accepted) (short : length (render m c) ≤ most_input) where
+module _ (m : Measure) (c : Columns) (p : acceptance c ≡ Ok tt) (short : length (render m c) ≤ most_input) where
   -- the header that is read back
   abbrev header : Header
   header = record { vertices = c.vertices; measure = m; edges = length (closed c).heads; listed = length (closed c).tails }

@@ -1,16 +1,13 @@
 -- What the program for the desks prints, and its status, by the line of its words, its input and a second one. Assumes nothing: these are definitions.
-use Rattle.std.specs.Prelude.{ℕ, ◌*◌, ◌-◌, ◌≤◌, ◌≡◌, List, [], length, take, drop, replicate, ltb}
+use Rattle.std.specs.Prelude.{ℕ, ◌*◌, ◌-◌, ◌≤◌, ◌≡◌, List, [], length, take, drop, replicate, ltb, Ok, Err}
 use Rattle.weights.specs.declared.Measure.{Measure}
 use Rattle.weights.specs.declared.Vertex.{Vertex}
 use Rattle.weights.specs.declared.Weight.{Weight}
 use Rattle.weights.specs.Choice.{pick}
 use Rattle.weights.specs.Figures.{standing}
 use Rattle.refusal.specs.declared.Refusal.TheVariants.{InputLength}
-use Rattle.refusal.specs.declared.Acceptance.TheVariants.{Accepted}
 use Rattle.refusal.specs.declared.Counts.{Counts}
 use Rattle.refusal.specs.declared.Header.{Header}
-use Rattle.refusal.specs.declared.Reading.{Reading}
-use Rattle.refusal.specs.declared.Reading.TheVariants as reading
 use Rattle.columns.specs.Columns.{Entries, Columns, columns}
 use Rattle.columns.specs.Acceptance.{most_vertices, most_listed, acceptance}
 use Rattle.columns.specs.Longer.{NewLine, new_line}
@@ -34,6 +31,7 @@ use Rattle.quote.specs.Quote.{bill_said}
 use Rattle.whereused.specs.WhereUsed.{uses_said}
 use Rattle.compare.specs.Compare.{compared_said}
 use Rattle.amend.specs.Amend.{repriced_said, stricken_said, restored_said, appended_said}
+use Rattle.refusal.specs.Answers.{Reading}
 
 -- the table that was read is settled into answer columns of zeros
 unfoldable pub settled_said : Measure → Columns → Entries → (Entries → Said) → Said
@@ -86,8 +84,8 @@ read_said s Misuse k ns g x = misused
 
 -- by what reading the input returned
 abbrev pub on_reading : (second : List ℕ) → Command → (count : ℕ) → (numbers : List ℕ) → Reading → ReadOutcome → Said
-on_reading s y k ns (reading.Refused r) x = refused_by r
-on_reading s y k ns (reading.Table g) x = read_said s y k ns g x
+on_reading s y k ns (Err r) x = refused_by r
+on_reading s y k ns (Ok g) x = read_said s y k ns g x
 
 -- 17 comes first, then 14
 unfoldable pub input_said : (second : List ℕ) → Command → (count : ℕ) → (numbers input : List ℕ) → Said
@@ -112,7 +110,7 @@ desk_said words input second = let l = command_in words (replicate most_numbers 
 
 -- an accepted table, its own answers, and the room of a reply
 pub record Answered (m : Measure) (c : Columns) (a : Entries) (room : ℕ) : Type 0 where
-  pub table : acceptance c ≡ Accepted
+  pub table : acceptance c ≡ Ok tt
   pub answers : a ≡ entries_of m c
   pub large : most_reply ≤ room
 
@@ -124,7 +122,7 @@ pub record Stands (g : Header) (h o ms s t : List ℕ) : Type 0 where
   pub strikes : g.edges ≤ length ms
   pub spans : 2 * g.edges ≤ length s
   pub tails : g.listed ≤ length t
-  pub table : acceptance (lent_columns g h o ms s t) ≡ Accepted
+  pub table : acceptance (lent_columns g h o ms s t) ≡ Ok tt
 
 -- a line that is appended has a head and a figure, and no command has more numbers than there is room for
 pub record Takes (y : Command) (k places : ℕ) : Type 0 where

@@ -1,35 +1,37 @@
 // The program for the desks: a command over a table's text, and what it prints.
+//
+// Kept: columns and rooms are lent, or arrays of a fixed size: the library and its programs use no heap.
 
 #![tactic(auto)]
 
-ghost use Rattle.std.specs.Prelude.{◌≡◌, [], ◌≤◌, length};
-ghost use Rattle.refusal.specs.declared.Acceptance.TheVariants.{Accepted};
+ghost use Rattle.std.specs.Prelude.{◌≡◌, [], ◌≤◌, length, Ok};
 ghost use Rattle.columns.specs.Columns.{columns, entries};
 ghost use Rattle.columns.specs.Acceptance.{acceptance};
 ghost use Rattle.reply.specs.Reply.{most_reply, answered, misused, on_acceptance, Replied};
-ghost use Rattle.refusal.specs.declared.Reading.TheVariants as reading;
 ghost use Rattle.weights.specs.Figures.{standing};
 ghost use Rattle.columns.specs.Longer.{new_line};
+ghost use Rattle.columns.specs.Given.{entries_in};
 ghost use Rattle.readtable.specs.Read.{read_outcome};
 ghost use Rattle.report.specs.Report.{list, blank_entries};
 ghost use Rattle.report.specs.Pieces.{lent_columns};
 ghost use Rattle.desk.specs.Desk.{answer_said, settled_said, table_said, indexed_said, append_said, read_said, input_said, sample_said, desk_said, Answered, Stands, Takes};
 
+use columns::{Entries, Table};
 use command::{Command, MOST_NUMBERS, Query, Question, read_command};
 use readtable::read_table;
-use refusal::{Acceptance, Counts, Extent, Header, Reading, Refusal};
+use refusal::{Counts, Header, Refusal};
 use reply::{MOST_REPLY, Reply, Status, put_refusal};
 use report::MOST_INPUT;
 use weights::{Measure, Vertex, Weight};
 
 // Nothing is printed on acceptance, and on a refusal its line.
-fn put_acceptance(room: &mut [u8], answer: Acceptance) -> Reply
+fn put_acceptance(room: &mut [u8], answer: Result<(), Refusal>) -> Reply
     requires { most_reply ≤ length room.old }
     ensures { Replied (on_acceptance answer (answered [])) room.old result room.new }
 {
     match answer {
-        Acceptance::Refused(r) => put_refusal(room, r),
-        Acceptance::Accepted => Reply {
+        Err(r) => put_refusal(room, r),
+        Ok(()) => Reply {
             width: 0,
             status: Status::Answered,
         },
@@ -37,18 +39,12 @@ fn put_acceptance(room: &mut [u8], answer: Acceptance) -> Reply
 }
 
 // The list of a table's entries.
-fn put_entries(
-    room: &mut [u8],
-    weights: &[u64],
-    depths: &[u64],
-    edges: &[u64],
-    pieces: &[u64],
-) -> Reply
-    requires { length (list (entries weights.now depths.now edges.now pieces.now) (length depths.now)) ≤ length room.old }
-    ensures { let a = entries weights.now depths.now edges.now pieces.now in
-        Replied (answered (list a (length depths.now))) room.old result room.new }
+fn put_entries(room: &mut [u8], entries: &Entries) -> Reply
+    requires { length (list (entries_in entries.now) (length entries.now.depths.now)) ≤ length room.old }
+    ensures { let a = entries_in entries.now in
+        Replied (answered (list a (length entries.now.depths.now))) room.old result room.new }
 {
-    let width = report::put_list(room, weights, depths, edges, pieces);
+    let width = report::put_list(room, entries);
     Reply {
         width,
         status: Status::Answered,
@@ -56,20 +52,20 @@ fn put_entries(
 }
 
 // What is printed of a table and its answers.
-fn put_answer(
+fn put_answer<'a>(
     room: &mut [u8],
     question: Question,
     measure: Measure,
     n: u64,
-    heads: &[u64],
-    own: &mut [u64],
-    strikes: &mut [u64],
-    spans: &[u64],
-    tails: &[u64],
-    weights: &mut [u64],
-    depths: &mut [u64],
-    edges: &mut [u64],
-    pieces: &mut [u64],
+    heads: &'a [u64],
+    own: &'a mut [u64],
+    strikes: &'a mut [u64],
+    spans: &'a [u64],
+    tails: &'a [u64],
+    weights: &'a mut [u64],
+    depths: &'a mut [u64],
+    edges: &'a mut [u64],
+    pieces: &'a mut [u64],
     second: &[u8],
 ) -> Reply
     requires { let c = columns n heads.now own.old strikes.old spans.now tails.now in
@@ -80,9 +76,33 @@ fn put_answer(
         Replied (answer_said second.now question measure c a) room.old result room.new }
 {
     match question {
-        Question::Price => put_entries(room, weights, depths, edges, pieces),
+        Question::Price => put_entries(
+            room,
+            &Entries {
+                weights,
+                depths,
+                edges,
+                pieces,
+            },
+        ),
         Question::Bill(v) => quote::put_bill(
-            room, measure, n, heads, own, strikes, spans, tails, weights, depths, edges, pieces, v,
+            room,
+            measure,
+            &Table {
+                vertices: n,
+                heads,
+                own,
+                strikes,
+                spans,
+                tails,
+            },
+            &Entries {
+                weights,
+                depths,
+                edges,
+                pieces,
+            },
+            v,
         ),
         Question::Reprice(e, w) => amend::put_repriced(
             room, measure, n, heads, own, strikes, spans, tails, weights, depths, edges, pieces, e,
@@ -95,26 +115,49 @@ fn put_answer(
             room, measure, n, heads, own, strikes, spans, tails, weights, depths, edges, pieces, e,
         ),
         Question::Compare => compare::put_comparison(
-            room, n, weights, depths, edges, pieces, second,
+            room,
+            n,
+            &Entries {
+                weights,
+                depths,
+                edges,
+                pieces,
+            },
+            second,
         ),
         Question::Replay => ledger::put_replay(
-            room, measure, n, heads, own, strikes, spans, tails, weights, depths, edges, pieces,
+            room,
+            measure,
+            &Table {
+                vertices: n,
+                heads,
+                own,
+                strikes,
+                spans,
+                tails,
+            },
+            &Entries {
+                weights,
+                depths,
+                edges,
+                pieces,
+            },
             second,
         ),
     }
 }
 
 // The table is settled first.
-fn put_settled(
+fn put_settled<'a>(
     room: &mut [u8],
     question: Question,
     measure: Measure,
     n: u64,
-    heads: &[u64],
-    own: &mut [u64],
-    strikes: &mut [u64],
-    spans: &[u64],
-    tails: &[u64],
+    heads: &'a [u64],
+    own: &'a mut [u64],
+    strikes: &'a mut [u64],
+    spans: &'a [u64],
+    tails: &'a [u64],
     weights: &mut [u64],
     depths: &mut [u64],
     edges: &mut [u64],
@@ -127,11 +170,23 @@ fn put_settled(
         Replied (settled_said measure c a (answer_said second.now question measure c)) room.old result room.new }
 {
     let answer = settle::settle(
-        measure, n, heads, own, strikes, spans, tails, weights, depths, edges, pieces,
+        measure,
+        &Table {
+            vertices: n,
+            heads,
+            own,
+            strikes,
+            spans,
+            tails,
+        },
+        weights,
+        depths,
+        edges,
+        pieces,
     );
     match answer {
-        Acceptance::Refused(r) => return put_refusal(room, r),
-        Acceptance::Accepted => {}
+        Err(r) => return put_refusal(room, r),
+        Ok(()) => {}
     }
     put_answer(
         room, question, measure, n, heads, own, strikes, spans, tails, weights, depths, edges,
@@ -140,36 +195,63 @@ fn put_settled(
 }
 
 // What is printed of an accepted table.
-fn put_table(
+fn put_table<'a>(
     room: &mut [u8],
     query: Query,
     measure: Measure,
     n: u64,
-    heads: &[u64],
-    own: &mut [u64],
-    strikes: &mut [u64],
-    spans: &[u64],
-    tails: &[u64],
+    heads: &'a [u64],
+    own: &'a mut [u64],
+    strikes: &'a mut [u64],
+    spans: &'a [u64],
+    tails: &'a [u64],
     weights: &mut [u64],
     depths: &mut [u64],
     edges: &mut [u64],
     pieces: &mut [u64],
     second: &[u8],
 ) -> Reply
-    requires tails_value { acceptance (columns n heads.now own.old strikes.old spans.now tails.now) ≡ Accepted }
+    requires tails_value { acceptance (columns n heads.now own.old strikes.old spans.now tails.now) ≡ (Ok tt) }
     requires most_reply_in_bounds { most_reply ≤ length room.old }
     ensures { let c = columns n heads.now own.old strikes.old spans.now tails.now in
         let a = entries weights.old depths.old edges.old pieces.old in
         Replied (table_said second.now query measure c a) room.old result room.new }
 {
     match query {
-        Query::Uses(v) => { whereused::put_uses(room, n, heads, own, strikes, spans, tails, v) }
+        Query::Uses(v) => {
+            whereused::put_uses(
+                room,
+                &Table {
+                    vertices: n,
+                    heads,
+                    own,
+                    strikes,
+                    spans,
+                    tails,
+                },
+                v,
+            )
+        }
         Query::Check => {
-            let answer = columns::check_table(n, heads, own, strikes, spans, tails);
+            let answer = columns::check_table(&Table {
+                vertices: n,
+                heads,
+                own,
+                strikes,
+                spans,
+                tails,
+            });
             put_acceptance(room, answer)
         }
         Query::CheckOrder => {
-            let answer = topological::check_order(n, heads, own, strikes, spans, tails);
+            let answer = topological::check_order(&Table {
+                vertices: n,
+                heads,
+                own,
+                strikes,
+                spans,
+                tails,
+            });
             put_acceptance(room, answer)
         }
         Query::Settled(question) => put_settled(
@@ -180,14 +262,14 @@ fn put_table(
 }
 
 // The index of the table is made, and the line appended.
-fn put_indexed(
+fn put_indexed<'a>(
     room: &mut [u8],
     header: Header,
-    heads: &mut [u64],
-    own: &mut [u64],
-    strikes: &mut [u64],
-    spans: &mut [u64],
-    tails: &mut [u64],
+    heads: &'a mut [u64],
+    own: &'a mut [u64],
+    strikes: &'a mut [u64],
+    spans: &'a mut [u64],
+    tails: &'a mut [u64],
     weights: &mut [u64],
     depths: &mut [u64],
     edges: &mut [u64],
@@ -200,7 +282,7 @@ fn put_indexed(
 ) -> Reply
     requires most_reply_in_bounds { most_reply ≤ length room.old }
     requires stands { Stands header heads.old own.old strikes.old spans.old tails.old }
-    ensures { let x = read_outcome (reading.Table header) heads.old own.old strikes.old spans.old tails.old in
+    ensures { let x = read_outcome (Ok header) heads.old own.old strikes.old spans.old tails.old in
         let a = entries weights.old depths.old edges.old pieces.old in
         let l = new_line head.0 figure.0 standing needed.now in
         Replied (indexed_said header x a index.old list.old l) room.old result room.new }
@@ -213,18 +295,20 @@ fn put_indexed(
     let listed = header.listed;
     let uses = listed as usize;
     let indexed = indextable::index_table(
-        n,
-        &heads[..lines],
-        &own[..lines],
-        &strikes[..lines],
-        &spans[..places],
-        &tails[..uses],
+        &Table {
+            vertices: n,
+            heads: &heads[..lines],
+            own: &own[..lines],
+            strikes: &strikes[..lines],
+            spans: &spans[..places],
+            tails: &tails[..uses],
+        },
         index,
         list,
     );
     match indexed {
-        Extent::Refused(r) => return put_refusal(room, r),
-        Extent::Length(_) => {}
+        Err(r) => return put_refusal(room, r),
+        Ok(_) => {}
     }
     amend::put_appended(
         room,
@@ -252,21 +336,21 @@ fn put_indexed(
 }
 
 // The table that was read is settled, and the line appended.
-fn put_append(
+fn put_append<'a>(
     room: &mut [u8],
     header: Header,
-    heads: &mut [u64],
-    own: &mut [u64],
-    strikes: &mut [u64],
-    spans: &mut [u64],
-    tails: &mut [u64],
+    heads: &'a mut [u64],
+    own: &'a mut [u64],
+    strikes: &'a mut [u64],
+    spans: &'a mut [u64],
+    tails: &'a mut [u64],
     head: Vertex,
     figure: Weight,
     needed: &[u64],
 ) -> Reply
     requires most_reply_in_bounds { most_reply ≤ length room.old }
     requires stands { Stands header heads.old own.old strikes.old spans.old tails.old }
-    ensures { let x = read_outcome (reading.Table header) heads.old own.old strikes.old spans.old tails.old in
+    ensures { let x = read_outcome (Ok header) heads.old own.old strikes.old spans.old tails.old in
         let l = new_line head.0 figure.0 standing needed.now in
         Replied (append_said header x l) room.old result room.new }
 {
@@ -284,20 +368,22 @@ fn put_append(
     let mut list = [0u64; 16384];
     let answer = settle::settle(
         measure,
-        n,
-        &heads[..lines],
-        &own[..lines],
-        &strikes[..lines],
-        &spans[..places],
-        &tails[..listed],
+        &Table {
+            vertices: n,
+            heads: &heads[..lines],
+            own: &own[..lines],
+            strikes: &strikes[..lines],
+            spans: &spans[..places],
+            tails: &tails[..listed],
+        },
         &mut weights[..parts],
         &mut depths[..parts],
         &mut edges[..parts],
         &mut pieces[..parts],
     );
     match answer {
-        Acceptance::Refused(r) => return put_refusal(room, r),
-        Acceptance::Accepted => {}
+        Err(r) => return put_refusal(room, r),
+        Ok(()) => {}
     }
     put_indexed(
         room,
@@ -381,7 +467,7 @@ fn put_command(
     requires most_reply_in_bounds { most_reply ≤ length room.old }
     requires stands { Stands header heads.old own.old strikes.old spans.old tails.old }
     requires takes { Takes command count (length numbers.now) }
-    ensures { let x = read_outcome (reading.Table header) heads.old own.old strikes.old spans.old tails.old in
+    ensures { let x = read_outcome (Ok header) heads.old own.old strikes.old spans.old tails.old in
         Replied (read_said second.now command count numbers.now header x) room.old result room.new }
 {
     match command {
@@ -441,8 +527,8 @@ fn put_input(
         &mut tails,
     );
     match reading {
-        Reading::Refused(r) => put_refusal(room, r),
-        Reading::Table(header) => put_command(
+        Err(r) => put_refusal(room, r),
+        Ok(header) => put_command(
             room,
             command,
             count,

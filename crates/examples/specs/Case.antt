@@ -1,13 +1,11 @@
 -- A worked example: a call, from answer columns of filler, and what must come out of it, by an equation with the outcome that the call's contract cites. Assumes
 -- nothing: these are definitions.
-use Rattle.std.specs.Prelude.{◌≡◌, List, [], ◌∷◌, ◌++◌, ℕ, ◌+◌, ℤ, ◌≤ℤ◌, length, drop}
+use Rattle.std.specs.Prelude.{◌≡◌, List, [], ◌∷◌, ◌++◌, ℕ, ◌+◌, ℤ, ◌≤ℤ◌, length, drop, Ok}
 use Rattle.std.proofs.Math.IntN.{sub_ℕ}
 use Rattle.weights.specs.declared.Measure.{Measure}
 use Rattle.weights.specs.declared.Measure.TheVariants.{Cost}
 use Rattle.weights.specs.declared.State.{State}
 use Rattle.weights.specs.Labels.{state_of}
-use Rattle.refusal.specs.declared.Acceptance.TheVariants.{Accepted}
-use Rattle.refusal.specs.declared.Extent.TheVariants.{Length}
 use Rattle.provenance.specs.Counting.{bill_change}
 use Rattle.columns.specs.Columns.{Entries, Columns, own_at, with_own}
 use Rattle.settle.specs.Settling.{answers_of, settled}
@@ -39,7 +37,7 @@ states (w ∷ ws) [] = []
 states (w ∷ ws) (d ∷ ds) = state_of w d ∷ states ws ds
 
 pub record Settles (m : Measure) (c : Columns) (filler left : Entries) (ss : List State) : Type 0 where
-  pub outcome : settled m c filler ≡ record { result = Accepted; left = left }
+  pub outcome : settled m c filler ≡ record { result = Ok tt; left = left }
   pub told : states left.labels.weights left.labels.depths ≡ ss
 
 -- the two tables are a pair of demand 3, and the rise keeps to its bounds
@@ -64,10 +62,10 @@ pub record Revises (c c' : Columns) (v w w' : ℕ) (least most : ℤ) : Type 0 w
 -- what a case says
 abbrev pub Holds : Case → Type 0
 Holds (settles m c filler left ss) = Settles m c filler left ss
-Holds (prints m c filler v room bill) = billed m c (settled m c filler).left v room ≡ record { result = Length (length bill); left = bill ++ drop (length bill) room }
-Holds (reprices m c filler e w own left) = repriced m c (settled m c filler).left e w ≡ record { result = Accepted; own = own; left = left }
-Holds (strikes m c filler e marks left) = stricken m c (settled m c filler).left e ≡ record { result = Accepted; strikes = marks; left = left }
-Holds (restores m c filler e marks left) = restored m c (settled m c filler).left e ≡ record { result = Accepted; strikes = marks; left = left }
+Holds (prints m c filler v room bill) = billed m c (settled m c filler).left v room ≡ record { result = Ok (length bill); left = bill ++ drop (length bill) room }
+Holds (reprices m c filler e w own left) = repriced m c (settled m c filler).left e w ≡ record { result = Ok tt; own = own; left = left }
+Holds (strikes m c filler e marks left) = stricken m c (settled m c filler).left e ≡ record { result = Ok tt; strikes = marks; left = left }
+Holds (restores m c filler e marks left) = restored m c (settled m c filler).left e ≡ record { result = Ok tt; strikes = marks; left = left }
 Holds (raises m c e d v w w' old new) = Raises m c e d v w w' old new
 Holds (revises c c' v w w' least most) = Revises c c' v w w' least most
 

@@ -8,8 +8,6 @@ use lib.ListN.{length, take}
 use lib.Seq.{length-take-le}
 use borrow.Author.Tests.{le-leb, lt-leb}
 use Rattle.refusal.specs.declared.Refusal.TheVariants.{ColumnRoom, WrongIndex}
-use Rattle.refusal.specs.declared.Acceptance.{Acceptance}
-use Rattle.refusal.specs.declared.Acceptance.TheVariants.{Accepted, Refused}
 use Rattle.columns.specs.Columns.{tail_of}
 use Rattle.columns.specs.Same.{equal}
 use Rattle.columns.proofs.Filled.{take-filled, length-filled}
@@ -19,6 +17,8 @@ use Rattle.uses.proofs.Laws.{Indexed, parts_of}
 use Rattle.uses.proofs.Room.{pairs_in_lem}
 use Rattle.indextable.specs.Index.{TableIndex, index_by, index_room, begin_with, held_acceptance}
 use Rattle.indextable.specs.Checkable.{Checkable, Held}
+use Rattle.refusal.specs.Answers.{Acceptance}
+use Rattle.std.specs.Prelude.{Ok, Err}
 
 module _ {spans tails pairs lines : List ℕ} {more : ℕ} (h : Held spans tails more pairs lines) (index list : List ℕ) where
   abbrev here : TableIndex
@@ -27,7 +27,7 @@ module _ {spans tails pairs lines : List ℕ} {more : ℕ} (h : Held spans tails
   abbrev answer : Acceptance
   answer = held_acceptance (pairs_in pairs) more here index list
 
-  pub held_few : length index < length pairs → Refused ColumnRoom ≡ answer
+  pub held_few : length index < length pairs → Err ColumnRoom ≡ answer
   unfolding held_acceptance index_room
   held_few l = rw (lt-leb (2 * pairs_in pairs) (length index) (omega (arith, h.indexable.even)))
 
@@ -45,7 +45,7 @@ module _ {spans tails pairs lines : List ℕ} {more : ℕ} (h : Held spans tails
         let l = ap length made.list_is ∙ length-filled here.list lines h.indexable.room in
         omega (arith, made.total_is, h.indexable.room)
 
-    pub held_short : length list < total + more → Refused ColumnRoom ≡ answer
+    pub held_short : length list < total + more → Err ColumnRoom ≡ answer
     unfolding held_acceptance index_room
     held_short l =
         rw (le-leb (2 * pairs_in pairs) (length index) (omega (arith, h.indexable.even)), lt-leb (length here.list + more) (length list) (omega (arith, made.total_is)))
@@ -61,20 +61,20 @@ module _ {spans tails pairs lines : List ℕ} {more : ℕ} (h : Held spans tails
       same_lists : equal (take total list) (take total ls) ≡ equal (take (length here.list) list) here.list
       same_lists = ap₂ (λ (k : ℕ) (z : List ℕ). equal (take k list) z) made.total_is built
 
-      roomy : index_room (pairs_in pairs) (length here.list + more) index list ≡ Accepted
+      roomy : index_room (pairs_in pairs) (length here.list + more) index list ≡ Ok tt
       unfolding index_room
       roomy =
           rw (le-leb (2 * pairs_in pairs) (length index) (omega (arith, h.indexable.even)), le-leb (length here.list + more) (length list) (omega (arith, made.total_is)))
 
-      pub held_other_pairs : equal (take (length pairs) index) ps ≡ false → Refused WrongIndex ≡ answer
+      pub held_other_pairs : equal (take (length pairs) index) ps ≡ false → Err WrongIndex ≡ answer
       unfolding held_acceptance begin_with
       held_other_pairs q = rw (roomy, sym same_pairs ∙ q)
 
-      pub held_other_list : equal (take (length pairs) index) ps ≡ true → equal (take total list) (take total ls) ≡ false → Refused WrongIndex ≡ answer
+      pub held_other_list : equal (take (length pairs) index) ps ≡ true → equal (take total list) (take total ls) ≡ false → Err WrongIndex ≡ answer
       unfolding held_acceptance begin_with
       held_other_list q r = rw (roomy, sym same_pairs ∙ q, sym same_lists ∙ r)
 
-      pub held_right : equal (take (length pairs) index) ps ≡ true → equal (take total list) (take total ls) ≡ true → Accepted ≡ answer
+      pub held_right : equal (take (length pairs) index) ps ≡ true → equal (take total list) (take total ls) ≡ true → (Ok tt) ≡ answer
       unfolding held_acceptance begin_with
       held_right q r = rw (roomy, sym same_pairs ∙ q, sym same_lists ∙ r)
 

@@ -8,8 +8,6 @@ use lib.Seq.{length-take-le}
 use borrow.Author.Tests.{le-leb, lt-leb}
 use Rattle.refusal.specs.declared.Refusal.{Refusal}
 use Rattle.refusal.specs.declared.Refusal.TheVariants.{ColumnRoom}
-use Rattle.refusal.specs.declared.Acceptance.TheVariants as answer
-use Rattle.refusal.specs.declared.Extent.TheVariants.{Length, Refused}
 use Rattle.columns.specs.Columns.{Columns, tail_of, tail_at}
 use Rattle.columns.specs.Acceptance.{acceptance}
 use Rattle.columns.specs.Filled.{filled}
@@ -20,6 +18,7 @@ use Rattle.uses.proofs.Pairs.{length_pairs}
 use Rattle.uses.proofs.Whole.{offset, all-pairs, all_listed}
 use Rattle.uses.proofs.Room.{pairs_in_lem, table_measurable}
 use Rattle.indextable.specs.Index.{TableIndex, index_by, index_room, index_acceptance, IndexOutcome, index_outcome, table_indexed}
+use Rattle.std.specs.Prelude.{Ok, Err}
 
 module _ {spans tails room : List ℕ} (a : Measurable spans tails room) (index list : List ℕ) where
   -- the index of what the spans say, and the outcome of laying it
@@ -29,12 +28,12 @@ module _ {spans tails room : List ℕ} (a : Measurable spans tails room) (index 
   abbrev laid : IndexOutcome
   laid = index_outcome here index list (index_room (pairs_in room) (length here.list) index list)
 
-  pub few_places : length index < length room → record { result = Refused ColumnRoom; index = index; list = list } ≡ laid
+  pub few_places : length index < length room → record { result = Err ColumnRoom; index = index; list = list } ≡ laid
   unfolding index_room
   few_places h = rw (lt-leb (2 * pairs_in room) (length index) (omega (arith, a.even)))
 
   module _ (fits : length room ≤ length index) where
-    pub short_list : length list < length here.list → record { result = Refused ColumnRoom; index = index; list = list } ≡ laid
+    pub short_list : length list < length here.list → record { result = Err ColumnRoom; index = index; list = list } ≡ laid
     unfolding index_room
     short_list h = rw (le-leb (2 * pairs_in room) (length index) (omega (arith, a.even)), lt-leb (length here.list) (length list) h)
 
@@ -55,7 +54,7 @@ module _ {spans tails room : List ℕ} (a : Measurable spans tails room) (index 
               a.even,
             )
 
-        pub all_laid : {total : ℕ} {index₃ : List ℕ} → total ≡ length here.list → index₃ ≡ filled ix₃ index → record { result = Length total; index = index₃; list = list₃ } ≡ laid
+        pub all_laid : {total : ℕ} {index₃ : List ℕ} → total ≡ length here.list → index₃ ≡ filled ix₃ index → record { result = Ok total; index = index₃; list = list₃ } ≡ laid
         unfolding index_room
         all_laid t p =
             let ps = p ∙ ap (λ (z : List ℕ). filled z index) (all-pairs indexable q f) in
@@ -63,7 +62,7 @@ module _ {spans tails room : List ℕ} (a : Measurable spans tails room) (index 
             rw (t, ps, ls, le-leb (2 * pairs_in room) (length index) (omega (arith, a.even)), le-leb (length here.list) (length list) enough)
 
 -- an accepted table
-module _ (c : Columns) (p : acceptance c ≡ answer.Accepted) where
+module _ (c : Columns) (p : acceptance c ≡ Ok tt) where
   spans_in : pairs_in c.spans ≡ length c.heads
   spans_in = pairs_in_lem c.spans (length c.heads) (table_accepted c p).spans
 
@@ -76,11 +75,11 @@ module _ (c : Columns) (p : acceptance c ≡ answer.Accepted) where
 
 -- the whole call
 module _ (c : Columns) (index list : List ℕ) where
-  pub table_refused : {r : Refusal} → acceptance c ≡ answer.Refused r → record { result = Refused r; index = index; list = list } ≡ table_indexed c index list
+  pub table_refused : {r : Refusal} → acceptance c ≡ Err r → record { result = Err r; index = index; list = list } ≡ table_indexed c index list
   unfolding table_indexed index_acceptance
   table_refused p = rw p
 
-  module _ (p : acceptance c ≡ answer.Accepted) where
+  module _ (p : acceptance c ≡ Ok tt) where
     pub table_laid : {o : IndexOutcome} → let x = index_by (tail_at c) (pairs_in c.spans) c.vertices in
         o ≡ index_outcome x index list (index_room c.vertices (length x.list) index list) → o ≡ table_indexed c index list
     unfolding table_indexed index_acceptance

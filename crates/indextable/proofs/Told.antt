@@ -12,7 +12,6 @@ use native.Mathlib.Omega.{arith}
 use lib.ListN.{length, get_or, take, length-take}
 use lib.Seq.{drop-nil, take-length, take-take, ext_get_or}
 use Rattle.weights.proofs.Choice.{both_true}
-use Rattle.refusal.specs.declared.Acceptance.TheVariants.{Accepted}
 use Rattle.columns.specs.Columns.{Columns, tail_at, with_own, with_strike}
 use Rattle.columns.specs.Acceptance.{acceptance}
 use Rattle.columns.specs.Filled.{filled}
@@ -24,6 +23,7 @@ use Rattle.uses.proofs.Lists.{offset_next}
 use Rattle.uses.proofs.Laws.{Indexed, index-length, offset_is, length_is, offset_start, offset_gapless, use_sound, use_complete, use_ascend}
 use Rattle.indextable.specs.Index.{index_of, begin_with, is_index}
 use Rattle.indextable.specs.Told.{offset_in, length_in, entry_in, IsEntry, Needs, Told}
+use Rattle.std.specs.Prelude.{Ok}
 
 module _ (c : Columns) where
   whole : Indexed (tail_at c) (length c.heads) c.vertices [] (length (index_of c).list) (index_of c).pairs (index_of c).list
@@ -52,7 +52,7 @@ module _ (c : Columns) where
     λ g. use_complete whole v e h g.numbered g.lists,
   )
 
-  pub index_told : acceptance c ≡ Accepted → Told c (index_of c).pairs (index_of c).list
+  pub index_told : acceptance c ≡ Ok tt → Told c (index_of c).pairs (index_of c).list
   index_told p = record {
     places = index-length whole;
     start = offset_start whole;
@@ -191,7 +191,7 @@ module _ (c : Columns) {p l p' l' : List ℕ} (t : Told c p l) (t' : Told c p' l
           let a = t.last v q in
           ext_get_or 0 l l' (omega (arith, t'.last v q, offsets_same v h, lengths_same v h)) (λ i k. place_same i v h (omega arith))
 
-module _ (c : Columns) (accepted : acceptance c ≡ Accepted) where
+module _ (c : Columns) (accepted : acceptance c ≡ Ok tt) where
   -- the index of a table is fixed by what is said of it
   pub index_fixed : (p l : List ℕ) → Told c p l → (p ≡ (index_of c).pairs) × (l ≡ (index_of c).list)
   index_fixed p l t = (same_pairs c t (index_told c accepted), same_list c t (index_told c accepted))

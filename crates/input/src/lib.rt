@@ -12,6 +12,7 @@ use std::io;
 pub const BUFFER_LENGTH: usize = MOST_INPUT + 1;
 
 // A reading at its end: how many bytes came, and the last answer of `read`.
+// Kept: `last` is a number, as the clause `ended` and the theorem `whole_reported` say it.
 #[derive(Clone, Copy)]
 pub struct Read {
     pub count: usize,
@@ -26,6 +27,7 @@ pub fn read_from<R: io::Read>(reader: &mut R, buf: &mut [u8]) -> Read
 {
     let mut at: usize = 0;
     let mut last: isize = 0;
+    // Kept: a turn reads as much as there is, and no index is counted.
     while at < buf.len() {
         let Ok(more) = reader.read(&mut buf[at..]) else {
             return Read {

@@ -12,8 +12,6 @@ use Rattle.weights.specs.declared.Measure.{Measure}
 use Rattle.weights.specs.Choice.{pick}
 use Rattle.refusal.specs.declared.Refusal.{Refusal}
 use Rattle.refusal.specs.declared.Refusal.TheVariants.{OpeningCount}
-use Rattle.refusal.specs.declared.Acceptance.{Acceptance}
-use Rattle.refusal.specs.declared.Acceptance.TheVariants.{Accepted, Refused}
 use Rattle.refusal.specs.Refusals.{place_of}
 use Rattle.columns.specs.Columns.{Answers, Entries, Columns, cell}
 use Rattle.columns.specs.Acceptance.{most_vertices, lent_acceptance}
@@ -31,6 +29,8 @@ use Rattle.inventory.specs.Record.{Stops}
 use Rattle.inventory.specs.Asked.{LevelRecord, FirstHigh, RightShelf, RightReplay, WrongReplay, ReplayOwes}
 use Rattle.inventory.proofs.Opening.{record_accepted, open_accepted}
 use Rattle.inventory.proofs.Replayed.{ended}
+use Rattle.refusal.specs.Answers.{Acceptance}
+use Rattle.std.specs.Prelude.{Ok, Err}
 
 -- of counts that begin with part i's, the first that is above the limit
 high_cons : (x : ℕ) (xs : List ℕ) (j : ℕ) → x ≤ most_stock → FirstHigh xs j → FirstHigh (x ∷ xs) (suc j)
@@ -40,13 +40,13 @@ high_cons x xs j h f = record { within = omega (arith, f.within); high = f.high;
     below zero l = h
     below (suc u) l = f.first u (omega arith)
 
-opening-first : (i : ℕ) (xs : List ℕ) {r : Refusal} → opening_acceptance i xs ≡ Refused r → (j : ℕ) × (r ≡ OpeningCount (record { 0 = i + j })) × FirstHigh xs j
+opening-first : (i : ℕ) (xs : List ℕ) {r : Refusal} → opening_acceptance i xs ≡ Err r → (j : ℕ) × (r ≡ OpeningCount (record { 0 = i + j })) × FirstHigh xs j
 unfolding opening_acceptance
 opening-first i [] e = absurd (refused (sym e))
 opening-first i (x ∷ xs) {r} e = go (leb x most_stock) refl e (opening-first (i + 1) xs)
   where
-    go : (b : Bool) → leb x most_stock ≡ b → pick b (opening_acceptance (i + 1) xs) (Refused (OpeningCount (record { 0 = i }))) ≡ Refused r
-        → (opening_acceptance (i + 1) xs ≡ Refused r → (j : ℕ) × (r ≡ OpeningCount (record { 0 = i + 1 + j })) × FirstHigh xs j)
+    go : (b : Bool) → leb x most_stock ≡ b → pick b (opening_acceptance (i + 1) xs) (Err (OpeningCount (record { 0 = i }))) ≡ Err r
+        → (opening_acceptance (i + 1) xs ≡ Err r → (j : ℕ) × (r ≡ OpeningCount (record { 0 = i + 1 + j })) × FirstHigh xs j)
         → (j : ℕ) × (r ≡ OpeningCount (record { 0 = i + j })) × FirstHigh (x ∷ xs) j
     go true p q rest =
         let w = rest q in
@@ -70,7 +70,7 @@ module _ (m : Measure) (c : Columns) (a : Entries) (vs ks stock os : List ℕ) w
       test_refuses (eqb (length os) (length vs)) _ _ (λ e. WrongReplay.unlevel few (λ l. eqb-false _ _ e l.outcomes)) (λ _.
       test_refuses (leb (length vs) most_events) _ _ (λ e. WrongReplay.unlevel few (λ l. omega (arith, leb-false (length vs) most_events e, l.events))) (λ _. none_refuses))))
 
-  leveled : record_acceptance c.vertices vs ks os ≡ Accepted → LevelRecord vs ks os
+  leveled : record_acceptance c.vertices vs ks os ≡ Ok tt → LevelRecord vs ks os
   leveled p = let r = record_accepted c.vertices vs ks os p in record { received = r.received; outcomes = r.outcomes; events = r.events }
 
   open_wrong : Refuses Wrong (open_acceptance m c a vs ks stock os)
@@ -91,7 +91,7 @@ module _ (m : Measure) (c : Columns) (a : Entries) (vs ks stock os : List ℕ) w
             subst Wrong (sym r) (WrongReplay.opening l t e f w.0 w.2);
       }))))
 
-  right_shelf : open_acceptance m c a vs ks stock os ≡ Accepted → RightShelf m c a vs ks stock os
+  right_shelf : open_acceptance m c a vs ks stock os ≡ Ok tt → RightShelf m c a vs ks stock os
   right_shelf p =
       let o = open_accepted m c a vs ks stock os p in
       let r = o.recorded in
@@ -109,19 +109,19 @@ module _ (m : Measure) (c : Columns) (a : Entries) (vs ks stock os : List ℕ) w
     where
       go : (x : Acceptance) → open_acceptance m c a vs ks stock os ≡ x → (y : Run) → replay_from (chosen_list c a.labels) 0 vs ks stock ≡ y
           → ReplayOwes m c a vs ks stock os (concluded (begun x y) stock os)
-      go Accepted e (finished s o) f =
+      go (Ok _) e (finished s o) f =
           Owed.accepted (record { shelf = right_shelf e; final = s; outcomes = o; replays = ended m c a vs ks stock os (finished s o) f (open_accepted m c a vs ks stock os e) })
-      go Accepted e (stopped r) f = Owed.refused (WrongReplay.event (right_shelf e) (ended m c a vs ks stock os (stopped r) f (open_accepted m c a vs ks stock os e)))
-      go (Refused r) e y f = Owed.refused (open_wrong.holds e)
+      go (Ok _) e (stopped r) f = Owed.refused (WrongReplay.event (right_shelf e) (ended m c a vs ks stock os (stopped r) f (open_accepted m c a vs ks stock os e)))
+      go (Err r) e y f = Owed.refused (open_wrong.holds e)
 
 -- a call that is refused was wrong
-pub owed_wrong : (m : Measure) (c : Columns) (a : Entries) (vs ks stock os : List ℕ) {r : Refusal} → (replayed m c a vs ks stock os).result ≡ Refused r
+pub owed_wrong : (m : Measure) (c : Columns) (a : Entries) (vs ks stock os : List ℕ) {r : Refusal} → (replayed m c a vs ks stock os).result ≡ Err r
     → WrongReplay m c a vs ks stock os r
 owed_wrong m c a vs ks stock os {r} p = go (replay_owes m c a vs ks stock os) p
   where
     go : {x : Acceptance} {l : List ℕ × List ℕ}
-        → Owed {L = List ℕ × List ℕ} Refused (stock, os) (RightReplay m c a vs ks stock os) (λ _. Accepted) (λ q. (q.final, q.outcomes)) (WrongReplay m c a vs ks stock os) x l
-        → x ≡ Refused r → WrongReplay m c a vs ks stock os r
+        → Owed {L = List ℕ × List ℕ} Err (stock, os) (RightReplay m c a vs ks stock os) (λ _. (Ok tt)) (λ q. (q.final, q.outcomes)) (WrongReplay m c a vs ks stock os) x l
+        → x ≡ Err r → WrongReplay m c a vs ks stock os r
     go (Owed.accepted q) e = absurd (refused (sym e))
     go (Owed.refused w) e = subst (WrongReplay m c a vs ks stock os) (same_refusal e) w
 

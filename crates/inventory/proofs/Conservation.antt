@@ -13,7 +13,7 @@ use Rattle.weights.specs.Choice.{pick}
 use Rattle.columns.specs.Columns.{Answers, Columns, columns, answers, cell}
 use Rattle.provenance.specs.Counting.{once, count}
 use Rattle.inventory.specs.declared.Fulfilment.{Fulfilment}
-use Rattle.inventory.specs.declared.Step.TheVariants.{Done}
+use Rattle.std.specs.Prelude.{Ok}
 use Rattle.inventory.specs.Shelf.{most_stock, chosen_tail, Low}
 use Rattle.inventory.specs.Replaying.{Stepped, stepped, apply_event}
 use Rattle.inventory.specs.Record.{list_of, Happens, Replays, receipts, issues, uses}
@@ -73,7 +73,7 @@ module _ (c : Columns) (a : Answers) where
 
 -- an event that is done leaves no count above the limit
 pub event_low : (spans tails depths edges : List ℕ) (i v k : ℕ) (s : List ℕ) {f : Fulfilment} {t : List ℕ}
-    → apply_event (chosen_tail spans tails depths edges) i v k s ≡ stepped (Done f) t → Low s → Low t
+    → apply_event (chosen_tail spans tails depths edges) i v k s ≡ stepped (Ok f) t → Low s → Low t
 event_low spans tails depths edges i v k s e low =
     let c = columns 0 [] [] [] spans tails in
     let a = answers [] depths edges in

@@ -13,8 +13,6 @@ use borrow.Author.Tests.{leb-true, leb-false, eqb-true, le-leb, lt-leb, eq-eqb, 
 use Rattle.weights.specs.declared.Measure.{Measure}
 use Rattle.refusal.specs.declared.Refusal.{Refusal}
 use Rattle.refusal.specs.declared.Refusal.TheVariants.{TooManyVertices, Lengths, AnswerLength, WrongAnswers, OpeningCount}
-use Rattle.refusal.specs.declared.Acceptance.{Acceptance}
-use Rattle.refusal.specs.declared.Acceptance.TheVariants.{Accepted, Refused}
 use Rattle.columns.specs.Columns.{Answers, Entries, Columns, cell}
 use Rattle.columns.specs.Acceptance.{most_vertices, test, lent_acceptance}
 use Rattle.columns.specs.Right.{Few, WrongTable, WrongLent}
@@ -27,6 +25,8 @@ use Rattle.inventory.specs.Shelf.{most_stock, most_events}
 use Rattle.inventory.specs.Replaying.{opening_acceptance, record_acceptance, open_acceptance}
 use Rattle.inventory.specs.Record.{list_of, Elsewhere, Missing, Happens, Replays, Stops}
 use Rattle.inventory.specs.Asked.{LevelRecord, FirstHigh, RightShelf, RightReplay, WrongReplay}
+use Rattle.refusal.specs.Answers.{Acceptance}
+use Rattle.std.specs.Prelude.{Ok, Err}
 
 -- counts that agree at v, and elsewhere with the same counts, are the same
 same_counts : (v : ℕ) (s t u : List ℕ) → length t ≡ length u → cell t v ≡ cell u v → Elsewhere v s t → Elsewhere v s u → t ≡ u
@@ -102,23 +102,23 @@ module _ (c : Columns) (a : Answers) where
   stops_once {i} {r = r} (Stops.later {vs = vs} {ks = ks} h l x w) (Stops.later h' l' x' w') =
       stops_once w (subst (λ (z : List ℕ). Stops c a (i + 1) vs ks z r) (sym (happens_once l l' x x').1) w')
 
-opening_low : (i : ℕ) (xs : List ℕ) → ((u : ℕ) → cell xs u ≤ most_stock) → opening_acceptance i xs ≡ Accepted
+opening_low : (i : ℕ) (xs : List ℕ) → ((u : ℕ) → cell xs u ≤ most_stock) → opening_acceptance i xs ≡ Ok tt
 unfolding opening_acceptance
 opening_low i [] f = refl
 opening_low i (x ∷ xs) f = rw (le-leb x most_stock (f 0)) (opening_low (i + 1) xs (λ u. f (suc u)))
 
-opening_high : (i : ℕ) (xs : List ℕ) (j : ℕ) → FirstHigh xs j → opening_acceptance i xs ≡ Refused (OpeningCount (record { 0 = i + j }))
+opening_high : (i : ℕ) (xs : List ℕ) (j : ℕ) → FirstHigh xs j → opening_acceptance i xs ≡ Err (OpeningCount (record { 0 = i + j }))
 unfolding opening_acceptance
 opening_high i [] j h = absurd (omega (arith, h.within))
 opening_high i (x ∷ xs) zero h =
     let k : i ≡ i + 0 = omega arith in
-    rw (lt-leb x most_stock h.high) (ap (λ (z : ℕ). Refused (OpeningCount (record { 0 = z }))) k)
+    rw (lt-leb x most_stock h.high) (ap (λ (z : ℕ). Err (OpeningCount (record { 0 = z }))) k)
 opening_high i (x ∷ xs) (suc j) h =
     let k : i + 1 + j ≡ i + suc j = omega arith in
     let w = opening_high (i + 1) xs j (record { within = omega (arith, h.within); high = h.high; first = λ u l. h.first (suc u) (omega arith) }) in
-    rw (le-leb x most_stock (h.first 0 (omega arith))) (w ∙ ap (λ (z : ℕ). Refused (OpeningCount (record { 0 = z }))) k)
+    rw (le-leb x most_stock (h.first 0 (omega arith))) (w ∙ ap (λ (z : ℕ). Err (OpeningCount (record { 0 = z }))) k)
 
-one_fails : (b : Bool) (r : Refusal) (x : Acceptance) → (b ≡ true → x ≡ Refused r) → test b r x ≡ Refused r
+one_fails : (b : Bool) (r : Refusal) (x : Acceptance) → (b ≡ true → x ≡ Err r) → test b r x ≡ Err r
 one_fails true r x f = f refl
 one_fails false r x f = refl
 
@@ -126,15 +126,15 @@ module _ (m : Measure) (c : Columns) (a : Entries) (vs ks stock os : List ℕ) w
   abbrev opens : Acceptance
   opens = open_acceptance m c a vs ks stock os
 
-  level_passes : Few c → LevelRecord vs ks os → record_acceptance c.vertices vs ks os ≡ Accepted
+  level_passes : Few c → LevelRecord vs ks os → record_acceptance c.vertices vs ks os ≡ Ok tt
   unfolding record_acceptance
   level_passes f l = rw (le-leb _ _ f, eq-eqb _ _ l.received, eq-eqb _ _ l.outcomes, le-leb _ _ l.events)
 
-  many_fails : ¬ Few c → record_acceptance c.vertices vs ks os ≡ Refused TooManyVertices
+  many_fails : ¬ Few c → record_acceptance c.vertices vs ks os ≡ Err TooManyVertices
   unfolding record_acceptance
   many_fails n = rw (lt-leb c.vertices most_vertices (omega (arith, n)))
 
-  unlevel_fails : Few c → ¬ LevelRecord vs ks os → record_acceptance c.vertices vs ks os ≡ Refused Lengths
+  unlevel_fails : Few c → ¬ LevelRecord vs ks os → record_acceptance c.vertices vs ks os ≡ Err Lengths
   unfolding record_acceptance
   unlevel_fails f n =
       rw (le-leb c.vertices most_vertices f)
@@ -145,10 +145,10 @@ module _ (m : Measure) (c : Columns) (a : Entries) (vs ks stock os : List ℕ) w
 
   -- refused before the events, or by one of them
   data Told : Refusal → Type 0 where
-    early : {r : Refusal} → opens ≡ Refused r → Told r
+    early : {r : Refusal} → opens ≡ Err r → Told r
     event : {r : Refusal} → RightShelf m c a vs ks stock os → Stops c a.labels 0 vs ks stock r → Told r
 
-  lent_told : {r : Refusal} → LevelRecord vs ks os → lent_acceptance c a ≡ Refused r → Told r
+  lent_told : {r : Refusal} → LevelRecord vs ks os → lent_acceptance c a ≡ Err r → Told r
   unfolding open_acceptance
   lent_told {r} l q = go (leb c.vertices most_vertices) refl
     where
@@ -170,11 +170,11 @@ module _ (m : Measure) (c : Columns) (a : Entries) (vs ks stock os : List ℕ) w
       early {r = WrongAnswers} (rw (level_passes t.table.few l, q, eq-eqb _ _ e, (same_fails m c a q).1 n))
   told (WrongReplay.opening l t e f v h) =
       let q = (lent_exactly c a).1 t in
-      let w = opening_high 0 stock v h ∙ ap (λ (z : ℕ). Refused (OpeningCount (record { 0 = z }))) (zero-add v) in
+      let w = opening_high 0 stock v h ∙ ap (λ (z : ℕ). Err (OpeningCount (record { 0 = z }))) (zero-add v) in
       early {r = OpeningCount (record { 0 = v })} (rw (level_passes t.table.few l, q, eq-eqb _ _ e, (same_exactly m c a q).1 f) w)
   told (WrongReplay.event s w) = event s w
 
-  shelf_opens : RightShelf m c a vs ks stock os → opens ≡ Accepted
+  shelf_opens : RightShelf m c a vs ks stock os → opens ≡ Ok tt
   unfolding open_acceptance
   shelf_opens s =
       let q = (lent_exactly c a).1 s.lent in

@@ -15,8 +15,8 @@ use Rattle.columns.specs.Columns.{Answers, Columns, cell, tail_of}
 use Rattle.provenance.proofs.Counting.{once_same}
 use Rattle.inventory.specs.declared.Fulfilment.{Fulfilment}
 use Rattle.inventory.specs.declared.Fulfilment.TheVariants.{Received, Issued, Built, Late}
-use Rattle.inventory.specs.declared.Step.{Step}
-use Rattle.inventory.specs.declared.Step.TheVariants.{Done, Refused}
+use Rattle.std.specs.Prelude.{Result, Ok, Err}
+use Rattle.refusal.specs.declared.Refusal.{Refusal}
 use Rattle.inventory.specs.Shelf.{most_stock, chosen_tail}
 use Rattle.inventory.specs.Replaying.{outcome_number, suffices, consumed, Fulfilled, fulfilled, build, fulfil, stepped, ordered, receive, apply_event, Run, finished, stopped, resumed, after, replay_from, chosen_list}
 use Rattle.inventory.specs.Record.{depth_of, list_of, Missing, Happens, Replays, Stops}
@@ -77,18 +77,18 @@ module _ (c : Columns) (a : Answers) where
         go false p = build_does (omega (arith, ltb-false 0 (cell s v) p))
 
   -- an event that is done, or the refusal of the record where it is the first event that is left
-  abbrev pub Tells : (i v k : ℕ) (vs ks s : List ℕ) → Step → List ℕ → Type 0
-  Tells i v k vs ks s (Done f) t = (v < length s) × (length t ≡ length s) × Happens c a v k s (outcome_number f) t
-  Tells i v k vs ks s (Refused r) t = Stops c a i (v ∷ vs) (k ∷ ks) s r
+  abbrev pub Tells : (i v k : ℕ) (vs ks s : List ℕ) → Result Fulfilment Refusal → List ℕ → Type 0
+  Tells i v k vs ks s (Ok f) t = (v < length s) × (length t ≡ length s) × Happens c a v k s (outcome_number f) t
+  Tells i v k vs ks s (Err r) t = Stops c a i (v ∷ vs) (k ∷ ks) s r
 
   pub event_tells : (i v k : ℕ) (vs ks s : List ℕ) → let e = apply_event (chosen_list c a) i v k s in Tells i v k vs ks s e.result e.stock
   unfolding apply_event receive
   event_tells i v k vs ks s = go (ltb v (length s)) refl (ltb 0 k) refl (leb (cell s v + k) most_stock) refl
     where
       go : (b : Bool) → ltb v (length s) ≡ b → (d : Bool) → ltb 0 k ≡ d → (e : Bool) → leb (cell s v + k) most_stock ≡ e →
-          let new = stepped (Done Received) (set s v (cell s v + k)) in
-          let full = stepped (Refused (ReceivedCount (record { 0 = i }))) s in
-          let x = pick b (pick d (pick e new full) (ordered (fulfil (chosen_list c a) s v))) (stepped (Refused (EventVertex (record { 0 = i }))) s) in
+          let new = stepped (Ok Received) (set s v (cell s v + k)) in
+          let full = stepped (Err (ReceivedCount (record { 0 = i }))) s in
+          let x = pick b (pick d (pick e new full) (ordered (fulfil (chosen_list c a) s v))) (stepped (Err (EventVertex (record { 0 = i }))) s) in
           Tells i v k vs ks s x.result x.stock
       go false p d q e r = Stops.vertex (ltb-false _ _ p)
       go true p false q e r =
@@ -119,15 +119,15 @@ module _ (c : Columns) (a : Answers) where
       let e = apply_event (chosen_list c a) i v k s in
       go e.result e.stock (replay_from (chosen_list c a) (i + 1) vs ks) (event_tells i v k vs ks s) (λ t. run_tells (i + 1) vs ks t (omega arith))
     where
-      on : (f : Fulfilment) (t : List ℕ) (run : Run) → Tells i v k vs ks s (Done f) t → RunTells (i + 1) vs ks t run
+      on : (f : Fulfilment) (t : List ℕ) (run : Run) → Tells i v k vs ks s (Ok f) t → RunTells (i + 1) vs ks t run
           → RunTells i (v ∷ vs) (k ∷ ks) s (resumed (outcome_number f ∷ []) run)
       on f t (finished u os) d m = Replays.more d.0 d.1 d.2 m
       on f t (stopped r) d m = Stops.later d.0 d.1 d.2 m
 
-      go : (x : Step) (t : List ℕ) (rest : List ℕ → Run) → Tells i v k vs ks s x t → ((t : List ℕ) → RunTells (i + 1) vs ks t (rest t))
+      go : (x : Result Fulfilment Refusal) (t : List ℕ) (rest : List ℕ → Run) → Tells i v k vs ks s x t → ((t : List ℕ) → RunTells (i + 1) vs ks t (rest t))
           → RunTells i (v ∷ vs) (k ∷ ks) s (after x t rest)
-      go (Refused r) t rest d m = d
-      go (Done f) t rest d m = on f t (rest t) d (m t)
+      go (Err r) t rest d m = d
+      go (Ok f) t rest d m = on f t (rest t) d (m t)
 
   pub replays_sized : {vs ks s os t : List ℕ} → Replays c a vs ks s os t → (length t ≡ length s) × (length os ≡ length vs)
   replays_sized Replays.none = (refl, refl)

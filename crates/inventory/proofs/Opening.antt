@@ -13,8 +13,6 @@ use Rattle.weights.specs.Measures.{algebra}
 use Rattle.weights.specs.Choice.{pick}
 use Rattle.refusal.specs.declared.Refusal.{Refusal}
 use Rattle.refusal.specs.declared.Refusal.TheVariants.{AnswerLength, WrongAnswers, OpeningCount}
-use Rattle.refusal.specs.declared.Acceptance.{Acceptance}
-use Rattle.refusal.specs.declared.Acceptance.TheVariants.{Accepted, Refused}
 use Rattle.columns.specs.Columns.{Answers, Entries, Columns, own_at, cell, tail_at}
 use Rattle.columns.specs.Acceptance.{most_vertices, lent_acceptance}
 use Rattle.columns.specs.Lent.{Placed}
@@ -30,6 +28,8 @@ use Rattle.settle.proofs.Demands.{answers_fixpoint}
 use Rattle.inventory.specs.Shelf.{most_stock, most_events, Low, Buildable, Replayable}
 use Rattle.inventory.specs.Replaying.{opening_acceptance, record_acceptance, open_acceptance, chosen_list}
 use Rattle.inventory.proofs.Meaning.{chosen_made, chosen_unmade}
+use Rattle.refusal.specs.Answers.{Acceptance}
+use Rattle.std.specs.Prelude.{Ok, Err}
 
 -- the record's lengths
 pub record Recorded (n : ℕ) (vs ks os : List ℕ) : Type 0 where
@@ -38,7 +38,7 @@ pub record Recorded (n : ℕ) (vs ks os : List ℕ) : Type 0 where
   pub outcomes : length os ≡ length vs
   pub events : length vs ≤ most_events
 
-pub record_accepted : (n : ℕ) (parts received outcomes : List ℕ) → record_acceptance n parts received outcomes ≡ Accepted → Recorded n parts received outcomes
+pub record_accepted : (n : ℕ) (parts received outcomes : List ℕ) → record_acceptance n parts received outcomes ≡ Ok tt → Recorded n parts received outcomes
 unfolding record_acceptance
 record_accepted n parts received outcomes p =
     let t1 = test_passed _ _ _ p in
@@ -47,14 +47,14 @@ record_accepted n parts received outcomes p =
     let t4 = test_passed _ _ _ t3.1 in
     record { vertices = leb-true _ _ t1.0; received = eqb-true _ _ t2.0; outcomes = eqb-true _ _ t3.0; events = leb-true _ _ t4.0 }
 
-opening_low : (i : ℕ) (stock : List ℕ) → opening_acceptance i stock ≡ Accepted → Low stock
+opening_low : (i : ℕ) (stock : List ℕ) → opening_acceptance i stock ≡ Ok tt → Low stock
 unfolding opening_acceptance
 opening_low i [] e zero = omega arith
 opening_low i [] e (suc v) = omega arith
 opening_low i (x ∷ xs) e v = go (leb x most_stock) refl e (opening_low (i + 1) xs) v
   where
-    go : (b : Bool) → leb x most_stock ≡ b → pick b (opening_acceptance (i + 1) xs) (Refused (OpeningCount (record { 0 = i }))) ≡ Accepted
-        → (opening_acceptance (i + 1) xs ≡ Accepted → Low xs) → Low (x ∷ xs)
+    go : (b : Bool) → leb x most_stock ≡ b → pick b (opening_acceptance (i + 1) xs) (Err (OpeningCount (record { 0 = i }))) ≡ Ok tt
+        → (opening_acceptance (i + 1) xs ≡ Ok tt → Low xs) → Low (x ∷ xs)
     go true p q rest zero = leb-true _ _ p
     go true p q rest (suc v) = rest q v
     go false p q rest v = absurd (refused q)
@@ -62,7 +62,7 @@ opening_low i (x ∷ xs) e v = go (leb x most_stock) refl e (opening_low (i + 1)
 -- what holds where nothing before the events is refused
 pub record Opened (m : Measure) (c : Columns) (a : Entries) (parts received stock outcomes : List ℕ) : Type 0 where
   pub recorded : Recorded c.vertices parts received outcomes
-  pub lent : lent_acceptance c a ≡ Accepted
+  pub lent : lent_acceptance c a ≡ Ok tt
   pub columns : AcceptedColumns c a
   pub level : length stock ≡ c.vertices
   pub same : same_entries a (entries_of m c) ≡ true
@@ -73,7 +73,7 @@ labels_same : (m : Measure) (c : Columns) (a : Entries) → same_entries a (entr
 unfolding entries_of
 labels_same m c a e = ap (λ (x : Entries). x.labels) (entries_true a (entries_of m c) e)
 
-pub open_accepted : (m : Measure) (c : Columns) (a : Entries) (parts received stock outcomes : List ℕ) → open_acceptance m c a parts received stock outcomes ≡ Accepted
+pub open_accepted : (m : Measure) (c : Columns) (a : Entries) (parts received stock outcomes : List ℕ) → open_acceptance m c a parts received stock outcomes ≡ Ok tt
     → Opened m c a parts received stock outcomes
 unfolding open_acceptance
 open_accepted m c a parts received stock outcomes p =
@@ -139,22 +139,22 @@ module _ (m : Measure) (c : Columns) (a : Entries) (parts received stock outcome
   abbrev verdict : Acceptance
   verdict = open_acceptance m c a parts received stock outcomes
 
-  pub open_unrecorded : {r : Refusal} → record_acceptance c.vertices parts received outcomes ≡ Refused r → Refused r ≡ verdict
+  pub open_unrecorded : {r : Refusal} → record_acceptance c.vertices parts received outcomes ≡ Err r → Err r ≡ verdict
   unfolding open_acceptance
   open_unrecorded p = rw p
 
-  module _ (p : record_acceptance c.vertices parts received outcomes ≡ Accepted) where
-    pub open_refused : {r : Refusal} → lent_acceptance c a ≡ Refused r → Refused r ≡ verdict
+  module _ (p : record_acceptance c.vertices parts received outcomes ≡ Ok tt) where
+    pub open_refused : {r : Refusal} → lent_acceptance c a ≡ Err r → Err r ≡ verdict
     unfolding open_acceptance
     open_refused q = rw (p, q)
 
-    module _ (q : lent_acceptance c a ≡ Accepted) where
-      pub open_unlevel : ¬ (length stock ≡ c.vertices) → Refused AnswerLength ≡ verdict
+    module _ (q : lent_acceptance c a ≡ Ok tt) where
+      pub open_unlevel : ¬ (length stock ≡ c.vertices) → Err AnswerLength ≡ verdict
       unfolding open_acceptance
       open_unlevel n = rw (p, q, ne_eqb (length stock) c.vertices n)
 
       module _ (l : length stock ≡ c.vertices) where
-        pub open_wrong : same_entries a (entries_of m c) ≡ false → Refused WrongAnswers ≡ verdict
+        pub open_wrong : same_entries a (entries_of m c) ≡ false → Err WrongAnswers ≡ verdict
         unfolding open_acceptance
         open_wrong s = rw (p, q, eq-eqb (length stock) c.vertices l, s)
 

@@ -8,16 +8,14 @@ use native.Mathlib.Omega.{arith}
 use lib.ListN.{length, set, take, drop, length-set, drop_of_length-le}
 use lib.Seq.{drop-cons, take_all}
 use lib.Dec.{ltb, leb, eqb}
+use Rattle.std.specs.Prelude.{Ok, Err}
 use borrow.Author.Tests.{le-leb, lt-leb, le-ltb, lt-ltb, eq-eqb, ne_eqb}
 use Rattle.weights.specs.Choice.{pick}
 use Rattle.refusal.specs.declared.Refusal.{Refusal}
 use Rattle.refusal.specs.declared.Refusal.TheVariants.{EventVertex, OpeningCount, ReceivedCount}
-use Rattle.refusal.specs.declared.Acceptance.{Acceptance}
-use Rattle.refusal.specs.declared.Acceptance.TheVariants.{Accepted, Refused}
 use Rattle.columns.specs.Columns.{cell}
 use Rattle.inventory.specs.declared.Fulfilment.{Fulfilment}
 use Rattle.inventory.specs.declared.Fulfilment.TheVariants.{Received, Issued, Built, Late}
-use Rattle.inventory.specs.declared.Step.TheVariants as step
 use Rattle.columns.specs.Filled.{filled}
 use Rattle.inventory.specs.Shelf.{most_stock, Low, Buildable, Replayable, Copied}
 use Rattle.inventory.specs.Replaying.{
@@ -41,6 +39,7 @@ use Rattle.inventory.specs.Replaying.{
   opening_acceptance,
 }
 use Rattle.inventory.proofs.Taking.{length-consumed}
+use Rattle.refusal.specs.Answers.{Acceptance}
 
 -- the opening counts from part i on: one that passes, one that is too large, and none left
 module _ (stock : List ℕ) (i : ℕ) where
@@ -48,11 +47,11 @@ module _ (stock : List ℕ) (i : ℕ) where
   unfolding opening_acceptance
   opening_pass h k = rw (add-one i, drop-cons stock i 0 h, le-leb _ _ k) (rw (add-one i))
 
-  pub opening_stop : i < length stock → most_stock < cell stock i → Refused (OpeningCount (record { 0 = i })) ≡ opening_acceptance i (drop i stock)
+  pub opening_stop : i < length stock → most_stock < cell stock i → Err (OpeningCount (record { 0 = i })) ≡ opening_acceptance i (drop i stock)
   unfolding opening_acceptance
   opening_stop h k = rw (drop-cons stock i 0 h, lt-leb _ _ k)
 
-  pub opening_end : length stock ≤ i → Accepted ≡ opening_acceptance i (drop i stock)
+  pub opening_end : length stock ≤ i → (Ok tt) ≡ opening_acceptance i (drop i stock)
   unfolding opening_acceptance
   opening_end h = rw (drop_of_length-le stock h)
 
@@ -106,13 +105,13 @@ pub length-receive : (i : ℕ) (stock : List ℕ) (v pieces : ℕ) → length (r
 unfolding receive
 length-receive i stock v pieces = go (leb (cell stock v + pieces) most_stock)
   where
-    go : (b : Bool) → length (pick b (stepped (step.Done Received) (set stock v (cell stock v + pieces))) (stepped (step.Refused (ReceivedCount (record { 0 = i }))) stock)).stock ≡ length stock
+    go : (b : Bool) → length (pick b (stepped (Ok Received) (set stock v (cell stock v + pieces))) (stepped (Err (ReceivedCount (record { 0 = i }))) stock)).stock ≡ length stock
     go true = length-set stock v (cell stock v + pieces)
     go false = refl
 
 -- and through an event
 module _ (lists : ℕ → List ℕ) (i v pieces : ℕ) (stock : List ℕ) where
-  pub event_absent : length stock ≤ v → stepped (step.Refused (EventVertex (record { 0 = i }))) stock ≡ apply_event lists i v pieces stock
+  pub event_absent : length stock ≤ v → stepped (Err (EventVertex (record { 0 = i }))) stock ≡ apply_event lists i v pieces stock
   unfolding apply_event
   event_absent h = rw (le-ltb v (length stock) h)
 
@@ -129,7 +128,7 @@ module _ (lists : ℕ → List ℕ) (i v pieces : ℕ) (stock : List ℕ) where
   unfolding apply_event
   length_applied = go (ltb v (length stock)) (ltb 0 pieces)
     where
-      go : (b d : Bool) → length (pick b (pick d (receive i stock v pieces) (ordered (fulfil lists stock v))) (stepped (step.Refused (EventVertex (record { 0 = i }))) stock)).stock ≡ length stock
+      go : (b d : Bool) → length (pick b (pick d (receive i stock v pieces) (ordered (fulfil lists stock v))) (stepped (Err (EventVertex (record { 0 = i }))) stock)).stock ≡ length stock
       go true true = length-receive i stock v pieces
       go true false = length-fulfil lists stock v
       go false d = refl
@@ -154,14 +153,14 @@ module _ (lists : ℕ → List ℕ) (parts received stock outcomes : List ℕ) (
   here = resumed (take i outcomes) (replay_from lists i (drop i parts) (drop i received) stock)
 
   module _ (h : i < length parts) (k : i < length received) where
-    pub events_step : (f : Fulfilment) (s : List ℕ) → i < length outcomes → apply_event lists i (cell parts i) (cell received i) stock ≡ stepped (step.Done f) s
+    pub events_step : (f : Fulfilment) (s : List ℕ) → i < length outcomes → apply_event lists i (cell parts i) (cell received i) stock ≡ stepped (Ok f) s
         → resumed (take (i + 1) (set outcomes i (outcome_number f))) (replay_from lists (i + 1) (drop (i + 1) parts) (drop (i + 1) received) s) ≡ here
     unfolding replay_from
     events_step f s l e =
         rw (add-one i, stored outcomes i (outcome_number f) l, drop-cons parts i 0 h, drop-cons received i 0 k, e)
         (rw (add-one i) (sym (resumed_twice (take i outcomes) (outcome_number f ∷ []) (replay_from lists (suc i) (drop (suc i) parts) (drop (suc i) received) s))))
 
-    pub events_stop : (r : Refusal) (s : List ℕ) → apply_event lists i (cell parts i) (cell received i) stock ≡ stepped (step.Refused r) s → stopped r ≡ here
+    pub events_stop : (r : Refusal) (s : List ℕ) → apply_event lists i (cell parts i) (cell received i) stock ≡ stepped (Err r) s → stopped r ≡ here
     unfolding replay_from
     events_stop r s e = rw (drop-cons parts i 0 h, drop-cons received i 0 k, e)
 
@@ -186,11 +185,11 @@ copies_replayable {ss} {ts} {ds} {es} r c e = record {
 
 -- where the run over copies ended, the lent columns are left as they came, or are the copies
 module _ (run : Run) (stock outcomes : List ℕ) where
-  pub copies_left : (x : Acceptance) (s o : List ℕ) {r : Refusal} → ran x s o ≡ run → x ≡ Refused r → record { result = Refused r; stock = stock; outcomes = outcomes } ≡ concluded run stock outcomes
+  pub copies_left : (x : Acceptance) (s o : List ℕ) {r : Refusal} → ran x s o ≡ run → x ≡ Err r → record { result = Err r; stock = stock; outcomes = outcomes } ≡ concluded run stock outcomes
   copies_left x s o e q = ap (λ (z : Run). concluded z stock outcomes) (ap (λ (y : Acceptance). ran y s o) (sym q) ∙ e)
 
-  pub copies_kept : (x : Acceptance) (s o : List ℕ) {s' o' : List ℕ} → ran x s o ≡ run → x ≡ Accepted → s' ≡ s → o' ≡ o
-      → record { result = Accepted; stock = s'; outcomes = o' } ≡ concluded run stock outcomes
+  pub copies_kept : (x : Acceptance) (s o : List ℕ) {s' o' : List ℕ} → ran x s o ≡ run → x ≡ Ok tt → s' ≡ s → o' ≡ o
+      → record { result = Ok tt; stock = s'; outcomes = o' } ≡ concluded run stock outcomes
   copies_kept x s o e q f g =
-      ap₂ (λ (y z : List ℕ). record { result = Accepted; stock = y; outcomes = z }) f g
+      ap₂ (λ (y z : List ℕ). record { result = Ok tt; stock = y; outcomes = z }) f g
       ∙ ap (λ (z : Run). concluded z stock outcomes) (ap (λ (y : Acceptance). ran y s o) (sym q) ∙ e)

@@ -1,10 +1,9 @@
 -- When a record is replayed, and by what the call is refused. Document 02, 2026-12: "opening counts go first, then events in order, 25 before 26 in each, after 8".
 -- Assumes nothing: these are definitions.
-use Rattle.std.specs.Prelude.{◌≡◌, List, ℕ, ◌≤◌, ◌<◌, length}
+use Rattle.std.specs.Prelude.{◌≡◌, List, ℕ, ◌≤◌, ◌<◌, length, Ok, Err}
 use Rattle.weights.specs.declared.Measure.{Measure}
 use Rattle.refusal.specs.declared.Refusal.{Refusal}
 use Rattle.refusal.specs.declared.Refusal.TheVariants.{TooManyVertices, Lengths, AnswerLength, WrongAnswers, OpeningCount}
-use Rattle.refusal.specs.declared.Acceptance.TheVariants.{Accepted, Refused}
 use Rattle.columns.specs.Columns.{Entries, Columns, cell}
 use Rattle.columns.specs.Owed.{Owed}
 use Rattle.columns.specs.Right.{Few, RightLent, WrongLent}
@@ -53,4 +52,4 @@ module _ (m : Measure) (c : Columns) (a : Entries) (vs ks stock os : List ℕ) w
   -- demand 1 of a replay that had this outcome: the final counts and the outcomes, or both columns as they came
   abbrev pub ReplayOwes : ReplayOutcome → Type 0
   ReplayOwes o =
-      Owed {L = List ℕ × List ℕ} Refused (stock, os) RightReplay (λ _. Accepted) (λ p. (p.final, p.outcomes)) WrongReplay o.result (o.stock, o.outcomes)
+      Owed {L = List ℕ × List ℕ} Err (stock, os) RightReplay (λ _. (Ok tt)) (λ p. (p.final, p.outcomes)) WrongReplay o.result (o.stock, o.outcomes)

@@ -1,9 +1,8 @@
 -- Request 2026-12 on the table of the paper's "A table priced whole", on a table with an unmade part, and refused records of each kind. Assumes nothing: these are definitions.
-use Rattle.std.specs.Prelude.{◌≡◌, List, [], ◌∷◌, ℕ}
+use Rattle.std.specs.Prelude.{◌≡◌, List, [], ◌∷◌, ℕ, Ok, Err}
 use Rattle.weights.specs.declared.Measure.TheVariants.{Cost}
 use Rattle.refusal.specs.declared.Refusal.{Refusal}
 use Rattle.refusal.specs.declared.Refusal.TheVariants.{EventVertex, OpeningCount, ReceivedCount}
-use Rattle.refusal.specs.declared.Acceptance.TheVariants.{Accepted, Refused}
 use Rattle.columns.specs.Columns.{Columns, columns}
 use Rattle.columns.specs.Worked.{worked}
 use Rattle.settle.specs.Settling.{entries_of}
@@ -14,10 +13,10 @@ abbrev pub recorded : Columns → (parts received stock outcomes : List ℕ) →
 recorded c parts received stock outcomes = replayed Cost c (entries_of Cost c) parts received stock outcomes
 
 abbrev pub leaves : (stock outcomes : List ℕ) → ReplayOutcome
-leaves s o = record { result = Accepted; stock = s; outcomes = o }
+leaves s o = record { result = Ok tt; stock = s; outcomes = o }
 
 abbrev pub keeps : Refusal → (stock outcomes : List ℕ) → ReplayOutcome
-keeps r s o = record { result = Refused r; stock = s; outcomes = o }
+keeps r s o = record { result = Err r; stock = s; outcomes = o }
 
 --   0 5 1
 --   1 5

@@ -1,15 +1,19 @@
 // Replaying a record of receipts and orders over the counts of a shelf: what became of each event, and
 // what is left.
+//
+// Kept: columns and rooms are lent, or arrays of a fixed size: the library and its programs use no heap.
 
 #![tactic(auto)]
 
 ghost use Rattle.std.specs.Prelude.{◌≡◌, true, ◌≤◌, ◌<◌, length};
-ghost use Rattle.columns.specs.Columns.{columns, entries, cell};
+ghost use Rattle.columns.specs.Columns.{cell};
+ghost use Rattle.columns.specs.Given.{columns_of, entries_in};
 ghost use Rattle.provenance.specs.Counting.{count};
 ghost use Rattle.inventory.specs.Replaying.{outcome_number, suffices, consumed, build, fulfil, receive, apply_event, ran, replay_from, opening_acceptance, record_acceptance, open_acceptance, concluded, replayed};
 ghost use Rattle.inventory.specs.Shelf.{most_stock, chosen_tail, Inside, Low, Buildable, Replayable, Copied};
 
-use refusal::{Acceptance, Event, Refusal};
+use columns::{Entries, Table};
+use refusal::{Event, Refusal};
 use weights::{Hyperedge, Measure, Vertex};
 
 // The most events of a record, and the greatest count of a vertex.
@@ -18,7 +22,7 @@ pub const MOST_EVENTS: usize = 4096;
 pub const MOST_STOCK: u64 = 1000000;
 
 // What becomes of an event.
-#[derive(Clone, Copy)]
+#[derive(Clone, Copy, PartialEq, Eq)]
 enum Fulfilment {
     // A receipt: its pieces are on the shelf.
     Received,
@@ -30,12 +34,12 @@ enum Fulfilment {
     Late,
 }
 
-impl Fulfilment {
-    // The number that stands for it in the column of outcomes.
-    fn number(self) -> u64
-        ensures { result ≡ outcome_number self }
-    {
-        match self {
+// The number that stands for it in the column of outcomes.
+impl From<Fulfilment> for u64 {
+    ghost from_gives = { λ f number. number ≡ outcome_number f };
+
+    fn from(f: Fulfilment) -> u64 {
+        match f {
             Fulfilment::Received => 0,
             Fulfilment::Issued => 1,
             Fulfilment::Built => 2,
@@ -44,26 +48,11 @@ impl Fulfilment {
     }
 }
 
-// What an event comes to.
-#[derive(Clone, Copy)]
-enum Step {
-    Done(Fulfilment),
-    Refused(Refusal),
-}
-
 // How often v stands in a list.
 fn count(v: Vertex, list: &[u64]) -> u64
     ensures { result ≡ count v.0 list.now }
 {
-    let mut times: u64 = 0;
-    let mut k = 0;
-    while k < list.len() {
-        if list[k] == v.0 {
-            times += 1;
-        }
-        k += 1;
-    }
-    times
+    list.iter().filter(|x| **x == v.0).count() as u64
 }
 
 // Whether the shelf has every vertex of a tail as often as it stands there.
@@ -71,16 +60,10 @@ fn suffices(tail: &[u64], stock: &[u64]) -> bool
     requires { Inside tail.now stock.now }
     ensures { result ≡ suffices stock.now tail.now }
 {
-    let mut k = 0;
-    while k < tail.len() {
-        let u = tail[k];
-        let i = u as usize;
-        let held = stock[i];
-        let needed = count(Vertex(u), tail);
-        if needed > held {
+    for &u in tail {
+        if count(Vertex(u), tail) > stock[u as usize] {
             return false;
         }
-        k += 1;
     }
     true
 }
@@ -90,13 +73,8 @@ fn consume(tail: &[u64], stock: &mut [u64])
     requires { (Inside tail.now stock.old) × (suffices stock.old tail.now ≡ true) }
     ensures { stock.new ≡ consumed stock.old tail.now }
 {
-    let mut k = 0;
-    while k < tail.len() {
-        let u = tail[k];
-        let i = u as usize;
-        let held = stock[i];
-        stock[i] = held - 1;
-        k += 1;
+    for &u in tail {
+        stock[u as usize] -= 1;
     }
 }
 
@@ -146,17 +124,17 @@ fn fulfil(
 
 // A receipt of event i. The count is compared with what is left to the greatest, as the sum could
 // wrap.
-fn receive(i: Event, v: Vertex, pieces: u64, stock: &mut [u64]) -> Step
+fn receive(i: Event, v: Vertex, pieces: u64, stock: &mut [u64]) -> Result<Fulfilment, Refusal>
     requires { (v.0 < length stock.old) × (cell stock.old v.0 ≤ most_stock) }
     ensures { record { result = result; stock = stock.new } ≡ receive i.0 stock.old v.0 pieces }
 {
     let place = v.0 as usize;
     let held = stock[place];
     if pieces > MOST_STOCK - held {
-        return Step::Refused(Refusal::ReceivedCount(i));
+        return Err(Refusal::ReceivedCount(i));
     }
     stock[place] = held + pieces;
-    Step::Done(Fulfilment::Received)
+    Ok(Fulfilment::Received)
 }
 
 // Event i: a receipt of so many pieces of v, or with 0 pieces an order.
@@ -169,19 +147,18 @@ fn apply_event(
     depths: &[u64],
     edges: &[u64],
     stock: &mut [u64],
-) -> Step
+) -> Result<Fulfilment, Refusal>
     requires { (Buildable spans.now tails.now depths.now edges.now (length stock.old)) × (Low stock.old) }
     ensures { let lists = chosen_tail spans.now tails.now depths.now edges.now in
         record { result = result; stock = stock.new } ≡ apply_event lists i.0 v.0 pieces stock.old }
 {
     if v.0 >= stock.len() as u64 {
-        return Step::Refused(Refusal::EventVertex(i));
+        return Err(Refusal::EventVertex(i));
     }
     if pieces > 0 {
         return receive(i, v, pieces, stock);
     }
-    let f = fulfil(v, spans, tails, depths, edges, stock);
-    Step::Done(f)
+    Ok(fulfil(v, spans, tails, depths, edges, stock))
 }
 
 // The events in order. Where one is refused, the counts and outcomes so far are of no use.
@@ -194,19 +171,16 @@ fn replay_events(
     edges: &[u64],
     stock: &mut [u64],
     outcomes: &mut [u64],
-) -> Acceptance
+) -> Result<(), Refusal>
     requires { Replayable spans.now tails.now depths.now edges.now parts.now received.now stock.old outcomes.old }
     ensures { let lists = chosen_tail spans.now tails.now depths.now edges.now in
         ran result stock.new outcomes.new ≡ replay_from lists 0 parts.now received.now stock.old }
 {
-    let mut i = 0;
-    while i < parts.len() {
-        let v = parts[i];
-        let pieces = received[i];
+    for (i, &v) in parts.iter().enumerate() {
         let step = apply_event(
             Event(i as u64),
             Vertex(v),
-            pieces,
+            received[i],
             spans,
             tails,
             depths,
@@ -214,15 +188,11 @@ fn replay_events(
             stock,
         );
         match step {
-            Step::Refused(r) => return Acceptance::Refused(r),
-            Step::Done(f) => {
-                let number = f.number();
-                outcomes[i] = number;
-            }
+            Err(r) => return Err(r),
+            Ok(f) => outcomes[i] = u64::from(f),
         }
-        i += 1;
     }
-    Acceptance::Accepted
+    Ok(())
 }
 
 // The same over copies, so that a refused record leaves the lent counts and outcomes as they came.
@@ -237,100 +207,75 @@ fn replay_on(
     outcomes: &mut [u64],
     counts: &mut [u64],
     numbers: &mut [u64],
-) -> Acceptance
+) -> Result<(), Refusal>
     requires { (Replayable spans.now tails.now depths.now edges.now parts.now received.now stock.old outcomes.old) × (Copied stock.old outcomes.old counts.old numbers.old) }
     ensures { let lists = chosen_tail spans.now tails.now depths.now edges.now in
         let run = replay_from lists 0 parts.now received.now stock.old in
         record { result = result; stock = stock.new; outcomes = outcomes.new } ≡ concluded run stock.old outcomes.old }
 {
     columns::put(stock, counts);
-    let a = replay_events(
+    replay_events(
         parts, received, spans, tails, depths, edges, counts, numbers,
-    );
-    match a {
-        Acceptance::Refused(r) => return Acceptance::Refused(r),
-        Acceptance::Accepted => {}
-    }
+    )?;
     columns::put(counts, stock);
     columns::put(numbers, outcomes);
-    Acceptance::Accepted
+    Ok(())
 }
 
 // Whether every opening count is at most the greatest: 26.
-fn check_opening(stock: &[u64]) -> Acceptance
+fn check_opening(stock: &[u64]) -> Result<(), Refusal>
     ensures { result ≡ opening_acceptance 0 stock.now }
 {
-    let mut i = 0;
-    while i < stock.len() {
-        if stock[i] > MOST_STOCK {
-            return Acceptance::Refused(Refusal::OpeningCount(Vertex(i as u64)));
+    for (i, &held) in stock.iter().enumerate() {
+        if held > MOST_STOCK {
+            return Err(Refusal::OpeningCount(Vertex(i as u64)));
         }
-        i += 1;
     }
-    Acceptance::Accepted
+    Ok(())
 }
 
 // 1, and 2 of the record: it comes before 2 of the table, which has the same number and place.
-fn check_record(n: u64, parts: &[u64], received: &[u64], outcomes: &[u64]) -> Acceptance
+fn check_record(n: u64, parts: &[u64], received: &[u64], outcomes: &[u64]) -> Result<(), Refusal>
     ensures { result ≡ record_acceptance n parts.now received.now outcomes.now }
 {
     if n > columns::MOST_VERTICES {
-        return Acceptance::Refused(Refusal::TooManyVertices);
+        return Err(Refusal::TooManyVertices);
     }
     if received.len() != parts.len() {
-        return Acceptance::Refused(Refusal::Lengths);
+        return Err(Refusal::Lengths);
     }
     if outcomes.len() != parts.len() {
-        return Acceptance::Refused(Refusal::Lengths);
+        return Err(Refusal::Lengths);
     }
     if parts.len() > MOST_EVENTS {
-        return Acceptance::Refused(Refusal::Lengths);
+        return Err(Refusal::Lengths);
     }
-    Acceptance::Accepted
+    Ok(())
 }
 
 // Whether the table, its answers, the record's lengths and the opening counts are right: 1 to 8 and
 // 21, then 26.
 fn check_open(
     measure: Measure,
-    n: u64,
-    heads: &[u64],
-    own: &[u64],
-    strikes: &[u64],
-    spans: &[u64],
-    tails: &[u64],
-    weights: &[u64],
-    depths: &[u64],
-    edges: &[u64],
-    pieces: &[u64],
+    table: &Table,
+    entries: &Entries,
     parts: &[u64],
     received: &[u64],
     stock: &[u64],
     outcomes: &[u64],
-) -> Acceptance
-    ensures { let c = columns n heads.now own.now strikes.now spans.now tails.now in
-        let a = entries weights.now depths.now edges.now pieces.now in
+) -> Result<(), Refusal>
+    ensures { let c = columns_of table.now in
+        let a = entries_in entries.now in
         result ≡ open_acceptance measure c a parts.now received.now stock.now outcomes.now }
 {
-    let r = check_record(n, parts, received, outcomes);
-    match r {
-        Acceptance::Refused(r) => return Acceptance::Refused(r),
-        Acceptance::Accepted => {}
-    }
-    let a = columns::check_lent(
-        n, heads, own, strikes, spans, tails, weights, depths, edges, pieces,
-    );
-    match a {
-        Acceptance::Refused(r) => return Acceptance::Refused(r),
-        Acceptance::Accepted => {}
-    }
+    let Table { vertices: n, .. } = *table;
+    check_record(n, parts, received, outcomes)?;
+    columns::check_lent(table, entries)?;
     if stock.len() as u64 != n {
-        return Acceptance::Refused(Refusal::AnswerLength);
+        return Err(Refusal::AnswerLength);
     }
-    if !settle::answers_right(
-        measure, n, heads, own, strikes, spans, tails, weights, depths, edges, pieces,
-    ) {
-        return Acceptance::Refused(Refusal::WrongAnswers);
+    if !settle::answers_right(measure, table, entries) {
+        return Err(Refusal::WrongAnswers);
     }
     check_opening(stock)
 }
@@ -339,33 +284,20 @@ fn check_open(
 // outcomes gets what became of each event.
 pub fn replay(
     measure: Measure,
-    n: u64,
-    heads: &[u64],
-    own: &[u64],
-    strikes: &[u64],
-    spans: &[u64],
-    tails: &[u64],
-    weights: &[u64],
-    depths: &[u64],
-    edges: &[u64],
-    pieces: &[u64],
+    table: &Table,
+    entries: &Entries,
     parts: &[u64],
     received: &[u64],
     stock: &mut [u64],
     outcomes: &mut [u64],
-) -> Acceptance
-    ensures { let c = columns n heads.now own.now strikes.now spans.now tails.now in
-        let a = entries weights.now depths.now edges.now pieces.now in
+) -> Result<(), Refusal>
+    ensures { let c = columns_of table.now in
+        let a = entries_in entries.now in
         record { result = result; stock = stock.new; outcomes = outcomes.new } ≡ replayed measure c a parts.now received.now stock.old outcomes.old }
 {
-    let a = check_open(
-        measure, n, heads, own, strikes, spans, tails, weights, depths, edges, pieces, parts,
-        received, stock, outcomes,
-    );
-    match a {
-        Acceptance::Refused(r) => return Acceptance::Refused(r),
-        Acceptance::Accepted => {}
-    }
+    let Entries { depths, edges, .. } = *entries;
+    let Table { spans, tails, .. } = *table;
+    check_open(measure, table, entries, parts, received, stock, outcomes)?;
     let mut counts = [0u64; 1024];
     let mut numbers = [0u64; 4096];
     let vertices = stock.len();

@@ -6,10 +6,9 @@ use Prim.Native.Nat.{ℕ, zero, suc, ◌+◌, ◌*◌, ◌^◌, ◌≤◌, ◌<�
 use native.Mathlib.Omega.{arith}
 use lib.ListN.{length, set, length-append}
 use lib.Dec.{leb}
+use Rattle.std.specs.Prelude.{Result, Ok, Err}
 use Rattle.weights.specs.declared.Measure.{Measure}
 use Rattle.refusal.specs.declared.Refusal.{Refusal}
-use Rattle.refusal.specs.declared.Acceptance.{Acceptance}
-use Rattle.refusal.specs.declared.Acceptance.TheVariants as answer
 use Rattle.refusal.specs.Refusals.{place_of, column_of}
 use Rattle.columns.specs.Columns.{Answers, Entries, Columns}
 use Rattle.columns.specs.Owed.{Owed}
@@ -24,18 +23,13 @@ use Rattle.text.proofs.Digits.{pick_by}
 use Rattle.report.specs.Report.{most_input, refused_line}
 use Rattle.report.proofs.Bounds.{refused_most}
 use Rattle.reply.specs.Reply.{most_reply, answered, on_second}
-use Rattle.ledger.specs.declared.Counts.{Counts}
-use Rattle.ledger.specs.declared.Counts.TheVariants as counts
 use Rattle.ledger.specs.declared.EventLine.{EventLine}
 use Rattle.ledger.specs.declared.EventLine.TheVariants as line
-use Rattle.ledger.specs.declared.Events.{Events}
-use Rattle.ledger.specs.declared.Events.TheVariants as events
-use Rattle.ledger.specs.declared.Record.{Record}
-use Rattle.ledger.specs.declared.Record.TheVariants as read
 use Rattle.ledger.specs.Record.{most_shelf, event_at, Listed, on_event, events_from, with_counts, on_counts, read_record, shelf_in}
 use Rattle.ledger.specs.Ledger.{most_row, outcome_row, outcome_rows, stock_line, ledger, replayed_said}
 use Rattle.ledger.proofs.Laws.{Placed, event_placed, FewCounts, shelf_kept}
 use Rattle.ledger.proofs.Rows.{row_most, counts_most}
+use Rattle.refusal.specs.Answers.{Acceptance}
 
 -- Refusals ---------------------------------------------------------------------------------------------------------------------------------------------
 
@@ -47,13 +41,13 @@ pub refusal_short : (r : Refusal) → Low r → length (refused_line r) ≤ most
 refusal_short r l = let w = refused_most r l.0 l.1 in omega arith
 
 -- of a text
-abbrev LowRead : Record → Type 0
-LowRead (read.Refused r) = Low r
-LowRead (read.Read k e) = Unit {0}
+abbrev LowRead : Result (ℕ × ℕ) Refusal → Type 0
+LowRead (Err r) = Low r
+LowRead (Ok (k, e)) = Unit {0}
 
-abbrev LowEvents : Events → Type 0
-LowEvents (events.Refused r) = Low r
-LowEvents (events.Count e) = Unit {0}
+abbrev LowEvents : Result ℕ Refusal → Type 0
+LowEvents (Err r) = Low r
+LowEvents (Ok e) = Unit {0}
 
 event_low : (s : List ℕ) (x : EventLine) (at i : ℕ) (vs ks : List ℕ) (more : (v k l : ℕ) → Listed) → length s ≤ most_input → i + 2 < 10_000 → Placed s at x
     → ((v k l : ℕ) → LowEvents (more v k l).events) → LowEvents (on_event x at i vs ks more).events
@@ -68,15 +62,15 @@ events_low (suc left) s at i vs ks h g =
     event_low s (event_at s at) at i vs ks (λ v k l. events_from left s l (i + 1) (set vs i v) (set ks i k)) h (omega arith) (event_placed s at)
     (λ v k l. events_low left s l (i + 1) (set vs i v) (set ks i k) h (omega arith))
 
-with_low : (k : ℕ) (x : Events) → LowEvents x → LowRead (with_counts k x)
-with_low k (events.Count e) h = tt
-with_low k (events.Refused r) h = h
+with_low : (k : ℕ) (x : Result ℕ Refusal) → LowEvents x → LowRead (with_counts k x)
+with_low k (Ok e) h = tt
+with_low k (Err r) h = h
 
-counts-low : (s : List ℕ) (n : ℕ) (x : Counts) (c vs ks : List ℕ) → length s ≤ most_input → length vs ≤ most_events → FewCounts s n x → LowRead (on_counts s x c vs ks).result
-counts-low s n (counts.Wrong p) c vs ks h g f = (omega arith, omega arith)
-counts-low s n (counts.Count k l) c vs ks h g f = with_low k (events_from (length vs) s l 0 vs ks).events (events_low (length vs) s l 0 vs ks h (omega arith))
+counts-low : (s : List ℕ) (n : ℕ) (x : Result (ℕ × ℕ) ℕ) (c vs ks : List ℕ) → length s ≤ most_input → length vs ≤ most_events → FewCounts s n x → LowRead (on_counts s x c vs ks).result
+counts-low s n (Err p) c vs ks h g f = (omega arith, omega arith)
+counts-low s n (Ok (k, l)) c vs ks h g f = with_low k (events_from (length vs) s l 0 vs ks).events (events_low (length vs) s l 0 vs ks h (omega arith))
 
-pub record_low : (s shelf vs ks : List ℕ) (r : Refusal) → length s ≤ most_input → length vs ≤ most_events → (read_record s shelf vs ks).result ≡ read.Refused r → Low r
+pub record_low : (s shelf vs ks : List ℕ) (r : Refusal) → length s ≤ most_input → length vs ≤ most_events → (read_record s shelf vs ks).result ≡ Err r → Low r
 record_low s shelf vs ks r h g e = subst LowRead e low
   where
     low : LowRead (read_record s shelf vs ks).result
@@ -143,7 +137,7 @@ module _ (m : Measure) (c : Columns) (a : Entries) (vs ks s os : List ℕ) (few 
   replayed_short = go (replay_owes m c a vs ks s os)
     where
       go : {x : Acceptance} {l : List ℕ × List ℕ}
-          → Owed {L = List ℕ × List ℕ} answer.Refused (s, os) (RightReplay m c a vs ks s os) (λ _. answer.Accepted) (λ q. (q.final, q.outcomes)) (WrongReplay m c a vs ks s os) x l
+          → Owed {L = List ℕ × List ℕ} Err (s, os) (RightReplay m c a vs ks s os) (λ _. (Ok tt)) (λ q. (q.final, q.outcomes)) (WrongReplay m c a vs ks s os) x l
           → length (on_second x (answered (ledger vs l.1 l.0))).bytes ≤ most_reply
       go (Owed.accepted p) = right_short p
       go (Owed.refused {r} w) = refusal_short r (wrong_low m c a vs ks s os few counted w)

@@ -7,10 +7,9 @@ use native.Mathlib.Omega.{arith}
 use lib.ListN.{length, get_or, set, length-set}
 use lib.Dec.{leb, eqb}
 use borrow.Author.Tests.{le-leb, lt-leb, leb-false, eq-eqb, ne_eqb, eqb-true}
+use Rattle.std.specs.Prelude.{Result, Ok, Err, Option, Some, None}
 use Rattle.refusal.specs.declared.Refusal.{Refusal}
 use Rattle.text.proofs.Digits.{pick_by}
-use Rattle.cursor.specs.declared.Found.{Found}
-use Rattle.cursor.specs.declared.Found.TheVariants as found
 use Rattle.cursor.specs.declared.Token.{Token}
 use Rattle.cursor.specs.declared.Separator.{Separator}
 use Rattle.cursor.specs.Cursor.{number_at, separator_at}
@@ -18,14 +17,8 @@ use Rattle.cursor.proofs.Counts.{byte_within, token_within}
 use Rattle.reading.specs.Lines.{agreeing}
 use Rattle.ledger.specs.declared.Next.{Next}
 use Rattle.ledger.specs.declared.Next.TheVariants as next
-use Rattle.ledger.specs.declared.Counts.{Counts}
-use Rattle.ledger.specs.declared.Counts.TheVariants as counts
 use Rattle.ledger.specs.declared.EventLine.{EventLine}
 use Rattle.ledger.specs.declared.EventLine.TheVariants as line
-use Rattle.ledger.specs.declared.Events.{Events}
-use Rattle.ledger.specs.declared.Events.TheVariants as events
-use Rattle.ledger.specs.declared.Record.{Record}
-use Rattle.ledger.specs.declared.Record.TheVariants as read
 use Rattle.ledger.specs.Record.{
   number_limit,
   wrong_at,
@@ -58,7 +51,7 @@ use Rattle.ledger.specs.Record.{
 
 -- What stands behind a word or a number --------------------------------------------------------------------------------------------------------------
 
-pub found_is : (s : List ℕ) (at : ℕ) (t : Token) → t ≡ number_at s at number_limit → (f : Found) → t.found ≡ f → as_next t.stop f ≡ found_number s at
+pub found_is : (s : List ℕ) (at : ℕ) (t : Token) → t ≡ number_at s at number_limit → (f : (Option ℕ)) → t.found ≡ f → as_next t.stop f ≡ found_number s at
 unfolding found_number
 found_is s at t e f g = ap (as_next t.stop) (sym g) ∙ ap (λ (z : Token). as_next z.stop z.found) e
 
@@ -76,9 +69,9 @@ place_of (next.Wrong p) = p
 abbrev pub Within : List ℕ → (at place : ℕ) → Type 0
 Within s at p = (at ≤ p) × (p ≤ length s)
 
-found_within : (s : List ℕ) (at stop : ℕ) (f : Found) → Within s at stop → Within s at (place_of (as_next stop f))
-found_within s at stop (found.Number v) h = h
-found_within s at stop found.NotANumber h = h
+found_within : (s : List ℕ) (at stop : ℕ) (f : (Option ℕ)) → Within s at stop → Within s at (place_of (as_next stop f))
+found_within s at stop (Some v) h = h
+found_within s at stop None h = h
 
 number_within : (s : List ℕ) (at : ℕ) → at ≤ length s → Within s at (place_of (found_number s at))
 unfolding found_number
@@ -104,10 +97,10 @@ module _ (s : List ℕ) (at i : ℕ) (c : List ℕ) where
   next-counts left rest x q e =
       ap (λ (k : ℕ). counts_from k s at i c) q ∙ ap (λ (z : Next). on_next z i c (λ v stop. counts_from rest s stop (i + 1) (set c i v))) e
 
-  pub counts_end : (l : ℕ) → i < length c → next_at s at ≡ next.End l → counts_from (length c - i) s at i c ≡ gathered (counts.Count i l) c
+  pub counts_end : (l : ℕ) → i < length c → next_at s at ≡ next.End l → counts_from (length c - i) s at i c ≡ gathered (Ok (i, l)) c
   counts_end l h e = next-counts (length c - i) (length c - (i + 1)) (next.End l) (omega arith) e
 
-  pub counts_wrong : (p : ℕ) → i < length c → next_at s at ≡ next.Wrong p → counts_from (length c - i) s at i c ≡ gathered (counts.Wrong p) c
+  pub counts_wrong : (p : ℕ) → i < length c → next_at s at ≡ next.Wrong p → counts_from (length c - i) s at i c ≡ gathered (Err p) c
   counts_wrong p h e = next-counts (length c - i) (length c - (i + 1)) (next.Wrong p) (omega arith) e
 
   pub counts-more : (v stop : ℕ) → i < length c → next_at s at ≡ next.Number v stop
@@ -121,9 +114,9 @@ module _ (s : List ℕ) (at i : ℕ) (c : List ℕ) where
   counts_full left x q e = ap (λ (k : ℕ). counts_from k s at i c) q ∙ ap (λ (z : Separator). gathered (on_full at i z) c) e
 
 -- no more counts than there are places, as many places as there were, and the place that is told is within the text
-abbrev pub FewCounts : List ℕ → ℕ → Counts → Type 0
-FewCounts s n (counts.Count k l) = (k ≤ n) × (l ≤ length s)
-FewCounts s n (counts.Wrong p) = p ≤ length s
+abbrev pub FewCounts : List ℕ → ℕ → Result (ℕ × ℕ) ℕ → Type 0
+FewCounts s n (Ok (k, l)) = (k ≤ n) × (l ≤ length s)
+FewCounts s n (Err p) = p ≤ length s
 
 abbrev pub KeptCounts : List ℕ → ℕ → Gathered → Type 0
 KeptCounts s n x = FewCounts s n x.counts × (length x.column ≡ n)
@@ -168,9 +161,9 @@ pub shelf_word : (s c : List ℕ) → agreeing stock_word s ≡ 5 → counts_fro
 unfolding shelf_in
 shelf_word s c e = rw (eq-eqb (agreeing stock_word s) 5 e)
 
-pub shelf_other : (s c : List ℕ) (k : ℕ) → k ≡ agreeing stock_word s → (k ≡ 5 → ⊥) → gathered (counts.Wrong k) c ≡ shelf_in s c
+pub shelf_other : (s c : List ℕ) (k : ℕ) → k ≡ agreeing stock_word s → (k ≡ 5 → ⊥) → gathered (Err k) c ≡ shelf_in s c
 unfolding shelf_in
-shelf_other s c k e n = ap (λ (z : ℕ). gathered (counts.Wrong z) c) e ∙ rw (ne_eqb (agreeing stock_word s) 5 (λ q. n (e ∙ q)))
+shelf_other s c k e n = ap (λ (z : ℕ). gathered (Err z) c) e ∙ rw (ne_eqb (agreeing stock_word s) 5 (λ q. n (e ∙ q)))
 
 -- A line of an event ---------------------------------------------------------------------------------------------------------------------------------
 
@@ -195,7 +188,7 @@ pub event_end : (s : List ℕ) (at : ℕ) → length s ≤ at → line.End ≡ e
 unfolding event_at
 event_end s at h = rw (le-leb (length s) at h)
 
-pub event_is : (s : List ℕ) (at : ℕ) (t : Token) (f : Found) → at < length s → t ≡ number_at s at number_limit → t.found ≡ f → on_part s t.stop f ≡ event_at s at
+pub event_is : (s : List ℕ) (at : ℕ) (t : Token) (f : (Option ℕ)) → at < length s → t ≡ number_at s at number_limit → t.found ≡ f → on_part s t.stop f ≡ event_at s at
 unfolding event_at
 event_is s at t f h e g = ap (on_part s t.stop) (sym g) ∙ ap (λ (z : Token). on_part s z.stop z.found) e ∙ rw (lt-leb (length s) at h)
 
@@ -214,10 +207,10 @@ pieces_placed s v start at (next.Number k stop) h g w =
     pick_by (Placed s start) (eqb (get_or s stop 0) 10)
     (λ e. let b = byte_within s stop 10 (eqb-true _ _ e) (omega arith) in (omega arith, omega arith)) (λ _. (omega arith, r))
 
-part_placed : (s : List ℕ) (at stop : ℕ) (f : Found) → Within s at stop → Placed s at (on_part s stop f)
+part_placed : (s : List ℕ) (at stop : ℕ) (f : (Option ℕ)) → Within s at stop → Placed s at (on_part s stop f)
 unfolding pieces_at
-part_placed s at stop (found.Number v) w = pieces_placed s v at stop (next_at s stop) w.0 w.1 (next_within s stop w.1)
-part_placed s at stop found.NotANumber w = w
+part_placed s at stop (Some v) w = pieces_placed s v at stop (next_at s stop) w.0 w.1 (next_within s stop w.1)
+part_placed s at stop None w = w
 
 pub event_placed : (s : List ℕ) (at : ℕ) → Placed s at (event_at s at)
 unfolding event_at
@@ -244,10 +237,10 @@ module _ (s : List ℕ) (at i : ℕ) (vs ks : List ℕ) where
       ap (λ (n : ℕ). events_from n s at i vs ks) q
       ∙ ap (λ (z : EventLine). on_event z at i vs ks (λ v k l. events_from rest s l (i + 1) (set vs i v) (set ks i k))) e
 
-  pub events_end : i < length vs → event_at s at ≡ line.End → events_from (length vs - i) s at i vs ks ≡ listed (events.Count i) vs ks
+  pub events_end : i < length vs → event_at s at ≡ line.End → events_from (length vs - i) s at i vs ks ≡ listed (Ok i) vs ks
   events_end h e = event_next (length vs - i) (length vs - (i + 1)) line.End (omega arith) e
 
-  pub events_wrong : (p : ℕ) → i < length vs → event_at s at ≡ line.Wrong p → events_from (length vs - i) s at i vs ks ≡ listed (events.Refused (wrong_at (i + 2) at p)) vs ks
+  pub events_wrong : (p : ℕ) → i < length vs → event_at s at ≡ line.Wrong p → events_from (length vs - i) s at i vs ks ≡ listed (Err (wrong_at (i + 2) at p)) vs ks
   events_wrong p h e = event_next (length vs - i) (length vs - (i + 1)) (line.Wrong p) (omega arith) e
 
   pub events_more : (v k l : ℕ) → i < length vs → event_at s at ≡ line.Event v k l
@@ -256,18 +249,18 @@ module _ (s : List ℕ) (at i : ℕ) (vs ks : List ℕ) where
       ap (λ (n : ℕ). events_from (n - (i + 1)) s l (i + 1) (set vs i v) (set ks i k)) (length-set vs i v)
       ∙ sym (event_next (length vs - i) (length vs - (i + 1)) (line.Event v k l) (omega arith) e)
 
-  pub events_all : (left : ℕ) → left ≡ 0 → length s ≤ at → events_from left s at i vs ks ≡ listed (events.Count i) vs ks
+  pub events_all : (left : ℕ) → left ≡ 0 → length s ≤ at → events_from left s at i vs ks ≡ listed (Ok i) vs ks
   unfolding events_from
   events_all left q h = ap (λ (n : ℕ). events_from n s at i vs ks) q ∙ rw (le-leb (length s) at h)
 
-  pub events_many : (left : ℕ) → left ≡ 0 → at < length s → events_from left s at i vs ks ≡ listed (events.Refused (wrong_at (i + 2) at at)) vs ks
+  pub events_many : (left : ℕ) → left ≡ 0 → at < length s → events_from left s at i vs ks ≡ listed (Err (wrong_at (i + 2) at at)) vs ks
   unfolding events_from
   events_many left q h = ap (λ (n : ℕ). events_from n s at i vs ks) q ∙ rw (lt-leb (length s) at h)
 
 -- no more events than there are places, and as many places as there were
-abbrev pub FewEvents : ℕ → Events → Type 0
-FewEvents n (events.Count k) = k ≤ n
-FewEvents n (events.Refused r) = Unit {0}
+abbrev pub FewEvents : ℕ → Result ℕ Refusal → Type 0
+FewEvents n (Ok k) = k ≤ n
+FewEvents n (Err r) = Unit {0}
 
 abbrev pub KeptEvents : ℕ → Listed → Type 0
 KeptEvents n x = FewEvents n x.events × (length x.parts ≡ n) × (length x.received ≡ n)
@@ -287,7 +280,7 @@ events_kept (suc left) s at i vs ks n h e g =
 
 -- The record -----------------------------------------------------------------------------------------------------------------------------------------
 
-module _ (s shelf vs ks : List ℕ) (x : Counts) (c : List ℕ) (q : gathered x c ≡ shelf_in s shelf) where
+module _ (s shelf vs ks : List ℕ) (x : Result (ℕ × ℕ) ℕ) (c : List ℕ) (q : gathered x c ≡ shelf_in s shelf) where
   on_counts_lem : on_counts s x c vs ks ≡ read_record s shelf vs ks
   unfolding read_record
   on_counts_lem = ap (λ (g : Gathered). on_counts s g.counts g.column vs ks) q
@@ -295,24 +288,24 @@ module _ (s shelf vs ks : List ℕ) (x : Counts) (c : List ℕ) (q : gathered x 
   counts_few : FewCounts s (length shelf) x
   counts_few = subst (λ (g : Gathered). FewCounts s (length shelf) g.counts) (sym q) (shelf_kept s shelf).0
 
-  pub shelf_wrong : (p : ℕ) → x ≡ counts.Wrong p → p ≤ length s
+  pub shelf_wrong : (p : ℕ) → x ≡ Err p → p ≤ length s
   shelf_wrong p e = subst (FewCounts s (length shelf)) e counts_few
 
-  pub shelf_right : (k l : ℕ) → x ≡ counts.Count k l → l ≤ length s
+  pub shelf_right : (k l : ℕ) → x ≡ Ok (k, l) → l ≤ length s
   shelf_right k l e = (subst (FewCounts s (length shelf)) e counts_few).1
 
-  pub record_wrong : (p : ℕ) (r : Refusal) → x ≡ counts.Wrong p → r ≡ wrong_at 1 0 p → entered (read.Refused r) c vs ks ≡ read_record s shelf vs ks
-  record_wrong p r e f = ap (λ (z : Refusal). entered (read.Refused z) c vs ks) f ∙ ap (λ (z : Counts). on_counts s z c vs ks) (sym e) ∙ on_counts_lem
+  pub record_wrong : (p : ℕ) (r : Refusal) → x ≡ Err p → r ≡ wrong_at 1 0 p → entered (Err r) c vs ks ≡ read_record s shelf vs ks
+  record_wrong p r e f = ap (λ (z : Refusal). entered (Err z) c vs ks) f ∙ ap (λ (z : Result (ℕ × ℕ) ℕ). on_counts s z c vs ks) (sym e) ∙ on_counts_lem
 
-  pub record_is : (k l : ℕ) (y : Events) (vs' ks' : List ℕ) → x ≡ counts.Count k l → listed y vs' ks' ≡ events_from (length vs) s l 0 vs ks → (z : Events) → y ≡ z
+  pub record_is : (k l : ℕ) (y : Result ℕ Refusal) (vs' ks' : List ℕ) → x ≡ Ok (k, l) → listed y vs' ks' ≡ events_from (length vs) s l 0 vs ks → (z : Result ℕ Refusal) → y ≡ z
       → entered (with_counts k z) c vs' ks' ≡ read_record s shelf vs ks
   record_is k l y vs' ks' e f z g =
-      ap (λ (w : Events). entered (with_counts k w) c vs' ks') (sym g) ∙ ap (on_events k c) f ∙ ap (λ (w : Counts). on_counts s w c vs ks) (sym e) ∙ on_counts_lem
+      ap (λ (w : Result ℕ Refusal). entered (with_counts k w) c vs' ks') (sym g) ∙ ap (on_events k c) f ∙ ap (λ (w : Result (ℕ × ℕ) ℕ). on_counts s w c vs ks) (sym e) ∙ on_counts_lem
 
 -- no more counts and events than there are places, and as many places as there were
-abbrev pub FewRead : (n m : ℕ) → Record → Type 0
-FewRead n m (read.Read k e) = (k ≤ n) × (e ≤ m)
-FewRead n m (read.Refused r) = Unit {0}
+abbrev pub FewRead : (n m : ℕ) → Result (ℕ × ℕ) Refusal → Type 0
+FewRead n m (Ok (k, e)) = (k ≤ n) × (e ≤ m)
+FewRead n m (Err r) = Unit {0}
 
 pub record KeptRecord (n m : ℕ) (x : Entered) : Type 0 where
   pub few : FewRead n m x.result
@@ -320,14 +313,14 @@ pub record KeptRecord (n m : ℕ) (x : Entered) : Type 0 where
   pub parts : length x.parts ≡ m
   pub received : length x.received ≡ m
 
-with_few : (n m k : ℕ) (y : Events) → k ≤ n → FewEvents m y → FewRead n m (with_counts k y)
-with_few n m k (events.Count e) h g = (h, g)
-with_few n m k (events.Refused r) h g = tt
+with_few : (n m k : ℕ) (y : Result ℕ Refusal) → k ≤ n → FewEvents m y → FewRead n m (with_counts k y)
+with_few n m k (Ok e) h g = (h, g)
+with_few n m k (Err r) h g = tt
 
-counts-entered : (s shelf vs ks : List ℕ) (x : Counts) (c : List ℕ) → length ks ≡ length vs → length c ≡ length shelf → FewCounts s (length shelf) x
+counts-entered : (s shelf vs ks : List ℕ) (x : Result (ℕ × ℕ) ℕ) (c : List ℕ) → length ks ≡ length vs → length c ≡ length shelf → FewCounts s (length shelf) x
     → KeptRecord (length shelf) (length vs) (on_counts s x c vs ks)
-counts-entered s shelf vs ks (counts.Wrong p) c h e f = record { few = tt; shelf = e; parts = refl; received = h }
-counts-entered s shelf vs ks (counts.Count k l) c h e f =
+counts-entered s shelf vs ks (Err p) c h e f = record { few = tt; shelf = e; parts = refl; received = h }
+counts-entered s shelf vs ks (Ok (k, l)) c h e f =
     let w = events_kept (length vs) s l 0 vs ks (length vs) (omega arith) refl h in
     record { few = with_few (length shelf) (length vs) k (events_from (length vs) s l 0 vs ks).events f.0 w.0; shelf = e; parts = w.1; received = w.2 }
 

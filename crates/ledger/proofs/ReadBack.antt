@@ -9,6 +9,7 @@ use lib.ListN.{length, get_or, drop, set, replicate, length-append, length-drop,
 use lib.Seq.{drop-append_seam, drop-drop, get_or-drop, append_snoc}
 use lib.Dec.{ltb}
 use borrow.Author.Tests.{le-leb}
+use Rattle.std.specs.Prelude.{Ok, Some}
 use Rattle.weights.proofs.Choice.{both_true}
 use Rattle.columns.specs.Acceptance.{all_below}
 use Rattle.columns.proofs.Accepted.{below_at}
@@ -17,7 +18,6 @@ use Rattle.columns.proofs.Filled.{filled_none, filled-set, take-filled}
 use Rattle.inventory.specs.Shelf.{most_events}
 use Rattle.text.specs.Render.{digits, tail_text}
 use Rattle.text.specs.Machine.{digit_of}
-use Rattle.cursor.specs.declared.Found.TheVariants as found
 use Rattle.cursor.specs.declared.Token.{Token}
 use Rattle.cursor.specs.declared.Separator.{Separator}
 use Rattle.cursor.specs.declared.Separator.TheVariants as separator
@@ -26,11 +26,8 @@ use Rattle.reading.specs.Lines.{agreeing}
 use Rattle.reader.proofs.Fields.{number_found}
 use Rattle.ledger.specs.declared.Next.{Next}
 use Rattle.ledger.specs.declared.Next.TheVariants as next
-use Rattle.ledger.specs.declared.Counts.TheVariants as counts
 use Rattle.ledger.specs.declared.EventLine.{EventLine}
 use Rattle.ledger.specs.declared.EventLine.TheVariants as line
-use Rattle.ledger.specs.declared.Events.TheVariants as events
-use Rattle.ledger.specs.declared.Record.TheVariants as read
 use Rattle.ledger.specs.Record.{
   number_limit,
   most_shelf,
@@ -73,7 +70,7 @@ module _ (s : List ℕ) (at : ℕ) where
   something_there xs b bs e = let l = length-drop at s in let k = ap length e in let m = length-append xs (b ∷ bs) in omega arith
 
   number_there : (v b : ℕ) (bs : List ℕ) → 10 ≤ digit_of b → v < number_limit → drop at s ≡ digits v ++ b ∷ bs
-      → token at (at + length (digits v)) (found.Number v) ≡ number_at s at number_limit
+      → token at (at + length (digits v)) (Some v) ≡ number_at s at number_limit
   number_there v b bs h l e = sym (number_found s (b ∷ bs) at number_limit v e l h)
 
   space_there : (bs : List ℕ) → drop at s ≡ 32 ∷ bs → separator_at s at ≡ separator.Space (at + 1)
@@ -123,7 +120,7 @@ unfolding all_below
 tail_below x xs e = (both_true {a = ltb x number_limit} {b = all_below number_limit xs} e).1
 
 -- the line's end behind the last count
-counts_none : (left : ℕ) (s : List ℕ) (at i : ℕ) (c rest : List ℕ) → drop at s ≡ 10 ∷ rest → counts_from left s at i c ≡ gathered (counts.Count i (at + 1)) c
+counts_none : (left : ℕ) (s : List ℕ) (at i : ℕ) (c rest : List ℕ) → drop at s ≡ 10 ∷ rest → counts_from left s at i c ≡ gathered (Ok (i, at + 1)) c
 unfolding counts_from
 counts_none zero s at i c rest e = ap (λ (z : Separator). gathered (on_full at i z) c) (end_there s at rest e)
 counts_none (suc left) s at i c rest e = ap (λ (z : Next). on_next z i c (λ v stop. counts_from left s stop (i + 1) (set c i v))) (line_ends s at rest e)
@@ -136,14 +133,14 @@ counts_one left s at i c v stop e = ap (λ (z : Next). on_next z i c (λ v stop.
 -- a list of counts, filled in behind those that are done
 counts_back : (xs : List ℕ) (left : ℕ) (s : List ℕ) (at i : ℕ) (done old rest : List ℕ) → all_below number_limit xs ≡ true → length done ≡ i → length xs ≤ left → i + left ≡ length old
     → drop at s ≡ tail_text xs ++ 10 ∷ rest
-    → counts_from left s at i (filled done old) ≡ gathered (counts.Count (i + length xs) (at + length (tail_text xs) + 1)) (filled (done ++ xs) old)
+    → counts_from left s at i (filled done old) ≡ gathered (Ok (i + length xs, at + length (tail_text xs) + 1)) (filled (done ++ xs) old)
 unfolding tail_text
 counts_back [] left s at i done old rest b d h f e =
     let p : i ≡ i + 0 = omega arith in
     let q : at + 1 ≡ at + 0 + 1 = omega arith in
     counts_none left s at i (filled done old) rest e
-    ∙ ap₂ (λ (x y : ℕ). gathered (counts.Count x y) (filled done old)) p q
-    ∙ ap (λ (z : List ℕ). gathered (counts.Count (i + 0) (at + 0 + 1)) (filled z old)) (sym (append-nil done))
+    ∙ ap₂ (λ (x y : ℕ). gathered (Ok (x, y)) (filled done old)) p q
+    ∙ ap (λ (z : List ℕ). gathered (Ok (i + 0, at + 0 + 1)) (filled z old)) (sym (append-nil done))
 counts_back (x ∷ xs) zero s at i done old rest b d h f e = absurd (omega arith)
 counts_back (x ∷ xs) (suc left) s at i done old rest b d h f e =
     let w = stands_behind xs rest in
@@ -159,8 +156,8 @@ counts_back (x ∷ xs) (suc left) s at i done old rest b d h f e =
     counts_one left s at i (filled done old) x stop n
     ∙ ap (λ (z : List ℕ). counts_from left s stop (i + 1) z) (filled-set done old i x d (omega arith))
     ∙ counts_back xs left s stop (i + 1) (done ++ x ∷ []) old rest (tail_below x xs b) l (omega arith) (omega arith) e3
-    ∙ ap₂ (λ (y z : ℕ). gathered (counts.Count y z) (filled ((done ++ x ∷ []) ++ xs) old)) p q
-    ∙ ap (λ (z : List ℕ). gathered (counts.Count (i + length (x ∷ xs)) (at + length ((32 ∷ digits x) ++ tail_text xs) + 1)) (filled z old)) (append_snoc done x xs)
+    ∙ ap₂ (λ (y z : ℕ). gathered (Ok (y, z)) (filled ((done ++ x ∷ []) ++ xs) old)) p q
+    ∙ ap (λ (z : List ℕ). gathered (Ok (i + length (x ∷ xs), at + length ((32 ∷ digits x) ++ tail_text xs) + 1)) (filled z old)) (append_snoc done x xs)
 
 -- The events -------------------------------------------------------------------------------------------------------------------------------------------
 
@@ -202,13 +199,13 @@ module _ (s : List ℕ) (at v k : ℕ) (rest : List ℕ) (bv : v < number_limit)
 
   event_there : event_at s at ≡ line.Event v k (line_behind at v k)
   event_there =
-      let t = token at stop (found.Number v) in
+      let t = token at stop (Some v) in
       sym (pieces_line s v stop k (stop + 1 + length (digits k)) (next_at s stop) refl (number_next s stop k 10 rest end_other bk space_next)
       (byte_there s (stop + 1 + length (digits k)) 10 rest end_next)
-      ∙ event_is s at t (found.Number v) (something_there s at (digits v) 32 (digits k ++ 10 ∷ rest) part_there)
+      ∙ event_is s at t (Some v) (something_there s at (digits v) 32 (digits k ++ 10 ∷ rest) part_there)
       (number_there s at v 32 (digits k ++ 10 ∷ rest) space_other bv part_there) refl)
 
-events_none : (left : ℕ) (s : List ℕ) (at i : ℕ) (vs ks : List ℕ) → length s ≤ at → events_from left s at i vs ks ≡ listed (events.Count i) vs ks
+events_none : (left : ℕ) (s : List ℕ) (at i : ℕ) (vs ks : List ℕ) → length s ≤ at → events_from left s at i vs ks ≡ listed (Ok i) vs ks
 unfolding events_from event_at
 events_none zero s at i vs ks h = rw (le-leb (length s) at h)
 events_none (suc left) s at i vs ks h = rw (le-leb (length s) at h)
@@ -221,13 +218,13 @@ events_one left s at i vs ks v k l e = ap (λ (z : EventLine). on_event z at i v
 -- a list of events, filled in behind those that are done
 events_back : (vs ks : List ℕ) (left : ℕ) (s : List ℕ) (at i : ℕ) (dv dk old : List ℕ) → all_below number_limit vs ≡ true → all_below number_limit ks ≡ true → length ks ≡ length vs
     → length dv ≡ i → length dk ≡ i → length vs ≤ left → i + left ≡ length old → drop at s ≡ event_lines vs ks
-    → events_from left s at i (filled dv old) (filled dk old) ≡ listed (events.Count (i + length vs)) (filled (dv ++ vs) old) (filled (dk ++ ks) old)
+    → events_from left s at i (filled dv old) (filled dk old) ≡ listed (Ok (i + length vs)) (filled (dv ++ vs) old) (filled (dk ++ ks) old)
 unfolding event_lines
 events_back [] [] left s at i dv dk old bv bk g d f h r e =
     let p : i ≡ i + 0 = omega arith in
     events_none left s at i (filled dv old) (filled dk old) (nothing_there s at e)
-    ∙ ap (λ (z : ℕ). listed (events.Count z) (filled dv old) (filled dk old)) p
-    ∙ ap₂ (λ (y z : List ℕ). listed (events.Count (i + 0)) (filled y old) (filled z old)) (sym (append-nil dv)) (sym (append-nil dk))
+    ∙ ap (λ (z : ℕ). listed (Ok z) (filled dv old) (filled dk old)) p
+    ∙ ap₂ (λ (y z : List ℕ). listed (Ok (i + 0)) (filled y old) (filled z old)) (sym (append-nil dv)) (sym (append-nil dk))
 events_back [] (k ∷ ks) left s at i dv dk old bv bk g d f h r e = absurd (omega arith)
 events_back (v ∷ vs) [] left s at i dv dk old bv bk g d f h r e = absurd (omega arith)
 events_back (v ∷ vs) (k ∷ ks) zero s at i dv dk old bv bk g d f h r e = absurd (omega arith)
@@ -242,8 +239,8 @@ events_back (v ∷ vs) (k ∷ ks) (suc left) s at i dv dk old bv bk g d f h r e 
     ∙ ap₂ (λ (y z : List ℕ). events_from left s l (i + 1) y z) (filled-set dv old i v d (omega arith)) (filled-set dk old i k f (omega arith))
     ∙ events_back vs ks left s l (i + 1) (dv ++ v ∷ []) (dk ++ k ∷ []) old (tail_below v vs bv) (tail_below k ks bk) (omega arith) lv lk (omega arith) (omega arith)
     (rest_there s at v k (event_lines vs ks) hv hk e)
-    ∙ ap (λ (z : ℕ). listed (events.Count z) (filled ((dv ++ v ∷ []) ++ vs) old) (filled ((dk ++ k ∷ []) ++ ks) old)) p
-    ∙ ap₂ (λ (y z : List ℕ). listed (events.Count (i + length (v ∷ vs))) (filled y old) (filled z old)) (append_snoc dv v vs) (append_snoc dk k ks)
+    ∙ ap (λ (z : ℕ). listed (Ok z) (filled ((dv ++ v ∷ []) ++ vs) old) (filled ((dk ++ k ∷ []) ++ ks) old)) p
+    ∙ ap₂ (λ (y z : List ℕ). listed (Ok (i + length (v ∷ vs))) (filled y old) (filled z old)) (append_snoc dv v vs) (append_snoc dk k ks)
 
 -- The record -------------------------------------------------------------------------------------------------------------------------------------------
 
@@ -262,7 +259,7 @@ module _ (shelf vs ks : List ℕ) (w : Writable shelf vs ks) (zs ys : List ℕ) 
   abbrev first_event : ℕ
   first_event = 5 + length (tail_text shelf) + 1
 
-  shelf_back : gathered (counts.Count (0 + length shelf) first_event) (filled shelf zs) ≡ shelf_in text zs
+  shelf_back : gathered (Ok (0 + length shelf, first_event)) (filled shelf zs) ≡ shelf_in text zs
   shelf_back =
       sym (counts_back shelf (length zs) text 5 0 [] zs (event_lines vs ks) w.counts_below refl (let h = w.counts in omega arith) (omega arith) refl)
       ∙ ap (λ (z : List ℕ). counts_from (length zs) text 5 0 z) (sym (filled_none zs))
@@ -271,15 +268,15 @@ module _ (shelf vs ks : List ℕ) (w : Writable shelf vs ks) (zs ys : List ℕ) 
   events_start : drop first_event text ≡ event_lines vs ks
   events_start = behind text (5 + length (tail_text shelf)) (10 ∷ []) (event_lines vs ks) (behind text 5 (tail_text shelf) (10 ∷ event_lines vs ks) refl)
 
-  events_listed : listed (events.Count (0 + length vs)) (filled vs ys) (filled ks ys) ≡ events_from (length ys) text first_event 0 ys ys
+  events_listed : listed (Ok (0 + length vs)) (filled vs ys) (filled ks ys) ≡ events_from (length ys) text first_event 0 ys ys
   events_listed =
       sym (events_back vs ks (length ys) text first_event 0 [] [] ys w.parts_below w.pieces_below w.level refl refl (let h = w.events in omega arith) (omega arith) events_start)
       ∙ ap₂ (λ (y z : List ℕ). events_from (length ys) text first_event 0 y z) (sym (filled_none ys)) (sym (filled_none ys))
 
-  pub record_back : entered (read.Read (length shelf) (length vs)) (filled shelf zs) (filled vs ys) (filled ks ys) ≡ read_record (record_text shelf vs ks) zs ys ys
+  pub record_back : entered (Ok (length shelf, length vs)) (filled shelf zs) (filled vs ys) (filled ks ys) ≡ read_record (record_text shelf vs ks) zs ys ys
   record_back =
-      ap₂ (λ (x y : ℕ). entered (read.Read x y) (filled shelf zs) (filled vs ys) (filled ks ys)) (sym (zero-add (length shelf))) (sym (zero-add (length vs)))
-      ∙ record_is text zs ys ys _ (filled shelf zs) shelf_back (0 + length shelf) first_event _ (filled vs ys) (filled ks ys) refl events_listed (events.Count (0 + length vs)) refl
+      ap₂ (λ (x y : ℕ). entered (Ok (x, y)) (filled shelf zs) (filled vs ys) (filled ks ys)) (sym (zero-add (length shelf))) (sym (zero-add (length vs)))
+      ∙ record_is text zs ys ys _ (filled shelf zs) shelf_back (0 + length shelf) first_event _ (filled vs ys) (filled ks ys) refl events_listed (Ok (0 + length vs)) refl
       ∙ ap (λ (z : List ℕ). read_record z zs ys ys) (sym (text_split shelf vs ks))
 
 pub read_back : (shelf vs ks : List ℕ) → Writable shelf vs ks → ReadBack shelf vs ks

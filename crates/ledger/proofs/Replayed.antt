@@ -6,11 +6,10 @@ use native.Mathlib.Omega.{arith}
 use native.Mathlib.Decide.{dec_le}
 use lib.ListN.{length, take, replicate, length-replicate}
 use lib.Seq.{length-take-le}
+use Rattle.std.specs.Prelude.{Result, Ok, Err}
 use Rattle.weights.specs.declared.Measure.{Measure}
 use Rattle.refusal.specs.declared.Refusal.{Refusal}
 use Rattle.refusal.specs.declared.Refusal.TheVariants.{InputLength}
-use Rattle.refusal.specs.declared.Acceptance.{Acceptance}
-use Rattle.refusal.specs.declared.Acceptance.TheVariants as answer
 use Rattle.columns.specs.Columns.{Entries, Columns}
 use Rattle.columns.specs.Owed.{Owed}
 use Rattle.columns.specs.Filled.{filled}
@@ -21,20 +20,19 @@ use Rattle.inventory.proofs.Asked.{replay_owes}
 use Rattle.inventory.proofs.Fixed.{replays_once, replay_never, replay_once}
 use Rattle.report.specs.Report.{most_input}
 use Rattle.reply.specs.Reply.{most_reply, Said, answered, second_refused, on_second}
-use Rattle.ledger.specs.declared.Record.{Record}
-use Rattle.ledger.specs.declared.Record.TheVariants as read
 use Rattle.ledger.specs.Record.{most_shelf, read_record}
 use Rattle.ledger.specs.Ledger.{ledger, replayed_said, blanks, replay_said}
 use Rattle.ledger.specs.Replayed.{record_text, Writable, RecordSaid}
 use Rattle.ledger.proofs.Said.{said_long, said_refused, said_read, read_within}
 use Rattle.ledger.proofs.ReadBack.{record_back}
 use Rattle.ledger.proofs.Bounds.{refusal_short, record_low, replayed_short}
+use Rattle.refusal.specs.Answers.{Acceptance}
 
 -- By the call ------------------------------------------------------------------------------------------------------------------------------------------
 
 module _ (m : Measure) (c : Columns) (a : Entries) (vs ks s os : List ℕ) where
   abbrev Owes : Acceptance → List ℕ × List ℕ → Type 0
-  Owes = Owed {L = List ℕ × List ℕ} answer.Refused (s, os) (RightReplay m c a vs ks s os) (λ _. answer.Accepted) (λ q. (q.final, q.outcomes)) (WrongReplay m c a vs ks s os)
+  Owes = Owed {L = List ℕ × List ℕ} Err (s, os) (RightReplay m c a vs ks s os) (λ _. (Ok tt)) (λ q. (q.final, q.outcomes)) (WrongReplay m c a vs ks s os)
 
   -- what is said where it returned x and left these counts and outcomes
   abbrev said_by : Acceptance → List ℕ × List ℕ → Said
@@ -72,7 +70,7 @@ module _ (m : Measure) (c : Columns) (a : Entries) where
       → replay_said m c a (record_text shelf vs ks) ≡ replayed_said m c a vs ks shelf (blanks (length vs))
   said_of_record shelf vs ks w h =
       let q = record_back shelf vs ks w no_counts no_events (length-replicate {A = ℕ} most_shelf 0) (length-replicate {A = ℕ} most_events 0) in
-      let t = said_read (record_text shelf vs ks) (read.Read (length shelf) (length vs)) (filled shelf no_counts) (filled vs no_events) (filled ks no_events) q m c a h (length shelf) (length vs) refl in
+      let t = said_read (record_text shelf vs ks) (Ok (length shelf, length vs)) (filled shelf no_counts) (filled vs no_events) (filled ks no_events) q m c a h (length shelf) (length vs) refl in
       sym t
       ∙ ap₂ (λ (x y : List ℕ). replayed_said m c a x y (take (length shelf) (filled shelf no_counts)) (blanks (length vs)))
       (take-filled vs no_events (length vs) refl) (take-filled ks no_events (length vs) w.level)
@@ -94,11 +92,11 @@ module _ (m : Measure) (c : Columns) (a : Entries) where
       few : length no_events ≤ most_events
       few = let l = length-replicate {A = ℕ} most_events 0 in omega arith
 
-      go : (x : Record) → (read_record s no_counts no_events no_events).result ≡ x → length (replay_said m c a s).bytes ≤ most_reply
-      go (read.Refused r) e =
+      go : (x : Result (ℕ × ℕ) Refusal) → (read_record s no_counts no_events no_events).result ≡ x → length (replay_said m c a s).bytes ≤ most_reply
+      go (Err r) e =
           subst (λ (z : Said). length z.bytes ≤ most_reply) (said_refused s (read_record s no_counts no_events no_events).result shelf vs ks refl m c a h r e)
           (refusal_short r (record_low s no_counts no_events no_events r h few e))
-      go (read.Read k e) f =
+      go (Ok (k, e)) f =
           let w = read_within s (read_record s no_counts no_events no_events).result shelf vs ks refl k e f in
           let lv = length-take-le e vs w.parted in
           let ls = length-take-le k shelf w.counted in

@@ -1,8 +1,9 @@
 -- What is said of a record: "the outcome of each event, then the final counts", a row for each event and last a line that can open the next record.
 -- Assumes nothing: these are definitions.
-use Rattle.std.specs.Prelude.{ℕ, List, [], ◌∷◌, ◌++◌, length, take, replicate, eqb, ltb}
+use Rattle.std.specs.Prelude.{ℕ, List, [], ◌∷◌, ◌++◌, length, take, replicate, eqb, ltb, Result, Ok, Err}
 use Rattle.weights.specs.declared.Measure.{Measure}
 use Rattle.weights.specs.Choice.{pick}
+use Rattle.refusal.specs.declared.Refusal.{Refusal}
 use Rattle.refusal.specs.declared.Refusal.TheVariants.{InputLength}
 use Rattle.columns.specs.Columns.{Entries, Columns}
 use Rattle.inventory.specs.Shelf.{most_events}
@@ -10,8 +11,6 @@ use Rattle.inventory.specs.Replaying.{ReplayOutcome, replayed}
 use Rattle.text.specs.Render.{digits, tail_text}
 use Rattle.report.specs.Report.{most_input}
 use Rattle.reply.specs.Reply.{Said, answered, second_refused, on_second}
-use Rattle.ledger.specs.declared.Record.{Record}
-use Rattle.ledger.specs.declared.Record.TheVariants as read
 use Rattle.ledger.specs.Record.{most_shelf, stock_word, Entered, read_record}
 
 -- bounds on the bytes of a word with its space and LF, of a row with a number of 20 digits, and of a line of 1,024 such counts
@@ -65,9 +64,9 @@ abbrev pub blanks : ℕ → List ℕ
 blanks e = take e (replicate most_events 0)
 
 -- by what reading the text returned, and the columns as it left them
-abbrev pub on_read : Measure → Columns → Entries → Record → (shelf parts received : List ℕ) → Said
-on_read m c a (read.Refused r) s vs ks = second_refused r
-on_read m c a (read.Read k e) s vs ks = replayed_said m c a (take e vs) (take e ks) (take k s) (blanks e)
+abbrev pub on_read : Measure → Columns → Entries → Result (ℕ × ℕ) Refusal → (shelf parts received : List ℕ) → Said
+on_read m c a (Err r) s vs ks = second_refused r
+on_read m c a (Ok (k, e)) s vs ks = replayed_said m c a (take e vs) (take e ks) (take k s) (blanks e)
 
 abbrev pub entered_said : Measure → Columns → Entries → Entered → Said
 entered_said m c a x = on_read m c a x.result x.shelf x.parts x.received

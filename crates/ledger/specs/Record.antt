@@ -2,26 +2,18 @@
 -- the pieces of a receipt:
 --   record = "stock" { " " number } LF { number " " number LF }
 -- Numbers are written as a table's text writes them. Assumes nothing: these are definitions.
-use Rattle.std.specs.Prelude.{ℕ, zero, suc, ◌+◌, ◌-◌, List, [], ◌∷◌, length, get_or, set, eqb, leb}
+use Rattle.std.specs.Prelude.{ℕ, zero, suc, ◌+◌, ◌-◌, List, [], ◌∷◌, length, get_or, set, eqb, leb, Result, Ok, Err, Option, Some, None}
 use Rattle.weights.specs.Choice.{pick}
 use Rattle.refusal.specs.declared.Refusal.{Refusal}
 use Rattle.refusal.specs.declared.Refusal.TheVariants.{Text}
-use Rattle.cursor.specs.declared.Found.{Found}
-use Rattle.cursor.specs.declared.Found.TheVariants as found
 use Rattle.cursor.specs.declared.Separator.{Separator}
 use Rattle.cursor.specs.declared.Separator.TheVariants as separator
 use Rattle.cursor.specs.Cursor.{number_at, separator_at}
 use Rattle.reading.specs.Lines.{agreeing}
 use Rattle.ledger.specs.declared.Next.{Next}
 use Rattle.ledger.specs.declared.Next.TheVariants as next
-use Rattle.ledger.specs.declared.Counts.{Counts}
-use Rattle.ledger.specs.declared.Counts.TheVariants as counts
 use Rattle.ledger.specs.declared.EventLine.{EventLine}
 use Rattle.ledger.specs.declared.EventLine.TheVariants as line
-use Rattle.ledger.specs.declared.Events.{Events}
-use Rattle.ledger.specs.declared.Events.TheVariants as events
-use Rattle.ledger.specs.declared.Record.{Record}
-use Rattle.ledger.specs.declared.Record.TheVariants as read
 
 -- the least number that none is: it has nineteen digits; and the most opening counts
 abbrev pub number_limit : ℕ
@@ -41,9 +33,9 @@ wrong_at l at place = Text (record { 0 = l }) (record { 0 = place - at + 1 })
 -- Behind a word or a number --------------------------------------------------------------------------------------------------------------------
 
 -- a number and the place behind it, or where its reading stopped
-abbrev pub as_next : (stop : ℕ) → Found → Next
-as_next stop (found.Number v) = next.Number v stop
-as_next stop found.NotANumber = next.Wrong stop
+abbrev pub as_next : (stop : ℕ) → (Option ℕ) → Next
+as_next stop (Some v) = next.Number v stop
+as_next stop None = next.Wrong stop
 
 unfoldable pub found_number : List ℕ → ℕ → Next
 found_number s at = as_next (number_at s at number_limit).stop (number_at s at number_limit).found
@@ -61,22 +53,22 @@ next_at s at = on_separator s at (separator_at s at)
 
 -- how many came and where the next line starts, or where a byte can't stand; and the column that they were put into
 pub record Gathered : Type 0 where
-  pub counts : Counts
+  pub counts : Result (ℕ × ℕ) ℕ
   pub column : List ℕ
 
-abbrev pub gathered : Counts → List ℕ → Gathered
+abbrev pub gathered : Result (ℕ × ℕ) ℕ → List ℕ → Gathered
 gathered n c = record { counts = n; column = c }
 
 abbrev pub on_next : Next → (i : ℕ) → List ℕ → ((v stop : ℕ) → Gathered) → Gathered
-on_next (next.End l) i c more = gathered (counts.Count i l) c
-on_next (next.Wrong p) i c more = gathered (counts.Wrong p) c
+on_next (next.End l) i c more = gathered (Ok (i, l)) c
+on_next (next.Wrong p) i c more = gathered (Err p) c
 on_next (next.Number v stop) i c more = more v stop
 
 -- behind a full column only the line's end can stand: a count that is one too many is wrong at the space before it
-abbrev pub on_full : (at i : ℕ) → Separator → Counts
-on_full at i (separator.Space j) = counts.Wrong at
-on_full at i (separator.LineEnd j) = counts.Count i j
-on_full at i separator.Neither = counts.Wrong at
+abbrev pub on_full : (at i : ℕ) → Separator → Result (ℕ × ℕ) ℕ
+on_full at i (separator.Space j) = Err at
+on_full at i (separator.LineEnd j) = Ok (i, j)
+on_full at i separator.Neither = Err at
 
 -- at most `left` more counts stand from a place on; i stand already in the column
 unfoldable pub counts_from : (left : ℕ) → List ℕ → (at i : ℕ) → List ℕ → Gathered
@@ -85,7 +77,7 @@ counts_from (suc left) s at i c = on_next (next_at s at) i c (λ v stop. counts_
 
 -- the first line: `stock`, and the counts behind it
 unfoldable pub shelf_in : List ℕ → (column : List ℕ) → Gathered
-shelf_in s c = pick (eqb (agreeing stock_word s) 5) (counts_from (length c) s 5 0 c) (gathered (counts.Wrong (agreeing stock_word s)) c)
+shelf_in s c = pick (eqb (agreeing stock_word s) 5) (counts_from (length c) s 5 0 c) (gathered (Err (agreeing stock_word s)) c)
 
 -- The events -----------------------------------------------------------------------------------------------------------------------------------
 
@@ -98,9 +90,9 @@ on_pieces s v at (next.Number k stop) = pick (eqb (get_or s stop 0) 10) (line.Ev
 unfoldable pub pieces_at : List ℕ → (part at : ℕ) → EventLine
 pieces_at s v at = on_pieces s v at (next_at s at)
 
-abbrev pub on_part : List ℕ → (stop : ℕ) → Found → EventLine
-on_part s stop (found.Number v) = pieces_at s v stop
-on_part s stop found.NotANumber = line.Wrong stop
+abbrev pub on_part : List ℕ → (stop : ℕ) → (Option ℕ) → EventLine
+on_part s stop (Some v) = pieces_at s v stop
+on_part s stop None = line.Wrong stop
 
 -- what stands at the start of a line: nothing more, or an event
 unfoldable pub event_at : List ℕ → ℕ → EventLine
@@ -108,46 +100,46 @@ event_at s at = pick (leb (length s) at) line.End (on_part s (number_at s at num
 
 -- how many came, or the refusal; and the columns that they were put into
 pub record Listed : Type 0 where
-  pub events : Events
+  pub events : Result ℕ Refusal
   pub parts : List ℕ
   pub received : List ℕ
 
-abbrev pub listed : Events → (parts received : List ℕ) → Listed
+abbrev pub listed : Result ℕ Refusal → (parts received : List ℕ) → Listed
 listed x vs ks = record { events = x; parts = vs; received = ks }
 
 -- event i, from 0, has the text line i + 2: the counts have the first
 abbrev pub on_event : EventLine → (at i : ℕ) → (parts received : List ℕ) → ((v k next : ℕ) → Listed) → Listed
-on_event line.End at i vs ks more = listed (events.Count i) vs ks
-on_event (line.Wrong p) at i vs ks more = listed (events.Refused (wrong_at (i + 2) at p)) vs ks
+on_event line.End at i vs ks more = listed (Ok i) vs ks
+on_event (line.Wrong p) at i vs ks more = listed (Err (wrong_at (i + 2) at p)) vs ks
 on_event (line.Event v k l) at i vs ks more = more v k l
 
 -- `left` places of the columns are free, and event i starts at `at`; one that is too many is wrong at its first byte
 unfoldable pub events_from : (left : ℕ) → List ℕ → (at i : ℕ) → (parts received : List ℕ) → Listed
-events_from zero s at i vs ks = listed (pick (leb (length s) at) (events.Count i) (events.Refused (wrong_at (i + 2) at at))) vs ks
+events_from zero s at i vs ks = listed (pick (leb (length s) at) (Ok i) (Err (wrong_at (i + 2) at at))) vs ks
 events_from (suc left) s at i vs ks = on_event (event_at s at) at i vs ks (λ v k l. events_from left s l (i + 1) (set vs i v) (set ks i k))
 
 -- The record -----------------------------------------------------------------------------------------------------------------------------------
 
 -- how many counts and events came, or the refusal; and the columns that they were put into
 pub record Entered : Type 0 where
-  pub result : Record
+  pub result : Result (ℕ × ℕ) Refusal
   pub shelf : List ℕ
   pub parts : List ℕ
   pub received : List ℕ
 
-abbrev pub entered : Record → (shelf parts received : List ℕ) → Entered
+abbrev pub entered : Result (ℕ × ℕ) Refusal → (shelf parts received : List ℕ) → Entered
 entered x c vs ks = record { result = x; shelf = c; parts = vs; received = ks }
 
-abbrev pub with_counts : ℕ → Events → Record
-with_counts k (events.Count e) = read.Read k e
-with_counts k (events.Refused r) = read.Refused r
+abbrev pub with_counts : ℕ → Result ℕ Refusal → Result (ℕ × ℕ) Refusal
+with_counts k (Ok e) = Ok (k, e)
+with_counts k (Err r) = Err r
 
 abbrev pub on_events : (k : ℕ) → (shelf : List ℕ) → Listed → Entered
 on_events k c x = entered (with_counts k x.events) c x.parts x.received
 
-abbrev pub on_counts : List ℕ → Counts → (shelf parts received : List ℕ) → Entered
-on_counts s (counts.Wrong p) c vs ks = entered (read.Refused (wrong_at 1 0 p)) c vs ks
-on_counts s (counts.Count k at) c vs ks = on_events k c (events_from (length vs) s at 0 vs ks)
+abbrev pub on_counts : List ℕ → Result (ℕ × ℕ) ℕ → (shelf parts received : List ℕ) → Entered
+on_counts s (Err p) c vs ks = entered (Err (wrong_at 1 0 p)) c vs ks
+on_counts s (Ok (k, at)) c vs ks = on_events k c (events_from (length vs) s at 0 vs ks)
 
 -- the record of a text, put into columns
 unfoldable pub read_record : List ℕ → (shelf parts received : List ℕ) → Entered

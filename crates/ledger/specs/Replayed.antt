@@ -1,7 +1,7 @@
 -- What is said of a record, in the request's words. A record is written as a text that is read back as it is; where it can be replayed, the outcomes and the final counts
 -- are printed, else the line of the refusal; and what is said of any text fits the room of a reply. By what a text that is no record's is refused is said by
 -- `read_record` alone. Assumes nothing: these are definitions.
-use Rattle.std.specs.Prelude.{◌≡◌, true, List, [], ◌∷◌, ◌++◌, ℕ, ◌≤◌, ◌<◌, length, take, replicate}
+use Rattle.std.specs.Prelude.{◌≡◌, true, List, [], ◌∷◌, ◌++◌, ℕ, ◌≤◌, ◌<◌, length, take, replicate, Ok}
 use Rattle.weights.specs.declared.Measure.{Measure}
 use Rattle.refusal.specs.declared.Refusal.{Refusal}
 use Rattle.refusal.specs.declared.Refusal.TheVariants.{InputLength}
@@ -12,7 +12,6 @@ use Rattle.inventory.specs.Asked.{RightReplay, WrongReplay}
 use Rattle.text.specs.Render.{digits}
 use Rattle.report.specs.Report.{most_input}
 use Rattle.reply.specs.Reply.{most_reply, answered, second_refused}
-use Rattle.ledger.specs.declared.Record.TheVariants.{Read}
 use Rattle.ledger.specs.Record.{number_limit, most_shelf, Entered, read_record}
 use Rattle.ledger.specs.Ledger.{stock_line, ledger, blanks, replay_said}
 
@@ -40,7 +39,7 @@ pub record Writable (shelf vs ks : List ℕ) : Type 0 where
 
 -- what was read is this record
 pub record ReadsBack (shelf vs ks : List ℕ) (x : Entered) : Type 0 where
-  pub result : x.result ≡ Read (length shelf) (length vs)
+  pub result : x.result ≡ Ok (length shelf, length vs)
   pub counts : take (length shelf) x.shelf ≡ shelf
   pub parts : take (length vs) x.parts ≡ vs
   pub received : take (length vs) x.received ≡ ks

@@ -1,20 +1,23 @@
 // The stock clerk's record, written as a text, replayed over a table's answers: what became of each
 // event, then the final counts.
+//
+// Kept: columns and rooms are lent, or arrays of a fixed size: the library and its programs use no heap.
 
 #![tactic(auto)]
 
 ghost use Rattle.std.specs.Prelude.{◌≡◌, ◌+◌, ◌*◌, ◌≤◌, ◌<◌, ◌^◌, length};
-ghost use Rattle.columns.specs.Columns.{columns, entries};
+ghost use Rattle.columns.specs.Given.{columns_of, entries_in};
 ghost use Rattle.inventory.specs.Shelf.{most_events};
 ghost use Rattle.writing.specs.Written.{Written};
 ghost use Rattle.reply.specs.Reply.{most_reply, Replied};
 ghost use Rattle.ledger.specs.Record.{most_shelf, found_number, next_at, counts_from, shelf_in, pieces_at, event_at, wrong_at, events_from, read_record};
 ghost use Rattle.ledger.specs.Ledger.{most_outcome, most_row, most_stock_line, outcome_text, outcome_row, outcome_rows, stock_line, ledger, replayed_said, replay_said};
 
-use cursor::{Found, Separator, byte_at, number_at, separator_at};
+use columns::{Entries, Table};
+use cursor::{Separator, byte_at, number_at, separator_at};
 use inventory::MOST_EVENTS;
 use reading::agree;
-use refusal::{Acceptance, Refusal, TextColumn, TextLine};
+use refusal::{Refusal, TextColumn, TextLine};
 use reply::{Reply, Status, put_second_refusal};
 use report::MOST_INPUT;
 use weights::Measure;
@@ -28,6 +31,7 @@ const LIMIT: u64 = 1000000000000000000;
 
 // What stands behind a word or a number: a single space and a number, with the place behind it; the
 // line's end, with the place of the next line; or a byte that can't stand there.
+// Kept: an end is neither a number nor a mistake; an `Option` within a `Result` would hide which is which.
 #[derive(Clone, Copy)]
 pub enum Next {
     Number(u64, usize),
@@ -35,34 +39,14 @@ pub enum Next {
     Wrong(usize),
 }
 
-// How many counts a shelf has, with the place of the next line; or a byte that can't stand there.
-#[derive(Clone, Copy)]
-pub enum Counts {
-    Count(usize, usize),
-    Wrong(usize),
-}
-
 // A line of an event: its part, its pieces and the place of the next line; a byte that can't stand
 // there; or nothing more.
+// Kept: as `Next`.
 #[derive(Clone, Copy)]
 pub enum EventLine {
     Event(u64, u64, usize),
     Wrong(usize),
     End,
-}
-
-// How many events a record has, or its refusal.
-#[derive(Clone, Copy)]
-pub enum Events {
-    Count(usize),
-    Refused(Refusal),
-}
-
-// How many counts and events a record has, or its refusal.
-#[derive(Clone, Copy)]
-pub enum Record {
-    Read(usize, usize),
-    Refused(Refusal),
 }
 
 // The refusal of a text line that starts at `at`.
@@ -81,7 +65,7 @@ fn found_at(text: &[u8], at: usize) -> Next
     let token = number_at(text, at, LIMIT);
     let stop = token.stop;
     let found = token.found;
-    let Found::Number(v) = found else {
+    let Some(v) = found else {
         return Next::Wrong(stop);
     };
     Next::Number(v, stop)
@@ -98,41 +82,40 @@ fn next_at(text: &[u8], at: usize) -> Next
     }
 }
 
-// The counts from a place on, put into a column. Behind a full column only the line's end can stand.
-fn read_counts(text: &[u8], from: usize, column: &mut [u64]) -> Counts
+// The counts from a place on, put into a column: how many there are and the place of the next line, or
+// a byte that can't stand there. Behind a full column only the line's end can stand.
+fn read_counts(text: &[u8], from: usize, column: &mut [u64]) -> Result<(usize, usize), usize>
     ensures { record { counts = result; column = column.new } ≡ counts_from (length column.old) text.now from 0 column.old }
 {
     let mut at = from;
-    let mut i: usize = 0;
-    while i < column.len() {
+    for i in 0..column.len() {
         let next = next_at(text, at);
         match next {
-            Next::End(line) => return Counts::Count(i, line),
-            Next::Wrong(place) => return Counts::Wrong(place),
+            Next::End(line) => return Ok((i, line)),
+            Next::Wrong(place) => return Err(place),
             Next::Number(v, stop) => {
                 column[i] = v;
                 at = stop;
             }
         }
-        i += 1;
     }
     let separator = separator_at(text, at);
     match separator {
-        Separator::Space(_) => Counts::Wrong(at),
-        Separator::LineEnd(line) => Counts::Count(i, line),
-        Separator::Neither => Counts::Wrong(at),
+        Separator::Space(_) => Err(at),
+        Separator::LineEnd(line) => Ok((column.len(), line)),
+        Separator::Neither => Err(at),
     }
 }
 
 // The opening counts: the first line.
-fn read_shelf(text: &[u8], column: &mut [u64]) -> Counts
+fn read_shelf(text: &[u8], column: &mut [u64]) -> Result<(usize, usize), usize>
     ensures { record { counts = result; column = column.new } ≡ shelf_in text.now column.old }
 {
     let same = agree(text, b"stock");
     if same == 5 {
         return read_counts(text, 5, column);
     }
-    Counts::Wrong(same)
+    Err(same)
 }
 
 // The pieces of an event, behind its part.
@@ -163,28 +146,32 @@ fn event_at(text: &[u8], at: usize) -> EventLine
     let token = number_at(text, at, LIMIT);
     let stop = token.stop;
     let found = token.found;
-    let Found::Number(part) = found else {
+    let Some(part) = found else {
         return EventLine::Wrong(stop);
     };
     pieces_at(text, part, stop)
 }
 
-// The events from a place on, put into two columns until they are full. Behind full columns nothing
-// can stand.
-fn read_events(text: &[u8], from: usize, parts: &mut [u64], received: &mut [u64]) -> Events
+// The events from a place on, put into two columns until they are full: how many there are, or the
+// refusal. Behind full columns nothing can stand.
+fn read_events(
+    text: &[u8],
+    from: usize,
+    parts: &mut [u64],
+    received: &mut [u64],
+) -> Result<usize, Refusal>
     requires { (from ≤ length text.now) × (length received.old ≡ length parts.old) }
     ensures { let vs = parts.old in
         record { events = result; parts = parts.new; received = received.new } ≡ events_from (length vs) text.now from 0 vs received.old }
 {
     let mut at = from;
-    let mut i: usize = 0;
-    while i < parts.len() {
+    for i in 0..parts.len() {
         let next = event_at(text, at);
         match next {
-            EventLine::End => return Events::Count(i),
+            EventLine::End => return Ok(i),
             EventLine::Wrong(place) => {
                 let refusal = wrong_at(i as u64 + 2, at, place);
-                return Events::Refused(refusal);
+                return Err(refusal);
             }
             EventLine::Event(part, pieces, line) => {
                 parts[i] = part;
@@ -192,33 +179,36 @@ fn read_events(text: &[u8], from: usize, parts: &mut [u64], received: &mut [u64]
                 at = line;
             }
         }
-        i += 1;
     }
+    let count = parts.len();
     if at >= text.len() {
-        return Events::Count(i);
+        return Ok(count);
     }
-    let refusal = wrong_at(i as u64 + 2, at, at);
-    Events::Refused(refusal)
+    let refusal = wrong_at(count as u64 + 2, at, at);
+    Err(refusal)
 }
 
-// The opening counts and the events of a text, put into columns.
-fn read_record(text: &[u8], shelf: &mut [u64], parts: &mut [u64], received: &mut [u64]) -> Record
+// The opening counts and the events of a text, put into columns: how many of each there are, or the
+// refusal.
+fn read_record(
+    text: &[u8],
+    shelf: &mut [u64],
+    parts: &mut [u64],
+    received: &mut [u64],
+) -> Result<(usize, usize), Refusal>
     requires { length received.old ≡ length parts.old }
     ensures { let read = read_record text.now shelf.old parts.old received.old in
         record { result = result; shelf = shelf.new; parts = parts.new; received = received.new } ≡ read }
 {
     let counts = read_shelf(text, shelf);
     match counts {
-        Counts::Wrong(place) => {
+        Err(place) => {
             let refusal = wrong_at(1, 0, place);
-            Record::Refused(refusal)
+            Err(refusal)
         }
-        Counts::Count(k, at) => {
-            let events = read_events(text, at, parts, received);
-            match events {
-                Events::Refused(r) => Record::Refused(r),
-                Events::Count(e) => Record::Read(k, e),
-            }
+        Ok((k, at)) => {
+            let e = read_events(text, at, parts, received)?;
+            Ok((k, e))
         }
     }
 }
@@ -229,6 +219,7 @@ fn put_outcome(room: &mut [u8], outcome: u64) -> usize
     ensures written { Written (outcome_text outcome) room.old result room.new }
     ensures upper_bound { result ≤ most_outcome }
 {
+    // Kept: the numbers are the C interface's, in whose column of outcomes they stand.
     if outcome == 0 {
         return put_bytes(room, b" received\n");
     }
@@ -259,12 +250,9 @@ fn put_outcome_rows(room: &mut [u8], parts: &[u64], outcomes: &[u64]) -> usize
     ensures upper_bound { result ≤ most_row * length parts.now }
 {
     let mut at: usize = 0;
-    let mut i = 0;
-    while i < parts.len() {
-        let part = parts[i];
+    for (i, part) in parts.iter().enumerate() {
         let outcome = outcomes[i];
-        at += put_outcome_row(&mut room[at..], part, outcome);
-        i += 1;
+        at += put_outcome_row(&mut room[at..], *part, outcome);
     }
     at
 }
@@ -294,34 +282,23 @@ fn put_ledger(room: &mut [u8], parts: &[u64], outcomes: &[u64], stock: &[u64]) -
 fn put_replayed(
     room: &mut [u8],
     measure: Measure,
-    n: u64,
-    heads: &[u64],
-    own: &[u64],
-    strikes: &[u64],
-    spans: &[u64],
-    tails: &[u64],
-    weights: &[u64],
-    depths: &[u64],
-    edges: &[u64],
-    pieces: &[u64],
+    table: &Table,
+    entries: &Entries,
     parts: &[u64],
     received: &[u64],
     stock: &mut [u64],
     outcomes: &mut [u64],
 ) -> Reply
     requires { (length outcomes.old ≡ length parts.now) × (length parts.now ≤ most_events) × (length stock.old ≤ most_shelf) × (most_reply ≤ length room.old) }
-    ensures { let c = columns n heads.now own.now strikes.now spans.now tails.now in
-        let a = entries weights.now depths.now edges.now pieces.now in
+    ensures { let c = columns_of table.now in
+        let a = entries_in entries.now in
         let said = replayed_said measure c a parts.now received.now stock.old outcomes.old in
         Replied said room.old result room.new }
 {
-    let a = inventory::replay(
-        measure, n, heads, own, strikes, spans, tails, weights, depths, edges, pieces, parts,
-        received, stock, outcomes,
-    );
+    let a = inventory::replay(measure, table, entries, parts, received, stock, outcomes);
     match a {
-        Acceptance::Refused(r) => put_second_refusal(room, r),
-        Acceptance::Accepted => {
+        Err(r) => put_second_refusal(room, r),
+        Ok(()) => {
             let width = put_ledger(room, parts, outcomes, stock);
             Reply {
                 width,
@@ -336,21 +313,13 @@ fn put_replayed(
 pub fn put_replay(
     room: &mut [u8],
     measure: Measure,
-    n: u64,
-    heads: &[u64],
-    own: &[u64],
-    strikes: &[u64],
-    spans: &[u64],
-    tails: &[u64],
-    weights: &[u64],
-    depths: &[u64],
-    edges: &[u64],
-    pieces: &[u64],
+    table: &Table,
+    entries: &Entries,
     second: &[u8],
 ) -> Reply
     requires { most_reply ≤ length room.old }
-    ensures { let c = columns n heads.now own.now strikes.now spans.now tails.now in
-        let a = entries weights.now depths.now edges.now pieces.now in
+    ensures { let c = columns_of table.now in
+        let a = entries_in entries.now in
         Replied (replay_said measure c a second.now) room.old result room.new }
 {
     if second.len() > MOST_INPUT {
@@ -362,20 +331,12 @@ pub fn put_replay(
     let mut outcomes = [0u64; MOST_EVENTS];
     let read = read_record(second, &mut shelf, &mut parts, &mut received);
     match read {
-        Record::Refused(r) => put_second_refusal(room, r),
-        Record::Read(k, e) => put_replayed(
+        Err(r) => put_second_refusal(room, r),
+        Ok((k, e)) => put_replayed(
             room,
             measure,
-            n,
-            heads,
-            own,
-            strikes,
-            spans,
-            tails,
-            weights,
-            depths,
-            edges,
-            pieces,
+            table,
+            entries,
             &parts[..e],
             &received[..e],
             &mut shelf[..k],

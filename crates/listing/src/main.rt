@@ -1,6 +1,8 @@
 // Reads a table's text from standard input and prices it whole: prints the list of its entries, or
 // the line of its refusal. What it prints of an input is the report's; here is what counts of
 // what was read, and the writing.
+//
+// Kept: columns and rooms are lent, or arrays of a fixed size: the library and its programs use no heap.
 
 #![tactic(auto)]
 

@@ -5,20 +5,11 @@
 
 #![tactic(auto)]
 
-ghost use Rattle.std.specs.Prelude.{◌≡◌, ◌+◌, ◌*◌, ◌<◌, min, length};
+ghost use Rattle.std.specs.Prelude.{◌≡◌, ◌+◌, ◌*◌, ◌<◌, length};
 ghost use Rattle.minima.specs.Minima.{leaves, least_key, least_under, Grouped, lowered, raised};
 
 // In place of a key that is not there.
 pub const NONE: u64 = 18446744073709551615;
-
-fn lesser(a: u64, b: u64) -> u64
-    ensures { result ≡ min a b }
-{
-    if b < a {
-        return b;
-    }
-    a
-}
 
 // The least of the four places under place i.
 fn least_under(q: &[u64], i: usize) -> u64
@@ -29,9 +20,7 @@ fn least_under(q: &[u64], i: usize) -> u64
     let second = q[4 * i + 1];
     let third = q[4 * i + 2];
     let fourth = q[4 * i + 3];
-    let left = lesser(first, second);
-    let right = lesser(third, fourth);
-    lesser(left, right)
+    first.min(second).min(third.min(fourth))
 }
 
 // Key v is lowered to x, where it is above x, and so are the places above it, up to one that is not.
@@ -39,6 +28,7 @@ pub fn lower(q: &mut [u64], v: usize, x: u64)
     requires { (Grouped q.old) × (v < leaves q.old) }
     ensures { q.new ≡ lowered q.old v x }
 {
+    // Kept: the loops climb the tree, from place i to i / 4, and count no index.
     let mut i = q.len() / 2 + v;
     while i > 0 {
         let key = q[i];
@@ -64,7 +54,7 @@ pub fn raise(q: &mut [u64], v: usize)
         q[i] = NONE;
         let others = least_under(q, i / 4);
         q[i] = least;
-        least = lesser(least, others);
+        least = least.min(others);
         i = i / 4;
     }
     q[i] = least;

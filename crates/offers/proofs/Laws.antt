@@ -8,12 +8,12 @@ use native.Mathlib.Omega.{arith}
 use lib.ListN.{length, get_or, drop, drop_of_length-le}
 use lib.Seq.{drop-cons}
 use borrow.Author.Tests.{eq-eqb, ne_eqb}
-use Rattle.weights.specs.declared.Offer.TheVariants.{Nothing, Found}
 use Rattle.weights.specs.Figures.{is_struck_mark}
 use Rattle.weights.specs.Measures.{Algebra, fold, weigh}
 use Rattle.weights.specs.Labels.{label}
 use Rattle.provenance.specs.Labelling.{each, greatest_depth, none_zero, offer_of}
 use Rattle.offers.specs.Passing.{rest}
+use Rattle.std.specs.Prelude.{Some, None}
 
 max_assoc : (a b c : ℕ) → max a (max b c) ≡ max (max a b) c
 max_assoc a b c = omega arith
@@ -29,11 +29,11 @@ module _ (A : Algebra) (e own : ℕ) (w t : ℕ → ℕ) (j d : ℕ) (tail : Lis
   unfolding rest none_zero each greatest_depth fold
   rest_more h n = rw (add-one, drop-cons tail i 0 h, ne_eqb _ _ n, max_assoc)
 
-  pub rest_stop : i < length tail → t (get_or tail i 0) ≡ 0 → Nothing ≡ rest A e own w t j d (drop i tail)
+  pub rest_stop : i < length tail → t (get_or tail i 0) ≡ 0 → None ≡ rest A e own w t j d (drop i tail)
   unfolding rest none_zero
   rest_stop h n = rw (drop-cons tail i 0 h, eq-eqb _ _ n)
 
-  pub rest_end : length tail ≤ i → Found (label (A.finish own j) (d + 1) e) ≡ rest A e own w t j d (drop i tail)
+  pub rest_end : length tail ≤ i → Some (label (A.finish own j) (d + 1) e) ≡ rest A e own w t j d (drop i tail)
   unfolding rest none_zero each greatest_depth fold
   rest_end h = rw (drop_of_length-le tail h, max-zero)
 
@@ -42,6 +42,6 @@ module _ (A : Algebra) (e own mark : ℕ) (w t : ℕ → ℕ) (tail : List ℕ) 
   unfolding rest offer_of weigh
   rest_whole p = rw (p, zero-max)
 
-  pub struck_nothing : is_struck_mark mark ≡ true → Nothing ≡ offer_of A (not (is_struck_mark mark)) own tail w t e
+  pub struck_nothing : is_struck_mark mark ≡ true → None ≡ offer_of A (not (is_struck_mark mark)) own tail w t e
   unfolding offer_of
   struck_nothing p = rw p

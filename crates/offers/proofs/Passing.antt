@@ -11,7 +11,6 @@ use lib.ListN.{length, drop, get_or-eq_default}
 use borrow.Author.Tests.{ne_eqb}
 use Rattle.weights.specs.declared.Measure.{Measure}
 use Rattle.weights.specs.declared.Measure.TheVariants.{Cost, Days, Grade}
-use Rattle.weights.specs.declared.Offer.TheVariants.{Nothing, Found}
 use Rattle.weights.specs.Choice.{pick}
 use Rattle.weights.specs.Figures.{over, greatest}
 use Rattle.weights.specs.Labels.{label}
@@ -25,6 +24,7 @@ use Rattle.columns.proofs.Laws.{below_from, below_more, below_stop}
 use Rattle.queue.specs.Keys.{heavy}
 use Rattle.offers.specs.Passing.{rest, Extends, plain, Light, Passable, Carried}
 use Rattle.offers.proofs.Laws.{rest_more, rest_stop, rest_end}
+use Rattle.std.specs.Prelude.{Some, None}
 
 -- labels extend themselves
 pub extends_refl : (w d : ℕ → ℕ) → Extends w d w d
@@ -51,7 +51,7 @@ plain-fold Grade own a x ws = refl
 
 plain-rest : (m : Measure) (e own : ℕ) (w d : ℕ → ℕ) (a x g : ℕ) (vs : List ℕ) → rest (algebra m) e own w d (plain m a x) g vs ≡ rest (algebra m) e own w d ((algebra m).join a x) g vs
 unfolding rest
-plain-rest m e own w d a x g vs = ap (λ (z : ℕ). pick (none_zero d vs) (Found (label z (max g (greatest_depth d vs) + 1) e)) Nothing) (plain-fold m own a x (each w vs))
+plain-rest m e own w d a x g vs = ap (λ (z : ℕ). pick (none_zero d vs) (Some (label z (max g (greatest_depth d vs) + 1) e)) None) (plain-fold m own a x (each w vs))
 
 plain_bound : (m : Measure) (a x b : ℕ) → a ≤ b → x < heavy → plain m a x ≤ b + heavy
 plain_bound Cost a x b h k = omega arith
@@ -90,11 +90,11 @@ carried_more m w d tail i j g k h n b l = record {
 
 module _ {A : Algebra} {w d : ℕ → ℕ} {tail : List ℕ} {i j g : ℕ} (p : Carried A w d tail i j g) (e own : ℕ) where
   -- a vertex that is unmade is reached
-  pub carried_stop : i < length tail → d (cell tail i) ≡ 0 → Nothing ≡ rest A e own w d A.unit 0 tail
+  pub carried_stop : i < length tail → d (cell tail i) ≡ 0 → None ≡ rest A e own w d A.unit 0 tail
   carried_stop h z = rest_stop A e own w d j g tail i h z ∙ p.carried e own w d (extends_refl w d)
 
   -- the end is reached
-  pub carried_end : length tail ≤ i → Found (label (A.finish own j) (g + 1) e) ≡ rest A e own w d A.unit 0 tail
+  pub carried_end : length tail ≤ i → Some (label (A.finish own j) (g + 1) e) ≡ rest A e own w d A.unit 0 tail
   carried_end h = rest_end A e own w d j g tail i h ∙ p.carried e own w d (extends_refl w d)
 
 -- a column in which every weight is light; beyond it there is none

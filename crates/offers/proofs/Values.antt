@@ -8,7 +8,6 @@ use native.Mathlib.Omega.{arith}
 use native.Mathlib.Decide.{ℕ_discrete}
 use lib.ListN.{length, get_or, set, drop, length-append, get_or-append}
 use Rattle.weights.specs.declared.Measure.{Measure}
-use Rattle.weights.specs.declared.Offer.TheVariants.{Nothing, Found}
 use Rattle.weights.specs.Figures.{none}
 use Rattle.weights.specs.Measures.{Algebra, weigh}
 use Rattle.weights.specs.Choice.{pick}
@@ -18,6 +17,7 @@ use Rattle.columns.specs.Columns.{cell}
 use Rattle.columns.specs.Filled.{filled}
 use Rattle.columns.proofs.Filled.{filled-set}
 use Rattle.offers.specs.Values.{below, value_in, height_in, value_at, height_at, values_of, heights_of, Valued}
+use Rattle.std.specs.Prelude.{Some, None}
 
 -- what a hyperedge's offer comes to is its value and its height
 module _ (A : Algebra) (live : Bool) (own : ℕ) (tail : List ℕ) (w d : ℕ → ℕ) (e : ℕ) where
@@ -31,7 +31,7 @@ module _ (A : Algebra) (live : Bool) (own : ℕ) (tail : List ℕ) (w d : ℕ �
   unfolding offer_of value_of
   value_in_lem = go live (none_zero d tail)
     where
-      go : (p q : Bool) → value_in (pick p (pick q (Found (label x g e)) Nothing) Nothing) ≡ pick p (pick q x none) none
+      go : (p q : Bool) → value_in (pick p (pick q (Some (label x g e)) None) None) ≡ pick p (pick q x none) none
       go true true = refl
       go true false = refl
       go false q = refl
@@ -40,7 +40,7 @@ module _ (A : Algebra) (live : Bool) (own : ℕ) (tail : List ℕ) (w d : ℕ �
   unfolding offer_of height_of
   height_in_lem = go live (none_zero d tail)
     where
-      go : (p q : Bool) → height_in (pick p (pick q (Found (label x g e)) Nothing) Nothing) ≡ pick p (pick q g 0) 0
+      go : (p q : Bool) → height_in (pick p (pick q (Some (label x g e)) None) None) ≡ pick p (pick q g 0) 0
       go true true = refl
       go true false = refl
       go false q = refl

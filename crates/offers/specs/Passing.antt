@@ -1,10 +1,8 @@
 -- A tail passed place by place: weights are joined as they are and capped once, at the end, and what was passed is carried along. Assumes nothing: these are
 -- definitions.
-use Rattle.std.specs.Prelude.{ℕ, ◌+◌, ◌*◌, ◌≤◌, ◌<◌, min, max, ◌≡◌, ◌≢◌, List, length, drop}
+use Rattle.std.specs.Prelude.{ℕ, ◌+◌, ◌*◌, ◌≤◌, ◌<◌, min, max, ◌≡◌, ◌≢◌, List, length, drop, Some, None}
 use Rattle.weights.specs.declared.Measure.{Measure}
 use Rattle.weights.specs.declared.Measure.TheVariants.{Cost, Days, Grade}
-use Rattle.weights.specs.declared.Offer.{Offer}
-use Rattle.weights.specs.declared.Offer.TheVariants.{Nothing, Found}
 use Rattle.weights.specs.Choice.{pick}
 use Rattle.weights.specs.Labels.{label}
 use Rattle.weights.specs.Measures.{Algebra, fold}
@@ -13,10 +11,11 @@ use Rattle.columns.specs.Acceptance.{most_vertices, longest_tail}
 use Rattle.columns.specs.Columns.{cell}
 use Rattle.columns.specs.Lent.{Legible}
 use Rattle.queue.specs.Keys.{heavy}
+use Rattle.weights.specs.Offers.{Offer}
 
 -- what is left of a tail gives, where what went before joins to j and is d deep
 unfoldable pub rest : Algebra → (e own : ℕ) → (weight depth : ℕ → ℕ) → (j d : ℕ) → List ℕ → Offer
-rest A e own w t j d vs = pick (none_zero t vs) (Found (label (A.finish own (fold A.join j (each w vs))) (max d (greatest_depth t vs) + 1) e)) Nothing
+rest A e own w t j d vs = pick (none_zero t vs) (Some (label (A.finish own (fold A.join j (each w vs))) (max d (greatest_depth t vs) + 1) e)) None
 
 -- later labels: what is made stays as it is
 pub record Extends (w d w' d' : ℕ → ℕ) : Type 0 where

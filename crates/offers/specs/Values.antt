@@ -1,15 +1,14 @@
 -- The columns of the lines' values and of their heights (document 02, 2026-04): what they hold, and what filling them asks of its caller. Assumes nothing: these are
 -- definitions.
-use Rattle.std.specs.Prelude.{◌≡◌, not, List, [], ◌∷◌, ◌++◌, ℕ, zero, suc, ◌≤◌, ◌<◌, length}
+use Rattle.std.specs.Prelude.{◌≡◌, not, List, [], ◌∷◌, ◌++◌, ℕ, zero, suc, ◌≤◌, ◌<◌, length, Some, None}
 use Rattle.weights.specs.declared.Measure.{Measure}
-use Rattle.weights.specs.declared.Offer.{Offer}
-use Rattle.weights.specs.declared.Offer.TheVariants.{Nothing, Found}
 use Rattle.weights.specs.Figures.{greatest, none, is_struck_mark, capped}
 use Rattle.weights.specs.Measures.{algebra}
 use Rattle.provenance.specs.Labelling.{value_of, height_of}
 use Rattle.columns.specs.Acceptance.{most_vertices}
 use Rattle.columns.specs.Columns.{cell, tail_of}
 use Rattle.columns.specs.Lent.{EdgeIn}
+use Rattle.weights.specs.Offers.{Offer}
 
 -- the numbers that f gives below k, in order
 unfoldable pub below : (ℕ → ℕ) → ℕ → List ℕ
@@ -18,12 +17,12 @@ below f (suc k) = below f k ++ f k ∷ []
 
 -- the value of an offer, and its height
 abbrev pub value_in : Offer → ℕ
-value_in Nothing = none
-value_in (Found x) = x.weight.0
+value_in None = none
+value_in (Some x) = x.weight.0
 
 abbrev pub height_in : Offer → ℕ
-height_in Nothing = 0
-height_in (Found x) = x.depth
+height_in None = 0
+height_in (Some x) = x.depth
 
 -- the figures and depths that are lent beside a table's own figures, strike marks, spans and tails
 module _ (m : Measure) (os ms ss ts ws ds : List ℕ) where

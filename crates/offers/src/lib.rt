@@ -1,9 +1,14 @@
 // What a hyperedge offers its head: the candidate that it gives from the labels in the columns. And
 // columns of what all hyperedges of a table offer.
+//
+// Kept: columns and rooms are lent, or arrays of a fixed size: the library and its programs use no heap.
+//
+// Kept: own weights, marks, spans and tails are taken apart from heads, since the values of one line are
+// asked of slices that begin at it (`settle::line_rests`).
 
 #![tactic(auto)]
 
-ghost use Rattle.std.specs.Prelude.{◌≡◌, not, ◌+◌, ◌/◌, ◌≤◌, ◌<◌, min, max, length, set};
+ghost use Rattle.std.specs.Prelude.{◌≡◌, not, ◌+◌, ◌/◌, ◌≤◌, ◌<◌, max, length, set};
 ghost use Rattle.weights.specs.Figures.{greatest, is_struck_mark, capped};
 ghost use Rattle.weights.specs.Measures.{algebra};
 ghost use Rattle.provenance.specs.Labelling.{offer_of};
@@ -15,7 +20,7 @@ ghost use Rattle.queue.specs.Keys.{heavy};
 ghost use Rattle.offers.specs.Passing.{plain, Light, Passable};
 ghost use Rattle.offers.specs.Values.{value_in, height_in, values_of, heights_of, capped_column, Notable, Valuable};
 
-use weights::{Hyperedge, Label, Mark, Measure, Offer, Weight};
+use weights::{Hyperedge, Label, Mark, Measure, Weight};
 
 // Weights below it are light: a tail of them can be summed.
 const HEAVY: u64 = 1099511627776;
@@ -24,20 +29,7 @@ const HEAVY: u64 = 1099511627776;
 pub fn deeper(a: u64, b: u64) -> u64
     ensures { result ≡ max a b }
 {
-    if a < b {
-        return b;
-    }
-    a
-}
-
-// The lesser of two grades.
-fn lesser(a: u64, b: u64) -> u64
-    ensures { result ≡ min a b }
-{
-    if a > b {
-        return b;
-    }
-    a
+    a.max(b)
 }
 
 // Two weights of a tail, joined. A sum is capped only at the end of the tail, where it has no more
@@ -49,18 +41,15 @@ pub fn joining(measure: Measure, a: u64, b: u64) -> u64
     match measure {
         Measure::Cost => a + b,
         Measure::Days => deeper(a, b),
-        Measure::Grade => lesser(a, b),
+        Measure::Grade => a.min(b),
     }
 }
 
-// A lent weight, or a sum that did not wrap, capped.
+// A lent weight, or a sum that did not wrap, capped. The mark over is 1 more than the ceiling.
 fn cap(sum: u64) -> u64
     ensures { result ≡ capped sum }
 {
-    if sum > Weight::CEILING.0 {
-        return Weight::OVER.0;
-    }
-    sum
+    sum.min(Weight::OVER.0)
 }
 
 // An own weight with the joined weights of its tail: here a sum is capped.
@@ -71,7 +60,7 @@ pub fn finishing(measure: Measure, own: u64, joined: u64) -> u64
     match measure {
         Measure::Cost => cap(own + joined),
         Measure::Days => cap(own + joined),
-        Measure::Grade => lesser(own, joined),
+        Measure::Grade => own.min(joined),
     }
 }
 
@@ -89,11 +78,8 @@ fn all_light(weights: &[u64]) -> bool
     ensures { result ≡ all_below heavy weights.now }
 {
     let mut shares: u64 = 0;
-    let mut i = 0;
-    while i < weights.len() {
-        let weight = weights[i];
-        shares += share(weight);
-        i += 1;
+    for weight in weights {
+        shares += share(*weight);
     }
     shares == 0
 }
@@ -110,15 +96,15 @@ fn candidate(
     tail: &[u64],
     weights: &[u64],
     depths: &[u64],
-) -> Offer
+) -> Option<Label>
     requires { (Passable tail.now weights.now depths.now) × (own.0 ≤ greatest) }
     ensures { result ≡ offer_of (algebra measure) (not (is_struck_mark mark.0)) own.0 tail.now (cell weights.now) (cell depths.now) e.0 }
 {
     if mark.is_struck() {
-        return Offer::Nothing;
+        return None;
     }
-    if tail.len() == 0 {
-        return Offer::Found(Label {
+    if tail.is_empty() {
+        return Some(Label {
             weight: own,
             depth: 1,
             edge: e,
@@ -127,21 +113,19 @@ fn candidate(
     let unit = Weight::unit(measure);
     let mut joined = unit.0;
     let mut deepest: u64 = 0;
-    let mut i = 0;
-    while i < tail.len() {
-        let v = tail[i] as usize;
+    for part in tail {
+        let v = *part as usize;
         let depth = depths[v];
         if depth == 0 {
-            return Offer::Nothing;
+            return None;
         }
         let weight = weights[v];
         joined = joining(measure, joined, weight);
         deepest = deeper(deepest, depth);
-        i += 1;
     }
     let weight = finishing(measure, own.0, joined);
     let depth = deepest + 1;
-    Offer::Found(Label {
+    Some(Label {
         weight: Weight(weight),
         depth,
         edge: e,
@@ -158,7 +142,7 @@ pub fn offer(
     tails: &[u64],
     weights: &[u64],
     depths: &[u64],
-) -> Offer
+) -> Option<Label>
     requires { (EdgeIn e.0 own.now strikes.now spans.now tails.now weights.now depths.now) × (cell own.now e.0 ≤ greatest) × Light weights.now }
     ensures { let live = not (is_struck_mark (cell strikes.now e.0)) in
         let tail = tail_of spans.now tails.now e.0 in
@@ -180,13 +164,13 @@ pub fn offer(
 }
 
 // What an offer comes to goes into place i of two columns: its weight and its depth, or none and 0.
-fn note(i: usize, o: Offer, values: &mut [u64], heights: &mut [u16])
+fn note(i: usize, o: Option<Label>, values: &mut [u64], heights: &mut [u16])
     requires { Notable i o values.old heights.old }
     ensures { let v = values.new ≡ set values.old i (value_in o) in
         let h = heights.new ≡ set heights.old i (height_in o) in
         v × h }
 {
-    let Offer::Found(x) = o else {
+    let Some(x) = o else {
         values[i] = Weight::NONE.0;
         heights[i] = 0;
         return;
@@ -215,12 +199,10 @@ fn light_values(
         let hs = heights_of measure own.now strikes.now spans.now tails.now weights.now depths.now n in
         (values.new ≡ filled vs values.old) × (heights.new ≡ filled hs heights.old) }
 {
-    let mut i = 0;
-    while i < own.len() {
+    for i in 0..own.len() {
         let e = Hyperedge(i as u64);
         let o = offer(measure, e, own, strikes, spans, tails, weights, depths);
         note(i, o, values, heights);
-        i += 1;
     }
 }
 
@@ -229,11 +211,8 @@ fn cap_all(weights: &[u64], column: &mut [u64])
     requires { length weights.now ≤ length column.old }
     ensures { column.new ≡ filled (capped_column weights.now) column.old }
 {
-    let mut i = 0;
-    while i < weights.len() {
-        let weight = cap(weights[i]);
-        column[i] = weight;
-        i += 1;
+    for (i, weight) in weights.iter().enumerate() {
+        column[i] = cap(*weight);
     }
 }
 

@@ -1,10 +1,12 @@
 // The program for the desks: a command and its numbers as arguments, a table's text on standard
 // input, and where the command has a second input its file as the last argument. What it prints is
 // the reply of `desk`; here are the arguments as a line of words, the reading and the writing.
+//
+// Kept: columns and rooms are lent, or arrays of a fixed size: the library and its programs use no heap.
 
 #![tactic(auto)]
 
-ghost use Rattle.std.specs.Prelude.{◌≡◌, ◌≤◌, length};
+ghost use Rattle.std.specs.Prelude.{◌≡◌, ◌≤◌, length, IfSome};
 ghost use Rattle.input.specs.Input.{buffer_length, IsPrefixLen};
 
 use command::takes_second;
@@ -20,11 +22,11 @@ const MOST_WORDS: usize = 512;
 // As long as a file's name may be.
 const MOST_NAME: usize = 4096;
 
-// The length of the line of words, and the argument that names the second input's file, or 0.
+// The length of the line of words, and the argument that names the second input's file, if any.
 #[derive(Clone, Copy)]
 struct Line {
     stop: usize,
-    named: usize,
+    named: Option<usize>,
 }
 
 // How many arguments there are, the program's own name among them.
@@ -37,21 +39,21 @@ fn argument_count(rt: &impl Env) -> usize {
     usize::MAX
 }
 
-// Puts an argument into the line at a place, and a space behind it; the place behind that, or 0 where
-// they do not fit.
-fn put_argument(rt: &impl Env, i: usize, words: &mut [u8], at: usize) -> usize
+// Puts an argument into the line at a place, and a space behind it; the place behind that, or none
+// where they do not fit.
+fn put_argument(rt: &impl Env, i: usize, words: &mut [u8], at: usize) -> Option<usize>
     requires { at ≤ length words.old }
-    ensures { result ≤ length words.new }
+    ensures { IfSome result (λ stop. stop ≤ length words.new) }
 {
     let Ok(width) = rt.arg(i, &mut words[at..]) else {
-        return 0;
+        return None;
     };
     let stop = at + width;
     if stop >= words.len() {
-        return 0;
+        return None;
     }
     words[stop] = b' ';
-    stop + 1
+    Some(stop + 1)
 }
 
 // The arguments before one as a line: a space between two, and an LF behind the last. Where they do
@@ -60,13 +62,11 @@ fn gather(rt: &impl Env, count: usize, words: &mut [u8]) -> usize
     ensures { result ≤ length words.new }
 {
     let mut at: usize = 0;
-    let mut i: usize = 1;
-    while i < count {
-        at = put_argument(rt, i, words, at);
-        if at == 0 {
+    for i in 1..count {
+        let Some(stop) = put_argument(rt, i, words, at) else {
             return 0;
-        }
-        i += 1;
+        };
+        at = stop;
     }
     if at == 0 {
         return 0;
@@ -81,9 +81,12 @@ fn gather_all(rt: &impl Env, count: usize, words: &mut [u8]) -> Line
 {
     let stop = gather(rt, count, words);
     if takes_second(&words[..stop]) {
-        return Line { stop: 0, named: 0 };
+        return Line {
+            stop: 0,
+            named: None,
+        };
     }
-    Line { stop, named: 0 }
+    Line { stop, named: None }
 }
 
 // Where every argument but the last is the line of a command with a second input, the last names its
@@ -98,21 +101,24 @@ fn gather_line(rt: &impl Env, words: &mut [u8]) -> Line
     let named = count - 1;
     let stop = gather(rt, named, words);
     if takes_second(&words[..stop]) {
-        return Line { stop, named };
+        return Line {
+            stop,
+            named: Some(named),
+        };
     }
     gather_all(rt, count, words)
 }
 
-// Reads the file that an argument names; of argument 0, which names none, nothing.
-fn read_second(rt: &(impl Env + Files), named: usize, second: &mut [u8]) -> Read
+// Reads the file that an argument names; where none does, nothing.
+fn read_second(rt: &(impl Env + Files), named: Option<usize>, second: &mut [u8]) -> Read
     requires { length second.old ≡ buffer_length }
     ensures { IsPrefixLen result.count second.new }
 {
-    if named == 0 {
+    let Some(i) = named else {
         return Read { count: 0, last: 0 };
-    }
+    };
     let mut name = [0u8; MOST_NAME];
-    let Ok(width) = rt.arg(named, &mut name) else {
+    let Ok(width) = rt.arg(i, &mut name) else {
         return Read { count: 0, last: -1 };
     };
     let Ok(path) = str::from_utf8(&name[..width]) else {
@@ -129,11 +135,7 @@ fn is_command(words: &[u8]) -> bool {
     let mut room = desk::blank_room();
     let none = &words[..0];
     let told = desk::reply(words, none, none, &mut room);
-    let status = told.status;
-    if let Status::Misused = status {
-        return false;
-    }
-    true
+    !matches!(told.status, Status::Misused)
 }
 
 // The reply is printed.

@@ -6,7 +6,6 @@ use native.Mathlib.Omega.{arith}
 use lib.ListN.{length}
 use Rattle.weights.specs.Measures.{Algebra}
 use Rattle.weights.specs.Laws.{Lawful}
-use Rattle.refusal.specs.declared.Acceptance.TheVariants.{Accepted}
 use Rattle.provenance.specs.BestFirst.{labels}
 use Rattle.provenance.specs.Labelling.{Fixpoint}
 use Rattle.provenance.proofs.Existence.{fixpoint_shallow}
@@ -18,8 +17,9 @@ use Rattle.columns.specs.Acceptance.{acceptance}
 use Rattle.columns.proofs.Accepted.{table_accepted}
 use Rattle.tables.proofs.Formed.{well_formed}
 use Rattle.pieces.specs.Counting.{lists, choices, counted, Countable}
+use Rattle.std.specs.Prelude.{Ok}
 
-module _ (c : Columns) (a : Answers) (p : acceptance c ≡ Accepted) (s : Sized c.vertices a) where
+module _ (c : Columns) (a : Answers) (p : acceptance c ≡ Ok tt) (s : Sized c.vertices a) where
   pub countable : {A : Algebra} {own : ℕ → ℕ} {pieces : List ℕ} → Lawful A → Fixpoint A (hypergraph c) own (labels a) → length pieces ≡ c.vertices
       → Countable c.spans c.tails a.depths a.edges pieces
   countable L fix l =

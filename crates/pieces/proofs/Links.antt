@@ -2,7 +2,7 @@
 use mathlib.Core.Path.{◌≡◌, refl, sym, ◌∙◌, ap}
 use mathlib.Core.Bool.{Bool, true, false}
 use mathlib.Core.List.{List}
-use Prim.Native.Nat.{ℕ, zero, suc, ◌+◌, ◌≤◌, ◌<◌}
+use Prim.Native.Nat.{ℕ, zero, suc, ◌+◌, ◌≤◌, ◌<◌, max}
 use native.Mathlib.Numerals.{add-one}
 use native.Mathlib.Omega.{arith}
 use native.Mathlib.Decide.{ℕ_discrete}
@@ -78,23 +78,18 @@ linked_more {depths} {layers} {v} {last} {pieces} l h s = record {
     link u b (yes e) = rw e (get_or-set_same pieces v (cell last (cell depths v)) 0 (let k = l.pieces_level in omega arith) ∙ l.ends (cell depths v) s)
     link u b (no n) = get_or-set_other pieces v u (cell last (cell depths v)) 0 n ∙ l.links u (omega arith)
 
+-- the greatest depth, of no vertex and of one vertex more
+pub deepest_none : {depths : List ℕ} {layers : ℕ} → 0 < layers → Deepest depths layers 0 0
+deepest_none h = record { layer = h; most = λ u k. absurd (omega arith) }
+
+pub deepest_more : {depths : List ℕ} {layers v g g' : ℕ} → Deepest depths layers v g → cell depths v < layers → g' ≡ max g (cell depths v) → Deepest depths layers (v + 1) g'
+deepest_more {depths} {layers} {v} {g} {g'} d h e = record { layer = omega (arith, d.layer); most = λ u k. go u (ℕ_discrete u v) k }
+  where
+    go : (u : ℕ) → Dec (u ≡ v) → u < v + 1 → cell depths u ≤ g'
+    go u (yes p) k = omega (arith, ap (cell depths) p)
+    go u (no n) k = omega (arith, d.most u (omega arith))
+
 -- a new array is cleared
--- the greatest depth, of one vertex more
-module _ {depths : List ℕ} {layers v g g' : ℕ} (d : Deepest depths layers v g) where
-  pub deepest_new : cell depths v < layers → g < cell depths v → g' ≡ cell depths v → Deepest depths layers (v + 1) g'
-  deepest_new h l e = record { layer = omega arith; most = λ u k. go u (ℕ_discrete u v) k }
-    where
-      go : (u : ℕ) → Dec (u ≡ v) → u < v + 1 → cell depths u ≤ g'
-      go u (yes p) k = omega (arith, ap (cell depths) p)
-      go u (no n) k = omega (arith, d.most u (omega arith))
-
-  pub deepest_same : cell depths v ≤ g → g' ≡ g → Deepest depths layers (v + 1) g'
-  deepest_same l e = record { layer = omega (arith, d.layer); most = λ u k. go u (ℕ_discrete u v) k }
-    where
-      go : (u : ℕ) → Dec (u ≡ v) → u < v + 1 → cell depths u ≤ g'
-      go u (yes p) k = omega (arith, ap (cell depths) p)
-      go u (no n) k = omega (arith, d.most u (omega arith))
-
 pub linkable_new : {spans tails depths edges pieces : List ℕ} → Countable spans tails depths edges pieces → (r : ℕ) → length depths < r → Linkable depths (replicate r 0) pieces
 linkable_new c r k = record {
   level = c.pieces_level;

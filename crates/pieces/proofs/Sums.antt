@@ -1,14 +1,17 @@
 -- The sum over a tail, one vertex after the other. Assumes nothing.
-use mathlib.Core.Path.{◌≡◌, refl, ◌∙◌, ap}
+use mathlib.Core.Path.{◌≡◌, refl, sym, ◌∙◌, ap}
 use mathlib.Core.List.{List, [], ◌∷◌}
-use mathlib.Core.Bool.{true, false}
+use mathlib.Core.Bool.{Bool, true, false}
 use Prim.Native.Nat.{ℕ, zero, suc, ◌+◌, ◌*◌, ◌≤◌, ◌<◌, min}
 use native.Mathlib.Numerals.{add-one}
 use native.Mathlib.Omega.{arith}
-use lib.ListN.{length, get_or, take, drop, drop_of_length-le}
-use lib.Seq.{take-suc, take_all, drop-cons}
+use native.Mathlib.Decide.{dec_le}
+use lib.ListN.{length, get_or, take, get_or-eq_default}
+use lib.Seq.{take-suc, take_all}
 use lib.Dec.{leb}
-use borrow.Author.Tests.{leb-true, le-leb, lt-leb}
+use borrow.Author.Tests.{leb-true, le-leb}
+use Rattle.std.specs.Bool.{MatchBool}
+use Rattle.std.specs.List.{AllWithin, HoldsAt}
 use Rattle.columns.specs.Columns.{cell}
 use Rattle.weights.proofs.Choice.{both_true}
 use Rattle.provenance.specs.Counting.{total}
@@ -52,20 +55,7 @@ module _ (p : ℕ → ℕ) (tail : List ℕ) where
       go [] e = refl
       go (v ∷ vs) e = absurd (omega arith)
 
--- Whether the counts of a column are low, from place i on ------------------------------------------------------------------------------------------
-
-module _ (pieces : List ℕ) (i : ℕ) where
-  pub low_pass : i < length pieces → cell pieces i ≤ most_pieces → low (drop (i + 1) pieces) ≡ low (drop i pieces)
-  unfolding low
-  low_pass h k = rw (add-one i, drop-cons pieces i 0 h, le-leb _ _ k)
-
-  pub low_stop : i < length pieces → most_pieces < cell pieces i → false ≡ low (drop i pieces)
-  unfolding low
-  low_stop h k = rw (drop-cons pieces i 0 h, lt-leb _ _ k)
-
-  pub low_end : length pieces ≤ i → true ≡ low (drop i pieces)
-  unfolding low
-  low_end h = rw (drop_of_length-le pieces h)
+-- Whether the counts of a column are low -----------------------------------------------------------------------------------------------------------
 
 pub low_is : (pieces : List ℕ) → low pieces ≡ true → Low pieces
 unfolding low
@@ -78,3 +68,17 @@ pub is_low : (pieces : List ℕ) → Low pieces → low pieces ≡ true
 unfolding low
 is_low [] f = refl
 is_low (p ∷ ps) f = rw (le-leb _ _ (f 0)) (is_low ps (λ v. f (suc v)))
+
+-- all are, or one is not
+pub low_cases : (r : Bool) (pieces : List ℕ) → MatchBool r (AllWithin (λ p. p ≤ most_pieces) pieces 0 (length pieces)) ((k : ℕ) × (k < length pieces) × HoldsAt (λ p. most_pieces < p) pieces k)
+    → r ≡ low pieces
+low_cases true pieces f = sym (is_low pieces (λ v. go v (dec_le (length pieces) v)))
+  where
+    go : (v : ℕ) → Dec (length pieces ≤ v) → cell pieces v ≤ most_pieces
+    go v (yes h) = omega (arith, get_or-eq_default pieces 0 {n = v} h)
+    go v (no n) = f v 0 (omega arith) (omega arith)
+low_cases false pieces (k, h, f) = go (low pieces) refl
+  where
+    go : (b : Bool) → low pieces ≡ b → false ≡ b
+    go false e = refl
+    go true e = absurd (omega (arith, low_is pieces e k, f 0))

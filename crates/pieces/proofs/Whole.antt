@@ -2,9 +2,9 @@
 use mathlib.Core.Path.{◌≡◌, refl, sym, ◌∙◌, ap, subst}
 use mathlib.Core.Bool.{Bool, true, false}
 use mathlib.Core.List.{List}
-use Prim.Native.Nat.{ℕ, ◌+◌, ◌≤◌, ◌<◌}
+use Prim.Native.Nat.{ℕ, ◌≤◌, ◌<◌}
 use native.Mathlib.Omega.{arith}
-use native.Mathlib.Decide.{ℕ_discrete, dec_le}
+use native.Mathlib.Decide.{dec_le}
 use lib.ListN.{length, get_or-eq_default}
 use borrow.Author.Tests.{eq-eqb, ne_eqb}
 use Rattle.weights.proofs.Choice.{apart}
@@ -84,11 +84,3 @@ high_wrong spans tails depths edges pieces h = go (equal pieces whole) refl
     go : (b : Bool) → equal pieces whole ≡ b → false ≡ b
     go false e = refl
     go true e = apart (sym h ∙ ap low (equal-true pieces whole e) ∙ is_low whole whole_low)
-
--- one vertex more
-pub passed_more : (P : ℕ → Type 0) (v : ℕ) → ((u : ℕ) → u < v → P u) → P v → (u : ℕ) → u < v + 1 → P u
-passed_more P v f p u h = go (ℕ_discrete u v)
-  where
-    go : Dec (u ≡ v) → P u
-    go (yes e) = subst P (sym e) p
-    go (no n) = f u (omega arith)

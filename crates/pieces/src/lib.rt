@@ -1,11 +1,13 @@
 // The piece counts of a table's parts, from the lists of its lines and the depth and chosen line of
 // each part: how many lines without parts a chosen make-up holds, and at most so many. Parts are
 // counted by depth, so that what a line lists is counted before it.
+//
+// Kept: columns and rooms are lent, or arrays of a fixed size: the library and its programs use no heap.
 
 #![tactic(auto)]
 
-ghost use Rattle.std.specs.Prelude.{◌≡◌, ◌≤◌, ◌<◌, min, length};
-ghost use Rattle.provenance.specs.Pieces.{most_pieces, piece_count, piece_local};
+ghost use Rattle.std.specs.Prelude.{◌≡◌, ◌≤◌, ◌<◌, length};
+ghost use Rattle.provenance.specs.Pieces.{piece_count, piece_local};
 ghost use Rattle.columns.specs.Columns.{cell, tail_of};
 ghost use Rattle.columns.specs.Same.{equal};
 ghost use Rattle.pieces.specs.Counting.{counted, count_of, low, Low, Summable, Countable, Linkable, Linked, Deepest, Staged, Layer};
@@ -15,34 +17,21 @@ use weights::{Hyperedge, Vertex};
 // The greatest count; more are counted as so many.
 pub const MOST_PIECES: u64 = 1000000000;
 
-// At most the greatest count.
-fn capped(sum: u64) -> u64
-    ensures { result ≡ min sum most_pieces }
-{
-    if sum > MOST_PIECES {
-        return MOST_PIECES;
-    }
-    sum
-}
-
 // What a tail counts by the counts in a column: 1 where it lists nothing. The sum of so few counts
 // does not wrap, and is capped at the end.
 fn count_tail(tail: &[u64], pieces: &[u64]) -> u64
     requires { Summable tail.now pieces.now }
     ensures { result ≡ piece_count (cell pieces.now) tail.now }
 {
-    if tail.len() == 0 {
+    if tail.is_empty() {
         return 1;
     }
     let mut sum: u64 = 0;
-    let mut i = 0;
-    while i < tail.len() {
-        let v = tail[i] as usize;
-        let count = pieces[v];
-        sum += count;
-        i += 1;
+    for part in tail {
+        let v = *part as usize;
+        sum += pieces[v];
     }
-    capped(sum)
+    sum.min(MOST_PIECES)
 }
 
 // What vertex v counts by the counts in a column: 0 where it is unmade.
@@ -76,16 +65,11 @@ fn link(depths: &[u64], last: &mut [u64], pieces: &mut [u64]) -> usize
     ensures deepest { Deepest depths.now (length last.old) (length depths.now) result }
 {
     let mut deepest: usize = 0;
-    let mut i = 0;
-    while i < depths.len() {
-        let d = depths[i] as usize;
-        let before = last[d];
-        pieces[i] = before;
+    for (i, depth) in depths.iter().enumerate() {
+        let d = *depth as usize;
+        pieces[i] = last[d];
         last[d] = i as u64 + 1;
-        if deepest < d {
-            deepest = d;
-        }
-        i += 1;
+        deepest = deepest.max(d);
     }
     deepest
 }
@@ -104,6 +88,7 @@ fn count_layer(
     ensures { Staged depths.now (count_of spans.now tails.now depths.now edges.now) d 0 pieces.new }
 {
     let mut next = last[d];
+    // Kept: a `while`, since it follows links until one is 0 and counts nothing.
     while next != 0 {
         let i = next as usize - 1;
         next = pieces[i];
@@ -126,56 +111,44 @@ fn count_in(
     ensures { pieces.new ≡ counted spans.now tails.now depths.now edges.now }
 {
     let deepest = link(depths, last, pieces);
-    let mut d: usize = 0;
-    while d <= deepest {
+    for d in 0..=deepest {
         count_layer(d, last, spans, tails, depths, edges, pieces);
-        d += 1;
     }
 }
 
-// The same with a column of its own. A few vertices are given few places, as every place has to be
-// cleared.
-fn count_few(spans: &[u64], tails: &[u64], depths: &[u64], edges: &[u64], pieces: &mut [u64])
-    requires { (Countable spans.now tails.now depths.now edges.now pieces.old) × (length depths.now ≤ 64) }
+// The same with a column of its own, of N places, one for each depth and one for 0.
+fn count_with<const N: usize>(
+    spans: &[u64],
+    tails: &[u64],
+    depths: &[u64],
+    edges: &[u64],
+    pieces: &mut [u64],
+)
+    requires { (Countable spans.now tails.now depths.now edges.now pieces.old) × (length depths.now < N) × (N ≤ 1025) }
     ensures { pieces.new ≡ counted spans.now tails.now depths.now edges.now }
 {
-    let mut last = [0u64; 65];
+    let mut last = [0u64; N];
     count_in(spans, tails, depths, edges, pieces, &mut last);
 }
 
-// The same of any number of vertices.
-fn count_many(spans: &[u64], tails: &[u64], depths: &[u64], edges: &[u64], pieces: &mut [u64])
-    requires { Countable spans.now tails.now depths.now edges.now pieces.old }
-    ensures { pieces.new ≡ counted spans.now tails.now depths.now edges.now }
-{
-    let mut last = [0u64; 1025];
-    count_in(spans, tails, depths, edges, pieces, &mut last);
-}
-
-// Leaves the piece counts in `pieces`, whatever it held.
+// Leaves the piece counts in `pieces`, whatever it held. A few vertices are given few places, as
+// every place has to be cleared.
 pub fn count_pieces(spans: &[u64], tails: &[u64], depths: &[u64], edges: &[u64], pieces: &mut [u64])
     requires { Countable spans.now tails.now depths.now edges.now pieces.old }
     ensures { pieces.new ≡ counted spans.now tails.now depths.now edges.now }
 {
     if depths.len() <= 64 {
-        count_few(spans, tails, depths, edges, pieces);
-        return;
+        count_with::<65>(spans, tails, depths, edges, pieces);
+    } else {
+        count_with::<1025>(spans, tails, depths, edges, pieces);
     }
-    count_many(spans, tails, depths, edges, pieces);
 }
 
 // Whether no count of a column is above the greatest.
 fn low(pieces: &[u64]) -> bool
     ensures { result ≡ low pieces.now }
 {
-    let mut i = 0;
-    while i < pieces.len() {
-        if pieces[i] > MOST_PIECES {
-            return false;
-        }
-        i += 1;
-    }
-    true
+    pieces.iter().all(|count| *count <= MOST_PIECES)
 }
 
 // Whether `pieces` holds the piece counts, whoever wrote it.
@@ -192,15 +165,12 @@ pub fn pieces_right(
     if !low(pieces) {
         return false;
     }
-    let mut i = 0;
-    while i < depths.len() {
-        let lent = pieces[i];
+    for (i, lent) in pieces.iter().enumerate() {
         let v = Vertex(i as u64);
         let count = count_vertex(v, spans, tails, depths, edges, pieces);
-        if lent != count {
+        if *lent != count {
             return false;
         }
-        i += 1;
     }
     true
 }

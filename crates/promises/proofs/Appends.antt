@@ -15,9 +15,6 @@ use Rattle.weights.proofs.Choice.{apart}
 use Rattle.refusal.specs.declared.Refusal.{Refusal}
 use Rattle.refusal.specs.declared.Refusal.TheVariants.{TooManyVertices, Lengths, AnswerLength, ColumnRoom}
 use Rattle.refusal.specs.declared.Counts.{Counts}
-use Rattle.refusal.specs.declared.Acceptance.{Acceptance}
-use Rattle.refusal.specs.declared.Acceptance.TheVariants.{Accepted, Refused}
-use Rattle.refusal.specs.declared.Appending.TheVariants as appending
 use Rattle.columns.specs.Columns.{Entries, SizedEntries, Columns}
 use Rattle.columns.specs.Acceptance.{most_vertices, most_edges, most_listed, longest_tail, test, and_then, all_below, acceptance, lent_acceptance}
 use Rattle.columns.specs.Filled.{filled}
@@ -37,14 +34,16 @@ use Rattle.indextable.proofs.Told.{index_exactly}
 use Rattle.append.specs.Appending.{new_end, counts_acceptance, new_line_acceptance, sized_acceptance, room_acceptance, append_acceptance, new_counts, over, grown, appended}
 use Rattle.append.specs.Asked.{RightCounts, WrongLine, RightRoom, RightAppend, WrongAppend}
 use Rattle.promises.proofs.Indexing.{failed, room, room_alone, room_exactly}
+use Rattle.refusal.specs.Answers.{Acceptance}
+use Rattle.std.specs.Prelude.{Ok, Err}
 
 -- an answer that is accepted exactly if P holds, and refuses by r alone
 record Decides (x : Acceptance) (P : Type 0) (r : Refusal) : Type 0 where
-  passes : (x ≡ Accepted) ↔ P
+  passes : (x ≡ Ok tt) ↔ P
   alone : Refuses (λ s. s ≡ r) x
 
 module _ {x : Acceptance} {P : Type 0} {r : Refusal} (d : Decides x P r) where
-  fails : ¬ P → x ≡ Refused r
+  fails : ¬ P → x ≡ Err r
   fails n = failed x r d.alone (λ p. n (d.passes.0 p))
 
   -- what holds of r where P does not
@@ -54,7 +53,7 @@ module _ {x : Acceptance} {P : Type 0} {r : Refusal} (d : Decides x P r) where
   recast : {Q : Type 0} → (P → Q) → (Q → P) → Decides x Q r
   recast f g = record { passes = (λ p. f (d.passes.0 p), λ q. d.passes.1 (g q)); alone = d.alone }
 
-end : {r : Refusal} → Decides Accepted (Unit {0}) r
+end : {r : Refusal} → Decides (Ok tt) (Unit {0}) r
 end = record { passes = (λ _. tt, λ _. refl); alone = none_refuses }
 
 -- a test before others that refuse as it does
@@ -76,10 +75,10 @@ untrue true e n = absurd (n (e.0 refl))
 untrue false e n = refl
 
 -- of two answers that refuse alike one does
-first : (x y z : Acceptance) {r : Refusal} → Refuses (λ s. s ≡ r) x → Refuses (λ s. s ≡ r) y → (x ≡ Accepted → ¬ (y ≡ Accepted)) → and_then x (and_then y z) ≡ Refused r
-first Accepted Accepted z u v n = absurd (n refl refl)
-first Accepted (Refused s) z u v n = ap Refused (v.holds refl)
-first (Refused s) y z u v n = ap Refused (u.holds refl)
+first : (x y z : Acceptance) {r : Refusal} → Refuses (λ s. s ≡ r) x → Refuses (λ s. s ≡ r) y → (x ≡ Ok tt → ¬ (y ≡ Ok tt)) → and_then x (and_then y z) ≡ Err r
+first (Ok _) (Ok _) z u v n = absurd (n refl refl)
+first (Ok _) (Err s) z u v n = ap Err (v.holds refl)
+first (Err s) y z u v n = ap Err (u.holds refl)
 
 module _ (c : Columns) (k : Counts) (size : ℕ) where
   -- 2
@@ -92,7 +91,7 @@ module _ (c : Columns) (k : Counts) (size : ℕ) where
       (test (leb k.listed (length c.tails)) Lengths
       (test (leb k.listed most_listed) Lengths
       (test (leb (new_end c k + size) most_listed) Lengths
-      Accepted))))))))
+      (Ok tt)))))))))
       (RightCounts c k size) Lengths
   lengths =
       recast
@@ -108,11 +107,11 @@ module _ (c : Columns) (k : Counts) (size : ℕ) where
       (λ (h, (o, (s, (e, (p, (t, (u, (z, _)))))))). record { heads = h; own = o; strikes = s; spans = p; tails = t; in_use = u; edges = omega arith; listed = z })
       (λ g. (g.heads, (g.own, (g.strikes, (omega (arith, g.edges), (g.spans, (g.tails, (g.in_use, (g.listed, tt)))))))))
 
-  pub counts_right : counts_acceptance c k size ≡ Accepted → Few c × RightCounts c k size
+  pub counts_right : counts_acceptance c k size ≡ Ok tt → Few c × RightCounts c k size
   unfolding counts_acceptance
   counts_right p = let t = test_passed (leb c.vertices most_vertices) _ _ p in (leb-true _ _ t.0, lengths.passes.0 t.1)
 
-  counts_accepts : Few c → RightCounts c k size → counts_acceptance c k size ≡ Accepted
+  counts_accepts : Few c → RightCounts c k size → counts_acceptance c k size ≡ Ok tt
   unfolding counts_acceptance
   counts_accepts f g = rw (le-leb c.vertices most_vertices f) (lengths.passes.1 g)
 
@@ -121,11 +120,11 @@ module _ (c : Columns) (k : Counts) (size : ℕ) where
   counts_refuse f g =
       test_refuses (leb c.vertices most_vertices) _ _ (λ b. f (λ h. omega (arith, leb-false c.vertices most_vertices b, h))) (λ b. short lengths (g (leb-true _ _ b)))
 
-  counts-many : ¬ Few c → counts_acceptance c k size ≡ Refused TooManyVertices
+  counts-many : ¬ Few c → counts_acceptance c k size ≡ Err TooManyVertices
   unfolding counts_acceptance
   counts-many n = rw (lt-leb c.vertices most_vertices (omega (arith, n)))
 
-  counts_lengths : Few c → ¬ RightCounts c k size → counts_acceptance c k size ≡ Refused Lengths
+  counts_lengths : Few c → ¬ RightCounts c k size → counts_acceptance c k size ≡ Err Lengths
   unfolding counts_acceptance
   counts_lengths f n = rw (le-leb c.vertices most_vertices f) (fails lengths n)
 
@@ -136,7 +135,7 @@ module _ (n e : ℕ) (l : NewLine) where
   below : (all_below n l.tail ≡ true) ↔ ((j : ℕ) → j < length l.tail → get_or l.tail j 0 < n)
   below = (below_at n l.tail, below_all n l.tail)
 
-  pub line_right : line ≡ Accepted → RightLine n l
+  pub line_right : line ≡ Ok tt → RightLine n l
   unfolding new_line_acceptance
   line_right p =
       let t1 = test_passed (ltb l.head n) _ _ p in
@@ -146,7 +145,7 @@ module _ (n e : ℕ) (l : NewLine) where
       let t5 = test_passed (all_below n l.tail) _ _ t4.1 in
       record { head = ltb-true _ _ t1.0; own = leb-true _ _ t2.0; mark = leb-true _ _ t3.0; short = leb-true _ _ t4.0; listed = below.0 t5.0 }
 
-  line_accepts : RightLine n l → line ≡ Accepted
+  line_accepts : RightLine n l → line ≡ Ok tt
   unfolding new_line_acceptance
   line_accepts g = rw (lt-ltb _ _ g.head, le-leb _ _ g.own, le-leb _ _ g.mark, le-leb _ _ g.short, below.1 g.listed)
 
@@ -163,7 +162,7 @@ module _ (n e : ℕ) (l : NewLine) where
       let s = leb-true (length l.tail) longest_tail b in
       test_refuses (all_below n l.tail) _ _ (λ b. WrongLine.tail h o m s (λ t. apart (sym b ∙ below.1 t))) (λ _. none_refuses)))))
 
-  line_refused : {r : Refusal} → WrongLine n e l r → line ≡ Refused r
+  line_refused : {r : Refusal} → WrongLine n e l r → line ≡ Err r
   unfolding new_line_acceptance
   line_refused (WrongLine.head w) = rw (le-ltb l.head n (omega (arith, w)))
   line_refused (WrongLine.own h w) = rw (lt-ltb l.head n h, lt-leb l.own greatest (omega (arith, w)))
@@ -238,10 +237,10 @@ module _ (m : Measure) (c : Columns) (k : Counts) (a : Entries) (index list : Li
   index_tests : RightTable t → (is_index t index list ≡ true) ↔ IsIndex t index list
   index_tests g = index_exactly t ((accepted_exactly t).1 g) index list
 
-  lent : RightTable t → SizedEntries n a → lent_acceptance t a ≡ Accepted
+  lent : RightTable t → SizedEntries n a → lent_acceptance t a ≡ Ok tt
   lent g s = columns_accept t a ((accepted_exactly t).1 g) s
 
-  append_right : append_acceptance m c k a index list l ≡ Accepted → RightAppend m c k a index list l
+  append_right : append_acceptance m c k a index list l ≡ Ok tt → RightAppend m c k a index list l
   unfolding append_acceptance
   append_right p =
       let p1 = both_accepted (counts_acceptance c k size) _ p in
@@ -266,7 +265,7 @@ module _ (m : Measure) (c : Columns) (k : Counts) (a : Entries) (index list : Li
         answers = (same_exactly m t a (lent g s)).0 p8.0;
       }
 
-  right_append : RightAppend m c k a index list l → append_acceptance m c k a index list l ≡ Accepted
+  right_append : RightAppend m c k a index list l → append_acceptance m c k a index list l ≡ Ok tt
   unfolding append_acceptance
   right_append g =
       let p1 = counts_accepts c k size g.few g.counts in
@@ -298,7 +297,7 @@ module _ (m : Measure) (c : Columns) (k : Counts) (a : Entries) (index list : Li
       let i = (index_tests g).0 b in
       test_refuses (same_entries a (entries_of m t)) _ _ (λ b. WrongAppend.answers f u g h s x i ((same_fails m t a (lent g s)).0 b)) (λ _. none_refuses))))))))
 
-  wrong_append : {r : Refusal} → WrongAppend m c k a index list l r → append_acceptance m c k a index list l ≡ Refused r
+  wrong_append : {r : Refusal} → WrongAppend m c k a index list l r → append_acceptance m c k a index list l ≡ Err r
   unfolding append_acceptance
   wrong_append (WrongAppend.many w) = let q = counts-many c k size w in rw q
   wrong_append (WrongAppend.counts f w) = let q = counts_lengths c k size f w in rw q
@@ -319,22 +318,22 @@ module _ (m : Measure) (c : Columns) (k : Counts) (a : Entries) (index list : Li
       let z = (same_fails m t a (lent g s)).1 w in
       rw (counts_accepts c k size f u, (accepted_exactly t).1 g, line_accepts n k.edges l h, (sized n a).passes.1 s, placed.passes.1 (place x), y, (index_tests g).1 i, z)
 
-  pub append_exactly : (append_acceptance m c k a index list l ≡ Accepted) ↔ RightAppend m c k a index list l
+  pub append_exactly : (append_acceptance m c k a index list l ≡ Ok tt) ↔ RightAppend m c k a index list l
   append_exactly = (append_right, right_append)
 
-  pub append_refused_exactly : (r : Refusal) → (append_acceptance m c k a index list l ≡ Refused r) ↔ WrongAppend m c k a index list l r
+  pub append_refused_exactly : (r : Refusal) → (append_acceptance m c k a index list l ≡ Err r) ↔ WrongAppend m c k a index list l r
   append_refused_exactly r = (append_wrong.holds, wrong_append)
 
   pub append_owes : let o = appended m c k a index list l in
-      Owed {L = Columns × Entries × List ℕ × List ℕ} appending.Refused (c, a, index, list) (RightAppend m c k a index list l) (λ _. appending.Counts (new_counts c k l))
+      Owed {L = Columns × Entries × List ℕ × List ℕ} Err (c, a, index, list) (RightAppend m c k a index list l) (λ _. Ok (new_counts c k l))
       (λ _. (over t' c, entries_of m t', filled (index_of t').pairs index, filled (index_of t').list list)) (WrongAppend m c k a index list l)
       o.result (o.table, o.answers, o.index, o.list)
   unfolding appended
   append_owes = go (append_acceptance m c k a index list l) refl
     where
       go : (x : Acceptance) → append_acceptance m c k a index list l ≡ x → let o = grown m c k a index list l x in
-          Owed {L = Columns × Entries × List ℕ × List ℕ} appending.Refused (c, a, index, list) (RightAppend m c k a index list l) (λ _. appending.Counts (new_counts c k l))
+          Owed {L = Columns × Entries × List ℕ × List ℕ} Err (c, a, index, list) (RightAppend m c k a index list l) (λ _. Ok (new_counts c k l))
           (λ _. (over t' c, entries_of m t', filled (index_of t').pairs index, filled (index_of t').list list)) (WrongAppend m c k a index list l)
           o.result (o.table, o.answers, o.index, o.list)
-      go Accepted p = Owed.accepted (append_exactly.0 p)
-      go (Refused r) p = Owed.refused ((append_refused_exactly r).0 p)
+      go (Ok _) p = Owed.accepted (append_exactly.0 p)
+      go (Err r) p = Owed.refused ((append_refused_exactly r).0 p)

@@ -9,9 +9,7 @@ use Rattle.weights.specs.declared.Vertex.{Vertex}
 use Rattle.weights.specs.declared.Weight.{Weight}
 use Rattle.weights.specs.Figures.{standing}
 use Rattle.refusal.specs.declared.Refusal.TheVariants.{InputLength, Text}
-use Rattle.refusal.specs.declared.Acceptance.TheVariants.{Accepted}
 use Rattle.refusal.specs.declared.Header.{Header}
-use Rattle.refusal.specs.declared.Reading.TheVariants as reading
 use Rattle.columns.specs.Columns.{Entries, Columns}
 use Rattle.columns.specs.Acceptance.{most_edges, most_listed, acceptance}
 use Rattle.columns.specs.Longer.{NewLine, new_line}
@@ -44,6 +42,7 @@ use Rattle.desk.specs.Appended.{AppendTold}
 use Rattle.desk.proofs.Laws.{acceptance_accepted, settled_accepted, table_said_lem, unread_said, long_said, long_sample, short_sample, words_ask, words_append, words_mean}
 use Rattle.desk.proofs.Appending.{index_made}
 use Rattle.promises.proofs.Growing.{blank_index, blank_list, pairs_for, list_for, index_fits, Largest, append_told}
+use Rattle.std.specs.Prelude.{Ok}
 
 -- Any input -----------------------------------------------------------------------------------------------------------------------------------------
 
@@ -103,7 +102,7 @@ needed_read {words} {h} {w} {needed} r =
     let n : (typed words).line.count - 2 ≡ length needed = omega (arith, r.count) in
     ap (λ (k : ℕ). take k (drop 2 (typed words).numbers)) n ∙ from_third (length needed) (typed words).numbers ∙ ap (drop 2) r.column
 
-module _ (m : Measure) (c : Columns) (p : acceptance c ≡ Accepted) (short : length (render m c) ≤ most_input) where
+module _ (m : Measure) (c : Columns) (p : acceptance c ≡ Ok tt) (short : length (render m c) ≤ most_input) where
   abbrev header : Header
   header = header_for m (closed c)
 
@@ -112,12 +111,12 @@ module _ (m : Measure) (c : Columns) (p : acceptance c ≡ Accepted) (short : le
 
   -- what was read, without the answer
   abbrev lent : ReadOutcome
-  lent = read_outcome (reading.Table header) here.heads here.own here.strikes here.spans here.tails
+  lent = read_outcome (Ok header) here.heads here.own here.strikes here.spans here.tails
 
   abbrev table : Columns
   table = columns_read header lent
 
-  answer_read : here.answer ≡ reading.Table header
+  answer_read : here.answer ≡ Ok header
   answer_read = ap (λ (x : ReadOutcome). x.answer) (rendered m c p)
 
   module _ (words second : List ℕ) where
@@ -144,7 +143,7 @@ module _ (m : Measure) (c : Columns) (p : acceptance c ≡ Accepted) (short : le
     order_asked e = table_asked CheckOrder e
 
   -- Appending: the table that was read is settled and indexed
-  table_right : acceptance table ≡ Accepted
+  table_right : acceptance table ≡ Ok tt
   table_right = input_accepted (render m c) header answer_read
 
   largest : Largest (lent_whole header lent)

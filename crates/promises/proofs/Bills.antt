@@ -10,7 +10,6 @@ use Rattle.weights.specs.declared.Measure.TheVariants.{Cost}
 use Rattle.weights.specs.declared.State.TheVariants as state
 use Rattle.weights.proofs.Laws.{lawful}
 use Rattle.weights.proofs.States.{made_state}
-use Rattle.refusal.specs.declared.Acceptance.TheVariants.{Accepted}
 use Rattle.columns.specs.Columns.{Entries, Columns, own_at}
 use Rattle.columns.specs.Acceptance.{acceptance}
 use Rattle.columns.specs.Right.{RightLent}
@@ -31,6 +30,7 @@ use Rattle.bill.specs.Bills.{IsBill}
 use Rattle.bill.specs.Rises.{count_in}
 use Rattle.bill.proofs.Asked.{bill_exactly}
 use Rattle.bill.proofs.Bills.{part_accepted, is_bill}
+use Rattle.std.specs.Prelude.{Ok}
 
 -- what has a make-up is a part
 pub derived : {c : Columns} {a : Entries} → RightLent c a → {v : ℕ} → Derivation (hypergraph c) v → v < c.vertices
@@ -45,7 +45,7 @@ right_bill m c a v l h all d =
     is_bill (part_accepted m c a v (both_accepted (part_acceptance m c a v) _ p).0)
 
 -- a make-up that the bill lists
-billed_tree : (c : Columns) → acceptance c ≡ Accepted → (v : ℕ) → state_in Cost c v ≡ state.Made → (t : Derivation (hypergraph c) v) × (listing t ≡ bill_of c (answers_of Cost c) v)
+billed_tree : (c : Columns) → acceptance c ≡ Ok tt → (v : ℕ) → state_in Cost c v ≡ state.Made → (t : Derivation (hypergraph c) v) × (listing t ≡ bill_of c (answers_of Cost c) v)
 unfolding bill_of
 billed_tree c p v s =
     let fix = answers_fixpoint Cost c p in

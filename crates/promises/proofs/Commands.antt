@@ -15,8 +15,6 @@ use Rattle.columns.proofs.Filled.{filled_none, filled-set, take-filled}
 use Rattle.text.specs.Render.{digits, tail_text}
 use Rattle.text.specs.Machine.{digit_of}
 use Rattle.text.proofs.Digits.{pick_by}
-use Rattle.cursor.specs.declared.Found.{Found}
-use Rattle.cursor.specs.declared.Found.TheVariants as found
 use Rattle.cursor.specs.declared.Token.{Token}
 use Rattle.cursor.specs.declared.Separator.{Separator}
 use Rattle.cursor.specs.declared.Separator.TheVariants as separator
@@ -29,8 +27,7 @@ use Rattle.command.specs.declared.Name.TheVariants as name
 use Rattle.command.specs.declared.Named.{Named}
 use Rattle.command.specs.declared.Next.{Next}
 use Rattle.command.specs.declared.Next.TheVariants.{Number, End, Neither}
-use Rattle.command.specs.declared.Numbers.{Numbers}
-use Rattle.command.specs.declared.Numbers.TheVariants.{Count, Wrong}
+use Rattle.std.specs.Prelude.{Option, Some, None}
 use Rattle.command.specs.declared.Question.TheVariants.{Price, Bill, Reprice, Strike, Restore, Compare, Replay}
 use Rattle.command.specs.declared.Query.TheVariants.{Settled, Uses, Check, CheckOrder}
 use Rattle.command.specs.declared.Command.{Command}
@@ -107,12 +104,12 @@ stops_behind [] = omega arith
 stops_behind (x ∷ xs) = omega arith
 
 numbers_back : (xs : List ℕ) (left : ℕ) (s : List ℕ) (at i : ℕ) (done old : List ℕ) → Short xs → length done ≡ i → length xs ≤ left → i + left ≡ length old
-    → drop at s ≡ tail_text xs ++ 10 ∷ [] → numbers_from left s at i (filled done old) ≡ gathered (Count (i + length xs)) (filled (done ++ xs) old)
+    → drop at s ≡ tail_text xs ++ 10 ∷ [] → numbers_from left s at i (filled done old) ≡ gathered (Some (i + length xs)) (filled (done ++ xs) old)
 unfolding numbers_from
 numbers_back [] left s at i done old b d h f e =
     let p : i ≡ i + 0 = omega arith in
     at_end s at i (filled done old) left (next_end s at (unfold tail_text in e))
-    ∙ ap₂ (λ (x : ℕ) (z : List ℕ). gathered (Count x) (filled z old)) p (sym (append-nil done))
+    ∙ ap₂ (λ (x : ℕ) (z : List ℕ). gathered (Some x) (filled z old)) p (sym (append-nil done))
 numbers_back (x ∷ xs) zero s at i done old b d h f e = absurd (omega arith)
 numbers_back (x ∷ xs) (suc left) s at i done old b d h f e =
     let stop = at + 1 + length (digits x) in
@@ -126,7 +123,7 @@ numbers_back (x ∷ xs) (suc left) s at i done old b d h f e =
     (next_number s at x rest e1 (b 0 (omega arith)) (stops_behind xs))
     ∙ ap (λ (z : List ℕ). numbers_from left s stop (i + 1) z) (filled-set done old i x d (omega arith))
     ∙ numbers_back xs left s stop (i + 1) (done ++ x ∷ []) old (λ j q. b (suc j) (omega arith)) l (omega arith) (omega arith) e3
-    ∙ ap₂ (λ (k : ℕ) (z : List ℕ). gathered (Count k) (filled z old)) p (append_snoc done x xs)
+    ∙ ap₂ (λ (k : ℕ) (z : List ℕ). gathered (Some k) (filled z old)) p (append_snoc done x xs)
 
 -- the word of a name, and after it as many numbers as the name takes
 module _ (x : Name) (w ns : List ℕ) (name_is : name_in (w ++ (tail_text ns ++ 10 ∷ [])) ≡ named x (length w)) (few : length ns ≤ most_numbers) (b : Short ns) (t : takes x (length ns) ≡ true)
@@ -134,17 +131,17 @@ module _ (x : Name) (w ns : List ℕ) (name_is : name_in (w ++ (tail_text ns ++ 
   abbrev words : List ℕ
   words = w ++ (tail_text ns ++ 10 ∷ [])
 
-  came : gathered (Count (length ns)) (filled ns zeros) ≡ numbers_from (length zeros) words (length w) 0 zeros
+  came : gathered (Some (length ns)) (filled ns zeros) ≡ numbers_from (length zeros) words (length w) 0 zeros
   came =
       let long : length zeros ≡ most_numbers = length-replicate {A = ℕ} most_numbers 0 in
       let all : 0 + length ns ≡ length ns = omega arith in
       sym (ap (numbers_from (length zeros) words (length w) 0) (filled_none zeros)
       ∙ numbers_back ns (length zeros) words (length w) 0 [] zeros b refl (omega arith) refl (drop-append_seam w (tail_text ns ++ 10 ∷ []))
-      ∙ ap (λ (n : ℕ). gathered (Count n) (filled ns zeros)) all)
+      ∙ ap (λ (n : ℕ). gathered (Some n) (filled ns zeros)) all)
 
   line_read : record { line = line k (length ns); numbers = filled ns zeros } ≡ command_in words zeros
   line_read =
-      command_with words zeros (named x (length w)) (Count (length ns)) (filled ns zeros) (sym name_is) came (length ns) (line k (length ns)) refl
+      command_with words zeros (named x (length w)) (Some (length ns)) (filled ns zeros) (sym name_is) came (length ns) (line k (length ns)) refl
       (with_command x (length ns) (filled ns zeros) k t (sym q))
 
   reads : ReadAs words k ns
@@ -220,10 +217,10 @@ NextText s at (Number v stop) = (v < number_limit) × (drop at s ≡ 32 ∷ (dig
 NextText s at End = drop at s ≡ 10 ∷ []
 NextText s at Neither = Unit {0}
 
-found_text : (s : List ℕ) (at from start stop : ℕ) (f : Found) → drop at s ≡ 32 ∷ drop from s → number_at s from number_limit ≡ token start stop f → NextText s at (as_next stop f)
-found_text s at from start stop (found.Number v) q e =
+found_text : (s : List ℕ) (at from start stop : ℕ) (f : Option ℕ) → drop at s ≡ 32 ∷ drop from s → number_at s from number_limit ≡ token start stop f → NextText s at (as_next stop f)
+found_text s at from start stop (Some v) q e =
     ((number_counts s from number_limit start stop v e).0, q ∙ ap (λ (z : List ℕ). 32 ∷ z) (number_text s from number_limit start stop v e))
-found_text s at from start stop found.NotANumber q e = tt
+found_text s at from start stop None q e = tt
 
 separator_text : (s : List ℕ) (at : ℕ) (x : Separator) → separator_at s at ≡ x → NextText s at (on_separator s x)
 unfolding found_number
@@ -247,9 +244,9 @@ record Stands (left : ℕ) (s : List ℕ) (at i : ℕ) (done old : List ℕ) (n 
   short : Short xs
   column_is : column ≡ filled (done ++ xs) old
 
-abbrev StandsBy : (left : ℕ) → List ℕ → (at i : ℕ) → (done old : List ℕ) → Numbers → List ℕ → Type 0
-StandsBy left s at i done old (Count n) c = Stands left s at i done old n c
-StandsBy left s at i done old Wrong c = Unit {0}
+abbrev StandsBy : (left : ℕ) → List ℕ → (at i : ℕ) → (done old : List ℕ) → Option ℕ → List ℕ → Type 0
+StandsBy left s at i done old (Some n) c = Stands left s at i done old n c
+StandsBy left s at i done old None c = Unit {0}
 
 short-more : (v : ℕ) (xs : List ℕ) → v < number_limit → Short xs → Short (v ∷ xs)
 short-more v xs h f zero l = h
@@ -266,9 +263,9 @@ module _ (s : List ℕ) (at i : ℕ) (done old : List ℕ) where
     column_is = ap (λ (z : List ℕ). filled z old) (sym (append-nil done));
   }
 
-  stands_more : (left v stop : ℕ) (n : Numbers) (c : List ℕ) → v < number_limit → drop at s ≡ 32 ∷ (digits v ++ drop stop s)
+  stands_more : (left v stop : ℕ) (n : Option ℕ) (c : List ℕ) → v < number_limit → drop at s ≡ 32 ∷ (digits v ++ drop stop s)
       → StandsBy left s stop (i + 1) (done ++ v ∷ []) old n c → StandsBy (suc left) s at i done old n c
-  stands_more left v stop (Count n) c l e S = record {
+  stands_more left v stop (Some n) c l e S = record {
     xs = v ∷ S.xs;
     bytes = e ∙ ap (λ (z : List ℕ). 32 ∷ (digits v ++ z)) S.bytes ∙ sym (one_number v S.xs (10 ∷ []));
     count = omega (arith, S.count);
@@ -276,7 +273,7 @@ module _ (s : List ℕ) (at i : ℕ) (done old : List ℕ) where
     short = short-more v S.xs l S.short;
     column_is = S.column_is ∙ ap (λ (z : List ℕ). filled z old) (append_snoc done v S.xs);
   }
-  stands_more left v stop Wrong c l e S = tt
+  stands_more left v stop None c l e S = tt
 
   by_next : (left : ℕ) (x : Next) (more : (v stop : ℕ) → Gathered) → NextText s at x
       → ((v stop : ℕ) → v < number_limit → drop at s ≡ 32 ∷ (digits v ++ drop stop s) → StandsBy left s at i done old (more v stop).numbers (more v stop).column)
@@ -288,7 +285,7 @@ module _ (s : List ℕ) (at i : ℕ) (done old : List ℕ) where
 gathered_text : (left : ℕ) (s : List ℕ) (at i : ℕ) (done old : List ℕ) → length done ≡ i → i + left ≡ length old
     → let g = numbers_from left s at i (filled done old) in StandsBy left s at i done old g.numbers g.column
 unfolding numbers_from
-gathered_text zero s at i done old d f = by_next s at i done old zero (next_at s at) (λ v stop. gathered Wrong (filled done old)) (next_text s at) (λ v stop l e. tt)
+gathered_text zero s at i done old d f = by_next s at i done old zero (next_at s at) (λ v stop. gathered None (filled done old)) (next_text s at) (λ v stop l e. tt)
 gathered_text (suc left) s at i done old d f =
     by_next s at i done old (suc left) (next_at s at) (λ v stop. numbers_from left s stop (i + 1) (set (filled done old) i v)) (next_text s at)
     (λ v stop l e.
@@ -380,9 +377,9 @@ module _ (words : List ℕ) where
         same = name_text words ∙ ap₂ (λ (u v : List ℕ). u ++ v) C.word (S.bytes ∙ ap (λ (z : List ℕ). tail_text z ++ 10 ∷ []) C.numbers);
       }
 
-  line_is : (n : Numbers) (c : List ℕ) → StandsBy (length zeros) words begun.stop 0 [] zeros n c → (line_of begun.name n c ≡ line Misuse 0) ⊎ WordsOf words
-  line_is (Count n) c S = pick_by (λ (l : Line). (l ≡ line Misuse 0) ⊎ WordsOf words) (takes begun.name n) (λ t. inr (typed_by n c S t)) (λ _. inl refl)
-  line_is Wrong c S = inl refl
+  line_is : (n : Option ℕ) (c : List ℕ) → StandsBy (length zeros) words begun.stop 0 [] zeros n c → (line_of begun.name n c ≡ line Misuse 0) ⊎ WordsOf words
+  line_is (Some n) c S = pick_by (λ (l : Line). (l ≡ line Misuse 0) ⊎ WordsOf words) (takes begun.name n) (λ t. inr (typed_by n c S t)) (λ _. inl refl)
+  line_is None c S = inl refl
 
   -- a line of words is misuse, or the words of a command
   pub words_are : ((typed words).line ≡ line Misuse 0) ⊎ WordsOf words

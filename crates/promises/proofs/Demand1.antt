@@ -18,11 +18,6 @@ use Rattle.weights.specs.Figures.{struck_mark}
 use Rattle.weights.specs.Labels.{unmade, entry_of}
 use Rattle.refusal.specs.declared.Refusal.{Refusal}
 use Rattle.refusal.specs.declared.Refusal.TheVariants.{MeasureNumber}
-use Rattle.refusal.specs.declared.Acceptance.TheVariants.{Accepted, Refused}
-use Rattle.refusal.specs.declared.Verdict.TheVariants as verdict
-use Rattle.refusal.specs.declared.Extent.TheVariants as extent
-use Rattle.refusal.specs.declared.Reading.TheVariants as reading
-use Rattle.refusal.specs.declared.MeasureChoice.TheVariants as choice
 use Rattle.refusal.specs.Refusals.{code_of, number_of, result_of, acceptance_result, extent_result, measure_of}
 use Rattle.refusal.proofs.Codes.{codes_differ}
 use Rattle.columns.specs.Columns.{Entries, SizedEntries, Columns, with_own, with_strike}
@@ -62,10 +57,11 @@ use Rattle.counter.proofs.Numbers.{settle_numbers, reprice_numbers, bill_numbers
 use Rattle.promises.specs.Fixed.{Fixed}
 use Rattle.promises.proofs.Fixed.{fixed}
 use Rattle.promises.proofs.Bills.{derived, right_bill}
+use Rattle.std.specs.Prelude.{Ok, Err, true, false}
 
 -- "Check a table." Refusals 1 to 6 -----------------------------------------------------------------------------------------------------------------------------
 module _ (c : Columns) where
-  pub check_table : Owed Refused (tt {0}) (RightTable c) (λ _. Accepted) (λ _. tt {0}) (WrongTable c) (acceptance c) (tt {0})
+  pub check_table : Owed Err (tt {0}) (RightTable c) (λ _. Ok tt) (λ _. tt {0}) (WrongTable c) (acceptance c) (tt {0})
   check_table = check_table_owes c
 
   pub check_table_fixed : Fixed (RightTable c) (WrongTable c)
@@ -73,18 +69,18 @@ module _ (c : Columns) where
 
 module _ (c : Columns) (a : Entries) where
   -- the same with the answer columns: 1 to 7
-  pub check_lent : Owed Refused (tt {0}) (RightLent c a) (λ _. Accepted) (λ _. tt {0}) (WrongLent c a) (lent_acceptance c a) (tt {0})
+  pub check_lent : Owed Err (tt {0}) (RightLent c a) (λ _. Ok tt) (λ _. tt {0}) (WrongLent c a) (lent_acceptance c a) (tt {0})
   check_lent = check_lent_owes c a
 
   pub check_lent_fixed : Fixed (RightLent c a) (WrongLent c a)
   check_lent_fixed = fixed (lent_acceptance c a) (lent_exactly c a) (lent_refused_exactly c a)
 
   -- "Settle a table into the answer columns." 1 to 7. What `entries_of` is, demand 2 says
-  pub settle : (m : Measure) → Owed Refused a (RightLent c a) (λ _. Accepted) (λ _. entries_of m c) (WrongLent c a) (settled m c a).result (settled m c a).left
+  pub settle : (m : Measure) → Owed Err a (RightLent c a) (λ _. Ok tt) (λ _. entries_of m c) (WrongLent c a) (settled m c a).result (settled m c a).left
   settle m = settle_owes m c a
 
   -- "Check answers: yes exactly if they are the ones defined above, whoever wrote them." 1 to 7; "no, and not 8, for wrong ones"
-  pub check_answers : (m : Measure) → Owed verdict.Refused (tt {0}) ((RightLent c a × AllMean m c a) ⊎ (RightLent c a × ¬ AllMean m c a)) (elim [ inl _ ↦ verdict.Yes | inr _ ↦ verdict.No ]) (λ _. tt {0})
+  pub check_answers : (m : Measure) → Owed Err (tt {0}) ((RightLent c a × AllMean m c a) ⊎ (RightLent c a × ¬ AllMean m c a)) (elim [ inl _ ↦ Ok true | inr _ ↦ Ok false ]) (λ _. tt {0})
       (WrongLent c a) (checked m c a) (tt {0})
   check_answers m = check_answers_owes m c a
 
@@ -98,7 +94,7 @@ module _ (a : Entries) (v : ℕ) where
 
 -- "Reprice an unstruck line to 0 to 1,000,000,000." 1 to 7, 9, 10, 8. That the table as it then is has these answers, `reprice_checks` of Paper says
 module _ (m : Measure) (c : Columns) (a : Entries) (e w : ℕ) where
-  pub reprice : Owed {L = List ℕ × Entries} Refused (c.own, a) (RightReprice m c a e w) (λ _. Accepted) (λ _. (set c.own e w, entries_of m (with_own c e w)))
+  pub reprice : Owed {L = List ℕ × Entries} Err (c.own, a) (RightReprice m c a e w) (λ _. Ok tt) (λ _. (set c.own e w, entries_of m (with_own c e w)))
       (WrongReprice m c a e w) (repriced m c a e w).result ((repriced m c a e w).own, (repriced m c a e w).left)
   reprice = reprice_owes m c a e w
 
@@ -107,7 +103,7 @@ module _ (m : Measure) (c : Columns) (a : Entries) (e w : ℕ) where
 
 -- "and strike an unstruck line." 1 to 7, 9, 8. By document 02, 2026-02, in "a column of its own": the own figures are lent to be read alone
 module _ (m : Measure) (c : Columns) (a : Entries) (e : ℕ) where
-  pub strike : Owed {L = List ℕ × Entries} Refused (c.strikes, a) (RightStrike m c a e) (λ _. Accepted)
+  pub strike : Owed {L = List ℕ × Entries} Err (c.strikes, a) (RightStrike m c a e) (λ _. Ok tt)
       (λ _. (set c.strikes e struck_mark, entries_of m (with_strike c e struck_mark))) (WrongStrike m c a e) (stricken m c a e).result
       ((stricken m c a e).strikes, (stricken m c a e).left)
   strike = strike_owes m c a e
@@ -117,7 +113,7 @@ module _ (m : Measure) (c : Columns) (a : Entries) (e : ℕ) where
 
 -- "Print a bill." 1 to 7, 11, 8, 12, 13. "A bill returns its length; the room behind it keeps its bytes"
 module _ (m : Measure) (c : Columns) (a : Entries) (v : ℕ) (room : List ℕ) where
-  pub bill : Owed extent.Refused room (RightBill m c a v (length room)) (λ _. extent.Length (length (bill_of c a.labels v)))
+  pub bill : Owed Err room (RightBill m c a v (length room)) (λ _. Ok (length (bill_of c a.labels v)))
       (λ _. bill_of c a.labels v ++ drop (length (bill_of c a.labels v)) room)
       (WrongBill m c a v (length room)) (billed m c a v room).result (billed m c a v room).left
   bill = bill_owes m c a v room
@@ -133,8 +129,8 @@ bill-lists m c a v l all t f = (right_bill m c a v l (derived l t) all t).lists 
 -- "Reading text: 14 at the first text line that breaks a rule …, then 15." "Reading returns n, the measure and the counts, and writes that many places of each column; the
 -- rest keep theirs. Spans are written from offset 0 without gaps"
 module _ (text h o ms s t : List ℕ) where
-  pub read_table_lem : Owed {L = List ℕ × List ℕ × List ℕ × List ℕ × List ℕ} reading.Refused (h, o, ms, s, t) (RightRead text h o ms s t)
-      (λ p. reading.Table (header_for p.permitted.measure (closed p.permitted.table)))
+  pub read_table_lem : Owed {L = List ℕ × List ℕ × List ℕ × List ℕ × List ℕ} Err (h, o, ms, s, t) (RightRead text h o ms s t)
+      (λ p. Ok (header_for p.permitted.measure (closed p.permitted.table)))
       (λ p. let c = closed p.permitted.table in (filled c.heads h, filled c.own o, filled c.strikes ms, filled c.spans s, filled c.tails t))
       (WrongRead text h o ms s t) (read_table text h o ms s t).answer
       (let x = read_table text h o ms s t in (x.heads, x.own, x.strikes, x.spans, x.tails))
@@ -145,7 +141,7 @@ module _ (text h o ms s t : List ℕ) where
 
 -- "Writing: 1 to 6, then 15." "Writing fills the text room from its start and returns the text's length; the room behind it keeps its bytes"
 module _ (m : Measure) (c : Columns) (room : List ℕ) where
-  pub write_table_lem : Owed extent.Refused room (RightWrite m c (length room)) (λ _. extent.Length (length (render m c))) (λ _. filled (render m c) room) (WrongWrite m c (length room))
+  pub write_table_lem : Owed Err room (RightWrite m c (length room)) (λ _. Ok (length (render m c))) (λ _. filled (render m c) room) (WrongWrite m c (length room))
       (write_table m c room).answer (write_table m c room).room
   write_table_lem = write_owes m c room
 
@@ -170,31 +166,31 @@ codes = codes_differ
 -- The counter programs in C: settle, reprice and bill ---------------------------------------------------------------------------------------------------------------
 
 -- "16: measure number from C not 0 (cost) or 1 (days)", or by document 02, 2026-10, 2 (grade), tried before all others
-pub measure_numbers : (measure_of 0 ≡ choice.Measure Cost) × (measure_of 1 ≡ choice.Measure Days) × (measure_of 2 ≡ choice.Measure Grade)
-    × ((k : ℕ) → 2 < k → measure_of k ≡ choice.Refused MeasureNumber)
+pub measure_numbers : (measure_of 0 ≡ Ok Cost) × (measure_of 1 ≡ Ok Days) × (measure_of 2 ≡ Ok Grade)
+    × ((k : ℕ) → 2 < k → measure_of k ≡ Err MeasureNumber)
 measure_numbers = (refl, refl, refl, λ k h. rw (ne_eqb k 0 (λ q. absurd (omega arith)), ne_eqb k 1 (λ q. absurd (omega arith)), ne_eqb k 2 (λ q. absurd (omega arith))) refl)
 
 -- "It gets one unsigned 64-bit number: on acceptance 0, for a bill its length; on a refusal the refusal's number times 4,294,967,296, plus the place"
 module _ (c : Columns) (a : Entries) where
-  pub c_settle : (m : Measure) → settled_result (choice.Measure m) c a ≡ record { result = acceptance_result (settled m c a).result; left = (settled m c a).left }
+  pub c_settle : (m : Measure) → settled_result (Ok m) c a ≡ record { result = acceptance_result (settled m c a).result; left = (settled m c a).left }
   c_settle m = refl
 
-  pub c_reprice : (m : Measure) (e w : ℕ) → let x = repriced m c a e w in repriced_result (choice.Measure m) c a e w ≡ record { result = acceptance_result x.result; own = x.own; left = x.left }
+  pub c_reprice : (m : Measure) (e w : ℕ) → let x = repriced m c a e w in repriced_result (Ok m) c a e w ≡ record { result = acceptance_result x.result; own = x.own; left = x.left }
   c_reprice m e w = refl
 
   -- "A bill asked for from C counts room beyond 4,294,967,295 places as absent"
   pub c_bill : (m : Measure) (v : ℕ) (room : List ℕ) → let x = billed m c a v (take 4_294_967_295 room) in
-      billed_result (choice.Measure m) c a v room ≡ record { result = extent_result x.result; left = x.left ++ drop 4_294_967_295 room }
+      billed_result (Ok m) c a v room ≡ record { result = extent_result x.result; left = x.left ++ drop 4_294_967_295 room }
   c_bill m v room = refl
 
   -- a measure that is refused leaves everything as lent
-  pub c_settle_refused : (r : Refusal) → settled_result (choice.Refused r) c a ≡ record { result = result_of (code_of r); left = a }
+  pub c_settle_refused : (r : Refusal) → settled_result (Err r) c a ≡ record { result = result_of (code_of r); left = a }
   c_settle_refused r = refl
 
-  pub c_reprice_refused : (r : Refusal) (e w : ℕ) → repriced_result (choice.Refused r) c a e w ≡ record { result = result_of (code_of r); own = c.own; left = a }
+  pub c_reprice_refused : (r : Refusal) (e w : ℕ) → repriced_result (Err r) c a e w ≡ record { result = result_of (code_of r); own = c.own; left = a }
   c_reprice_refused r e w = refl
 
-  pub c_bill_refused : (r : Refusal) (v : ℕ) (room : List ℕ) → billed_result (choice.Refused r) c a v room ≡ record { result = result_of (code_of r); left = room }
+  pub c_bill_refused : (r : Refusal) (v : ℕ) (room : List ℕ) → billed_result (Err r) c a v room ≡ record { result = result_of (code_of r); left = room }
   c_bill_refused r v room = refl
 
   -- the number tells the answer: below 4,294,967,296 it is an acceptance and the bill's length, else quotient and remainder are the refusal's number and its place

@@ -12,8 +12,6 @@ use Rattle.weights.specs.Measures.{algebra}
 use Rattle.weights.specs.Figures.{capped}
 use Rattle.weights.specs.Labels.{unmade}
 use Rattle.weights.proofs.Laws.{lawful}
-use Rattle.refusal.specs.declared.Acceptance.TheVariants.{Accepted}
-use Rattle.refusal.specs.declared.Verdict.TheVariants.{Yes, No}
 use Rattle.columns.specs.Columns.{Entries, SizedEntries, Columns, own_at}
 use Rattle.columns.specs.Acceptance.{acceptance}
 use Rattle.columns.specs.Right.{RightTable, RightLent}
@@ -42,18 +40,19 @@ use Rattle.settle.proofs.Exactly.{demand_entry, yes_exactly, no_exactly}
 use Rattle.settle.proofs.States.{made_deep, settled_state}
 use Rattle.settle.proofs.Worth.{grade_provenance}
 use Rattle.settle.proofs.Gaps.{gaps_settled, gaps_checked}
+use Rattle.std.specs.Prelude.{Ok, true, false}
 
 -- What settling leaves -----------------------------------------------------------------------------------------------------------------------------------------------
 
 -- settling is accepted exactly where none of 1 to 7 applies: it turns no right table away
-pub settles_exactly : (m : Measure) (c : Columns) (a : Entries) → ((settled m c a).result ≡ Accepted) ↔ RightLent c a
+pub settles_exactly : (m : Measure) (c : Columns) (a : Entries) → ((settled m c a).result ≡ Ok tt) ↔ RightLent c a
 settles_exactly m c a = (λ h. (lent_exactly c a).0 (sym (settled_result_lem m c a) ∙ h), λ h. settled_result_lem m c a ∙ (lent_exactly c a).1 h)
 
 -- the answers of a right table are those that the paper defines, and no other columns of n places are
 pub answers_exactly : (m : Measure) (c : Columns) → RightTable c → (a : Entries) → (a ≡ entries_of m c) ↔ (SizedEntries c.vertices a × AllMean m c a)
 answers_exactly m c t a = (mean, same)
   where
-    p : acceptance c ≡ Accepted
+    p : acceptance c ≡ Ok tt
     p = (accepted_exactly c).1 t
 
     mean : a ≡ entries_of m c → SizedEntries c.vertices a × AllMean m c a
@@ -67,7 +66,7 @@ pub answers_labels : (m : Measure) (c : Columns) → (entries_of m c).labels ≡
 unfolding entries_of
 answers_labels m c = refl
 
-module _ (m : Measure) (c : Columns) (a : Entries) (h : (settled m c a).result ≡ Accepted) where
+module _ (m : Measure) (c : Columns) (a : Entries) (h : (settled m c a).result ≡ Ok tt) where
   pub settled_answers : (settled m c a).left ≡ entries_of m c
   settled_answers = settled_left m c a (sym (settled_result_lem m c a) ∙ h)
 
@@ -109,15 +108,15 @@ module _ (m : Measure) (c : Columns) (a : Entries) (h : (settled m c a).result �
 -- in plain numbers: in cost the provenance, in the tropical semiring, is a number x, and in days the best weight, on the bottleneck semiring (document 003, Semiring 5);
 -- the figure is x up to the ceiling, else over. In grade the provenance, in the semiring of grades, is the figure
 module _ (c : Columns) (a : Entries) (v : ℕ) where
-  pub cost_worth : (settled Cost c a).result ≡ Accepted → let l = labels (settled Cost c a).left.labels v in Made l
+  pub cost_worth : (settled Cost c a).result ≡ Ok tt → let l = labels (settled Cost c a).left.labels v in Made l
       → (x : ℕ) × Provenance (program (valuation Cost) (hypergraph c) (own_at c)) (part v) (finite x) × (l.weight.0 ≡ capped x)
   cost_worth h = (demand_2 Cost c a h v).worth.made
 
-  pub days_worth : (settled Days c a).result ≡ Accepted → let l = labels (settled Days c a).left.labels v in Made l
+  pub days_worth : (settled Days c a).result ≡ Ok tt → let l = labels (settled Days c a).left.labels v in Made l
       → (x : ℕ) × BestWeight (weighted (valuation Days) (hypergraph c) (own_at c)) v (finite x) × (l.weight.0 ≡ capped x)
   days_worth h = (demand_2 Days c a h v).worth.made
 
-  pub grade_worth : (settled Grade c a).result ≡ Accepted → let l = labels (settled Grade c a).left.labels v in Made l
+  pub grade_worth : (settled Grade c a).result ≡ Ok tt → let l = labels (settled Grade c a).left.labels v in Made l
       → Provenance (program (valuation Grade) (hypergraph c) (own_at c)) (part v) (present (finite l.weight.0))
   grade_worth h = grade_provenance c a h v
 
@@ -125,14 +124,14 @@ module _ (c : Columns) (a : Entries) (v : ℕ) where
 
 module _ (m : Measure) (c : Columns) (a : Entries) where
   -- "yes exactly if they are the ones defined above, whoever wrote them"
-  pub says_yes : (checked m c a ≡ Yes) ↔ (RightLent c a × AllMean m c a)
+  pub says_yes : (checked m c a ≡ Ok true) ↔ (RightLent c a × AllMean m c a)
   says_yes = (
     λ h. let d = (yes_exactly m c a).0 h in ((lent_exactly c a).0 d.accepted, d.means),
     λ (l, all). (yes_exactly m c a).1 (record { accepted = (lent_exactly c a).1 l; means = all }),
   )
 
   -- "Checking answers returns no, and not 8, for wrong ones"
-  pub says_no : (checked m c a ≡ No) ↔ (RightLent c a × ¬ AllMean m c a)
+  pub says_no : (checked m c a ≡ Ok false) ↔ (RightLent c a × ¬ AllMean m c a)
   says_no = (λ h. let d = (no_exactly m c a).0 h in ((lent_exactly c a).0 d.0, d.1), λ (l, n). (no_exactly m c a).1 ((lent_exactly c a).1 l, n))
 
 -- Gaps -----------------------------------------------------------------------------------------------------------------------------------------------------------------

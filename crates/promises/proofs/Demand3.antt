@@ -6,7 +6,6 @@ use Prim.Native.Nat.{ℕ, ◌+◌, ◌*◌, ◌≤◌}
 use Rattle.weights.specs.declared.Measure.{Measure}
 use Rattle.weights.specs.declared.Measure.TheVariants.{Cost, Days, Grade}
 use Rattle.weights.specs.declared.State.TheVariants.{Made, Unmade}
-use Rattle.refusal.specs.declared.Acceptance.TheVariants.{Accepted}
 use Rattle.columns.specs.Columns.{Entries, Columns, own_at}
 use Rattle.settle.specs.Settling.{settled}
 use Rattle.reprice.specs.Repricing.{repriced}
@@ -15,6 +14,7 @@ use Rattle.reprice.proofs.Demand3.{demand_3}
 use Rattle.bill.specs.Rises.{count_in, Demand3Billed}
 use Rattle.bill.proofs.Rises.{demand_3_billed}
 use Rattle.promises.specs.Figures.{figure_in}
+use Rattle.std.specs.Prelude.{Ok}
 
 -- whole, with the counts taken in chosen make-ups, and in bills as they are printed
 pub of_make_ups : (m : Measure) (c c' : Columns) (e d : ℕ) → Pair c c' e d → Demand3 m c c' e d
@@ -27,11 +27,11 @@ of_bills = demand_3_billed
 
 module _ (c c' : Columns) (e d : ℕ) (p : Pair c c' e d) where
   -- repricing the line carries the answers of either table to the other's
-  module _ (m : Measure) (a a' : Entries) (h : (settled m c a).result ≡ Accepted) (h' : (settled m c' a').result ≡ Accepted) where
-    pub up : repriced m c (settled m c a).left e (own_at c' e) ≡ record { result = Accepted; own = c'.own; left = (settled m c' a').left }
+  module _ (m : Measure) (a a' : Entries) (h : (settled m c a).result ≡ Ok tt) (h' : (settled m c' a').result ≡ Ok tt) where
+    pub up : repriced m c (settled m c a).left e (own_at c' e) ≡ record { result = Ok tt; own = c'.own; left = (settled m c' a').left }
     up = (demand_3 m c c' e d p).carries.up a a' h h'
 
-    pub down : repriced m c' (settled m c' a').left e (own_at c e) ≡ record { result = Accepted; own = c.own; left = (settled m c a).left }
+    pub down : repriced m c' (settled m c' a').left e (own_at c e) ≡ record { result = Ok tt; own = c.own; left = (settled m c a).left }
     down = (demand_3 m c c' e d p).carries.down a a' h h'
 
   -- exactly the same parts are unmade

@@ -8,7 +8,6 @@ use Rattle.weights.specs.declared.Vertex.{Vertex}
 use Rattle.weights.specs.declared.Weight.{Weight}
 use Rattle.weights.specs.Figures.{standing}
 use Rattle.refusal.specs.declared.Refusal.TheVariants.{InputLength, Text}
-use Rattle.refusal.specs.declared.Acceptance.TheVariants.{Accepted}
 use Rattle.refusal.specs.declared.Counts.{Counts}
 use Rattle.columns.specs.Columns.{Entries, Columns}
 use Rattle.columns.specs.Acceptance.{acceptance}
@@ -57,6 +56,7 @@ use Rattle.promises.proofs.Samples.{sample_permitted, sample_refused}
 use Rattle.promises.proofs.Records.{record_refused}
 use Rattle.promises.proofs.Commands.{words_read, words_misuse}
 use Rattle.promises.proofs.Asked.{mean_asked, long_asked, unread_asked, uses_asked, check_asked, order_asked, append_asked}
+use Rattle.std.specs.Prelude.{Ok}
 
 -- "`price`: what `listing` prints"
 pub desk_price : (input second : List ℕ) → PricesAsListed input second
@@ -71,7 +71,7 @@ pub desk_uses : (c : Columns) (v : ℕ) → UsesTold c v
 desk_uses = uses_told
 
 -- "`compare` with a second table: a row for each part that differs: its state and figure in both tables"; of a second text that is no table's, its refusal
-module _ (m m' : Measure) (c c' : Columns) (p : acceptance c ≡ Accepted) (q : acceptance c' ≡ Accepted) (l : length (render m' c') ≤ most_input) where
+module _ (m m' : Measure) (c c' : Columns) (p : acceptance c ≡ Ok tt) (q : acceptance c' ≡ Ok tt) (l : length (render m' c') ≤ most_input) where
   pub desk_compare : Compared m m' c c' (render m' c')
   desk_compare = compared m m' c c' p q l
 
@@ -79,7 +79,7 @@ pub desk_compare_any : (n : ℕ) (a : Entries) (second : List ℕ) → ComparedA
 desk_compare_any = compared_any
 
 -- a table and its own text: no row
-pub desk_compare_itself : (m : Measure) (c : Columns) → acceptance c ≡ Accepted → length (render m c) ≤ most_input
+pub desk_compare_itself : (m : Measure) (c : Columns) → acceptance c ≡ Ok tt → length (render m c) ≤ most_input
     → compared_said c.vertices (entries_of m c) (render m c) ≡ answered []
 desk_compare_itself = compared_with_itself
 
@@ -97,7 +97,7 @@ desk_misuse = words_misuse
 
 -- and these are what the program says, of the text of a table: `compare` of its answers, `replay` of it with its gaps closed; so with `price`, `bill`, `reprice`, `strike` and
 -- `restore`, whose words are a command that is asked of a table and its answers
-module _ (m : Measure) (c : Columns) (p : acceptance c ≡ Accepted) (l : length (render m c) ≤ most_input) where
+module _ (m : Measure) (c : Columns) (p : acceptance c ≡ Ok tt) (l : length (render m c) ≤ most_input) where
   pub desk_asked : (words second : List ℕ) (q : Question) → (command_in words (replicate most_numbers 0)).line.command ≡ Ask (Settled q)
       → desk_said words (render m c) second ≡ answer_said second q m (closed c) (entries_of m c)
   desk_asked = settled_asked m c p l
@@ -176,5 +176,5 @@ module _ (m : Measure) (c : Columns) (a : Entries) where
   desk_append k index list l = appends m c k a index list l
 
 -- "so that it can replace the file": fed back, it is listed with the answers of the table that it is
-pub desk_again : (m : Measure) (t : Columns) (s : Said) → Printed m t s → acceptance t ≡ Accepted → length (render m t) ≤ most_input → PricesAgain m t s
+pub desk_again : (m : Measure) (t : Columns) (s : Said) → Printed m t s → acceptance t ≡ Ok tt → length (render m t) ≤ most_input → PricesAgain m t s
 desk_again = prices_again

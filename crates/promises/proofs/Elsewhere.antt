@@ -10,17 +10,8 @@ use Rattle.weights.specs.declared.Measure.{Measure}
 use Rattle.weights.specs.Choice.{pick}
 use Rattle.refusal.specs.declared.Refusal.{Refusal}
 use Rattle.refusal.specs.declared.Refusal.TheVariants.{ByteRoom}
-use Rattle.refusal.specs.declared.Acceptance.{Acceptance}
-use Rattle.refusal.specs.declared.Acceptance.TheVariants.{Accepted, Refused}
-use Rattle.refusal.specs.declared.Verdict.TheVariants as verdict
-use Rattle.refusal.specs.declared.Extent.{Extent}
-use Rattle.refusal.specs.declared.Extent.TheVariants as extent
 use Rattle.refusal.specs.declared.Header.{Header}
-use Rattle.refusal.specs.declared.Reading.{Reading}
-use Rattle.refusal.specs.declared.Reading.TheVariants as reading
 use Rattle.refusal.specs.declared.Counts.{Counts}
-use Rattle.refusal.specs.declared.Appending.{Appending}
-use Rattle.refusal.specs.declared.Appending.TheVariants as appending
 use Rattle.refusal.specs.Refusals.{number_of}
 use Rattle.columns.specs.Columns.{Entries, Columns}
 use Rattle.columns.specs.Acceptance.{lent_acceptance}
@@ -44,6 +35,8 @@ use Rattle.inventory.specs.Record.{Stops}
 use Rattle.inventory.specs.Asked.{WrongReplay}
 use Rattle.statistics.specs.Samples.{Sampled}
 use Rattle.shuffle.specs.Shuffled.{shuffled, unshuffled, outcome, shuffle_outcome, unshuffle_outcome}
+use Rattle.refusal.specs.Answers.{Acceptance, Extent, Reading, Appending}
+use Rattle.std.specs.Prelude.{Ok, Err}
 
 -- a call that owes this and was refused by r had that wrong with its input
 owed_wrong : {R L : Type 0} {refuse : Refusal → R} {entry : L} {Right : Type 0} {done : Right → R} {new : Right → L} {Wrong : Refusal → Type 0} {x : R} {y : L} {r : Refusal}
@@ -53,16 +46,16 @@ owed_wrong {Wrong = Wrong} n i (Owed.refused {r = s} w) e = subst Wrong (i s e) 
 
 -- by what it returns
 module _ {L : Type 0} {entry : L} {Right : Type 0} {new : Right → L} {Wrong : Refusal → Type 0} {y : L} {r : Refusal} where
-  pub of_acceptance : {x : Acceptance} → Owed Refused entry Right (λ _. Accepted) new Wrong x y → x ≡ Refused r → Wrong r
+  pub of_acceptance : {x : Acceptance} → Owed Err entry Right (λ _. Ok tt) new Wrong x y → x ≡ Err r → Wrong r
   of_acceptance = owed_wrong (λ p e. refused (sym e)) (λ s e. same_refusal e)
 
-  pub of_extent : {size : Right → ℕ} {x : Extent} → Owed extent.Refused entry Right (λ p. extent.Length (size p)) new Wrong x y → x ≡ extent.Refused r → Wrong r
+  pub of_extent : {size : Right → ℕ} {x : Extent} → Owed Err entry Right (λ p. Ok (size p)) new Wrong x y → x ≡ Err r → Wrong r
   of_extent = owed_wrong (λ p e. let z : ◌≡◌ {A = ℕ} 0 1 = cc in omega arith) (λ s e. cc)
 
-  pub of_reading : {header : Right → Header} {x : Reading} → Owed reading.Refused entry Right (λ p. reading.Table (header p)) new Wrong x y → x ≡ reading.Refused r → Wrong r
+  pub of_reading : {header : Right → Header} {x : Reading} → Owed Err entry Right (λ p. Ok (header p)) new Wrong x y → x ≡ Err r → Wrong r
   of_reading = owed_wrong (λ p e. let z : ◌≡◌ {A = ℕ} 0 1 = cc in omega arith) (λ s e. cc)
 
-  pub of_appending : {counts : Right → Counts} {x : Appending} → Owed appending.Refused entry Right (λ p. appending.Counts (counts p)) new Wrong x y → x ≡ appending.Refused r → Wrong r
+  pub of_appending : {counts : Right → Counts} {x : Appending} → Owed Err entry Right (λ p. Ok (counts p)) new Wrong x y → x ≡ Err r → Wrong r
   of_appending = owed_wrong (λ p e. let z : ◌≡◌ {A = ℕ} 0 1 = cc in omega arith) (λ s e. cc)
 
 abbrev pub Other : Refusal → Type 0
@@ -75,14 +68,14 @@ pub lent_other : {c : Columns} {a : Entries} {r : Refusal} → WrongLent c a r �
 lent_other (WrongLent.table w) e = table_other w e
 lent_other (WrongLent.answers t s) e = omega arith
 
-pub checked_other : (m : Measure) (c : Columns) (a : Entries) {r : Refusal} → checked m c a ≡ verdict.Refused r → Other r
+pub checked_other : (m : Measure) (c : Columns) (a : Entries) {r : Refusal} → checked m c a ≡ Err r → Other r
 unfolding checked
 checked_other m c a {r} = go (lent_acceptance c a) (same_entries a (entries_of m c)) refl
   where
-    go : (x : Acceptance) (b : Bool) → lent_acceptance c a ≡ x → told x b ≡ verdict.Refused r → Other r
-    go (Refused s) b p q = let e : s ≡ r = cc in lent_other ((lent_refused_exactly c a r).0 (p ∙ ap Refused e))
-    go Accepted true p q = let z : ◌≡◌ {A = ℕ} 0 1 = cc in absurd (omega arith)
-    go Accepted false p q = let z : ◌≡◌ {A = ℕ} 0 1 = cc in absurd (omega arith)
+    go : (x : Acceptance) (b : Bool) → lent_acceptance c a ≡ x → told x b ≡ Err r → Other r
+    go (Err s) b p q = let e : s ≡ r = cc in lent_other ((lent_refused_exactly c a r).0 (p ∙ ap Err e))
+    go (Ok _) true p q = let z : ◌≡◌ {A = ℕ} 0 1 = cc in absurd (omega arith)
+    go (Ok _) false p q = let z : ◌≡◌ {A = ℕ} 0 1 = cc in absurd (omega arith)
 
 pub change_other : {m : Measure} {c : Columns} {a : Entries} {Line Further : Type 0} {own r : Refusal} → Other own → WrongChange m c a Line Further own r → Other r
 change_other o (WrongChange.lent w) e = lent_other w e
@@ -140,19 +133,19 @@ replay_other (WrongReplay.answers l g s n) e = omega arith
 replay_other (WrongReplay.opening l g s f v n) e = omega arith
 replay_other {c = c} {a = a} (WrongReplay.event g w) e = event_other c a w e
 
-pub sample_other : {xs : List ℕ} {r : Refusal} → Sampled xs (Refused r) → Other r
+pub sample_other : {xs : List ℕ} {r : Refusal} → Sampled xs (Err r) → Other r
 sample_other (Sampled.sized h) e = omega arith
 sample_other (Sampled.large h l i f) e = omega arith
 
 -- what is laid out is refused by 27 alone
-laid_other : (b : Bool) (new old : List ℕ) {r : Refusal} → (pick b (outcome Accepted new) (outcome (Refused ByteRoom) old)).answer ≡ Refused r → Other r
+laid_other : (b : Bool) (new old : List ℕ) {r : Refusal} → (pick b (outcome (Ok tt) new) (outcome (Err ByteRoom) old)).answer ≡ Err r → Other r
 laid_other true new old p e = refused (sym p)
 laid_other false new old p e = omega (arith, ap number_of (same_refusal p), e)
 
-pub shuffle_other : (own room : List ℕ) {r : Refusal} → (shuffle_outcome own room).answer ≡ Refused r → Other r
+pub shuffle_other : (own room : List ℕ) {r : Refusal} → (shuffle_outcome own room).answer ≡ Err r → Other r
 unfolding shuffle_outcome
 shuffle_other own room = laid_other (eqb (length room) (8 * length own)) (shuffled own) room
 
-pub unshuffle_other : (bytes own : List ℕ) {r : Refusal} → (unshuffle_outcome bytes own).answer ≡ Refused r → Other r
+pub unshuffle_other : (bytes own : List ℕ) {r : Refusal} → (unshuffle_outcome bytes own).answer ≡ Err r → Other r
 unfolding unshuffle_outcome
 unshuffle_other bytes own = laid_other (eqb (length bytes) (8 * length own)) (unshuffled (length own) bytes) own

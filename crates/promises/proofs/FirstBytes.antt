@@ -17,13 +17,12 @@ use Rattle.text.specs.Render.{digits}
 use Rattle.text.specs.Machine.{digit_of}
 use Rattle.text.specs.Bytes.{line_from, column_from, line_after, column_after}
 use Rattle.text.proofs.Digits.{pick_by, digits_one, digit_byte}
-use Rattle.cursor.specs.declared.Found.{Found}
-use Rattle.cursor.specs.declared.Found.TheVariants.{Number, NotANumber}
 use Rattle.cursor.specs.declared.Token.{Token}
 use Rattle.cursor.specs.Cursor.{digits_from, number_of, number_at}
 use Rattle.cursor.proofs.Counts.{byte_within}
 use Rattle.reader.proofs.Fields.{one_more, Stops, number_read, number_found}
 use Rattle.promises.specs.FirstBytes.{BeginsOf, FirstByteOf}
+use Rattle.std.specs.Prelude.{Option, Some, None}
 
 -- the text s, from line l and column c on, leaves the form at line l' and column c'
 pub record Fails (G : List ℕ → Type 0) (s : List ℕ) (l c l' c' : ℕ) : Type 0 where
@@ -225,10 +224,10 @@ pub record NumberThen (limit : ℕ) (K : ℕ → List ℕ → Type 0) (x : List 
   pub bytes : x ≡ digits value ++ rest
   pub holds : K value rest
 
-no_value : {v : ℕ} {A : Type 0} → NotANumber ≡ Number v → A
+no_value : {v : ℕ} {A : Type 0} → ◌≡◌ {A = Option ℕ} None (Some v) → A
 no_value e = let z : ◌≡◌ {A = ℕ} 0 1 = cc in absurd (omega arith)
 
-same_value : {u v : ℕ} → Number u ≡ Number v → u ≡ v
+same_value : {u v : ℕ} → ◌≡◌ {A = Option ℕ} (Some u) (Some v) → u ≡ v
 same_value e = cc
 
 -- a number that was found, n bytes of s, and where it leaves the form if what is after it does; or a place where s leaves it
@@ -238,7 +237,7 @@ pub record After (K : List ℕ → Type 0) (G : List ℕ → Type 0) (s : List �
   pub on : (l c l' c' : ℕ) → Fails K (drop n s) l (c + n) l' c' → Fails G s l c l' c'
   pub right : K (drop n s) → G s
 
-pub record None (G : List ℕ → Type 0) (s : List ℕ) (i stop : ℕ) : Type 0 where
+pub record NoNumber (G : List ℕ → Type 0) (s : List ℕ) (i stop : ℕ) : Type 0 where
   pub n : ℕ
   pub place : stop ≡ i + n
   pub fails : (l c : ℕ) → Fails G s l c l (c + n)
@@ -253,14 +252,14 @@ module _ (limit : ℕ) (K : ℕ → List ℕ → Type 0) (s : List ℕ) (at stop
     pub from : at ≤ stop
     pub fails : (l c : ℕ) → Fails (NumberThen limit K) (drop at s) l c l (c + (stop - at))
 
-  abbrev pub ToldAt : Found → Type 0
-  ToldAt (Number u) = Reads u
-  ToldAt NotANumber = Breaks
+  abbrev pub ToldAt : Option ℕ → Type 0
+  ToldAt (Some u) = Reads u
+  ToldAt None = Breaks
 
 module _ (limit : ℕ) (positive : 0 < limit) (K : ℕ → List ℕ → Type 0) (stopped : (v : ℕ) (x : List ℕ) → K v x → Stops x) (ends : (v : ℕ) → BeginsOf (K v) []) where
-  abbrev Told : (G : List ℕ → Type 0) → (s : List ℕ) → (i stop : ℕ) → Found → Type 0
-  Told G s i stop (Number u) = After (K u) G s i stop
-  Told G s i stop NotANumber = None G s i stop
+  abbrev Told : (G : List ℕ → Type 0) → (s : List ℕ) → (i stop : ℕ) → Option ℕ → Type 0
+  Told G s i stop (Some u) = After (K u) G s i stop
+  Told G s i stop None = NoNumber G s i stop
 
   -- the digits so far make v
   abbrev Digits : ℕ → List ℕ → Type 0
@@ -275,13 +274,13 @@ module _ (limit : ℕ) (positive : 0 < limit) (K : ℕ → List ℕ → Type 0) 
       ∙ drop-append_seam (digits v) N.rest in
       subst₂ K (sym q) (sym r) N.holds
 
-  no_number : (s : List ℕ) → (number_of s 0 limit).found ≡ NotANumber → ¬ NumberThen limit K s
+  no_number : (s : List ℕ) → (number_of s 0 limit).found ≡ None → ¬ NumberThen limit K s
   unfolding number_at
   no_number s e N =
       let b = number_found s N.rest 0 limit N.value N.bytes N.below (stopped N.value N.rest N.holds) in
       no_value (sym e ∙ ap (λ (t : Token). t.found) b)
 
-  no_digits : (v : ℕ) (x : List ℕ) → v < limit → (digits_from x 0 (0 + length (digits v)) limit v).found ≡ NotANumber → ¬ Digits v x
+  no_digits : (v : ℕ) (x : List ℕ) → v < limit → (digits_from x 0 (0 + length (digits v)) limit v).found ≡ None → ¬ Digits v x
   no_digits v x h e = no_number (digits v ++ x) (ap (λ (t : Token). t.found) (number_read 0 limit v x h) ∙ e)
 
   begins_digits : (v : ℕ) → v < limit → BeginsOf (Digits v) []
@@ -290,7 +289,7 @@ module _ (limit : ℕ) (positive : 0 < limit) (K : ℕ → List ℕ → Type 0) 
   pub begins_number : BeginsOf (NumberThen limit K) []
   begins_number = record { rest = digits 0 ++ (begins_digits 0 positive).rest; whole = (begins_digits 0 positive).whole }
 
-  none_here : (G : List ℕ → Type 0) (s : List ℕ) (i : ℕ) → ((l c : ℕ) → Fails G s l c l c) → None G s i i
+  none_here : (G : List ℕ → Type 0) (s : List ℕ) (i : ℕ) → ((l c : ℕ) → Fails G s l c l c) → NoNumber G s i i
   none_here G s i F = record { n = 0; place = omega arith; fails = λ l c. to_column (F l c) (omega arith) }
 
   -- the number ends here
@@ -305,16 +304,16 @@ module _ (limit : ℕ) (positive : 0 < limit) (K : ℕ → List ℕ → Type 0) 
   }
 
   -- a digit more
-  shift : (G H : List ℕ → Type 0) (b : ℕ) (s : List ℕ) (i stop : ℕ) (f : Found) → digit_of b < 10 → ((x : List ℕ) → H x → G (b ∷ x)) → ((x : List ℕ) → G (b ∷ x) → H x)
+  shift : (G H : List ℕ → Type 0) (b : ℕ) (s : List ℕ) (i stop : ℕ) (f : Option ℕ) → digit_of b < 10 → ((x : List ℕ) → H x → G (b ∷ x)) → ((x : List ℕ) → G (b ∷ x) → H x)
       → Told H s (i + 1) stop f → Told G (b ∷ s) i stop f
-  shift G H b s i stop (Number u) d f g A = record {
+  shift G H b s i stop (Some u) d f g A = record {
     n = suc A.n;
     place = omega (arith, A.place);
     on = λ l c l' c' F.
         step_plain G H b s l c l' c' (ne_eqb b 10 (λ e. omega (arith, digit_byte b d))) f g (A.on l (suc c) l' c' (from_column F (omega arith)));
     right = λ k. f s (A.right k);
   }
-  shift G H b s i stop NotANumber d f g A = record {
+  shift G H b s i stop None d f g A = record {
     n = suc A.n;
     place = omega (arith, A.place);
     fails = λ l c.
@@ -328,7 +327,7 @@ module _ (limit : ℕ) (positive : 0 < limit) (K : ℕ → List ℕ → Type 0) 
       let P : Token → Type 0 = λ t. Told (Digits v) (b ∷ s) i t.stop t.found in
       let w = 10 * v + digit_of b in
       let t = digits_from s start (i + 1) limit w in
-      let stuck : ((x : List ℕ) → (digits_from (b ∷ x) 0 (0 + length (digits v)) limit v).found ≡ NotANumber) → None (Digits v) (b ∷ s) i i =
+      let stuck : ((x : List ℕ) → (digits_from (b ∷ x) 0 (0 + length (digits v)) limit v).found ≡ None) → NoNumber (Digits v) (b ∷ s) i i =
       λ e. none_here (Digits v) (b ∷ s) i (λ l c. stuck_at (Digits v) b s l c (begins_digits v h) (λ x. no_digits v (b ∷ x) h (e x))) in
       pick_by P (ltb (digit_of b) 10) (λ d.
       pick_by P (ltb 0 v) (λ z.
@@ -348,7 +347,7 @@ module _ (limit : ℕ) (positive : 0 < limit) (K : ℕ → List ℕ → Type 0) 
   number_told (b ∷ s) at =
       let P : Token → Type 0 = λ t. Told (NumberThen limit K) (b ∷ s) at t.stop t.found in
       let t = digits_from s at (at + 1) limit (digit_of b) in
-      let stuck : ((x : List ℕ) → (number_of (b ∷ x) 0 limit).found ≡ NotANumber) → None (NumberThen limit K) (b ∷ s) at at =
+      let stuck : ((x : List ℕ) → (number_of (b ∷ x) 0 limit).found ≡ None) → NoNumber (NumberThen limit K) (b ∷ s) at at =
       λ e. none_here (NumberThen limit K) (b ∷ s) at (λ l c. stuck_at (NumberThen limit K) b s l c begins_number (λ x. no_number (b ∷ x) (e x))) in
       pick_by P (ltb (digit_of b) 10) (λ d.
       pick_by P (ltb (digit_of b) limit) (λ y.
@@ -357,8 +356,8 @@ module _ (limit : ℕ) (positive : 0 < limit) (K : ℕ → List ℕ → Type 0) 
       (digits_told s at (at + 1) (digit_of b) (ltb-true _ _ y)))
       (λ y. stuck (λ x. rw (d, y)))) (λ d. stuck (λ x. rw d))
 
-  told_at : (s : List ℕ) (at stop : ℕ) (f : Found) → Told (NumberThen limit K) (drop at s) at stop f → ToldAt limit K s at stop f
-  told_at s at stop (Number u) A =
+  told_at : (s : List ℕ) (at stop : ℕ) (f : Option ℕ) → Told (NumberThen limit K) (drop at s) at stop f → ToldAt limit K s at stop f
+  told_at s at stop (Some u) A =
       let p = A.place in
       let q : stop - at ≡ A.n = omega arith in
       let e : drop stop s ≡ drop A.n (drop at s) = ap (λ (k : ℕ). drop k s) p ∙ sym (drop-drop A.n at s) in
@@ -366,7 +365,7 @@ module _ (limit : ℕ) (positive : 0 < limit) (K : ℕ → List ℕ → Type 0) 
         from = omega arith;
         passes = λ l c. record { on = λ x y F. A.on l c x y (subst₂ (λ (z : List ℕ) (k : ℕ). Fails (K u) z l (c + k) x y) e q F); right = λ k. A.right (subst (K u) e k) };
       }
-  told_at s at stop NotANumber A =
+  told_at s at stop None A =
       let p = A.place in
       let q : A.n ≡ stop - at = omega arith in
       record { from = omega arith; fails = λ l c. subst (λ (k : ℕ). Fails (NumberThen limit K) (drop at s) l c l (c + k)) q (A.fails l c) }

@@ -14,9 +14,6 @@ use Rattle.weights.specs.Figures.{greatest, standing, struck_mark, is_struck_mar
 use Rattle.refusal.specs.declared.Refusal.{Refusal}
 use Rattle.refusal.specs.declared.Refusal.TheVariants.{AnswerLength, NoSuchVertex, WrongAnswers, WrongIndex, Underivable, NoSuchEdge, NewWeight, NotStruck}
 use Rattle.refusal.specs.declared.Counts.{Counts}
-use Rattle.refusal.specs.declared.Appending.TheVariants as appending
-use Rattle.refusal.specs.declared.Acceptance.{Acceptance}
-use Rattle.refusal.specs.declared.Acceptance.TheVariants.{Accepted, Refused}
 use Rattle.columns.specs.Columns.{Entries, Columns, cell, strike_at, offset_at, length_at, tail_at, with_own, with_strike}
 use Rattle.columns.specs.Acceptance.{test, and_then, edge_acceptance, sizes_acceptance, acceptance, lent_acceptance}
 use Rattle.columns.specs.Filled.{filled}
@@ -47,21 +44,23 @@ use Rattle.writetable.specs.Write.{write_as, write_table}
 use Rattle.inventory.specs.Shelf.{chosen_tail}
 use Rattle.inventory.specs.Replaying.{record_acceptance, open_acceptance, opening_acceptance, chosen_list, Run, begun, replay_from, run_of, concluded, replayed}
 use Rattle.promises.proofs.Appends.{counts_right, line_right, longer_right}
+use Rattle.refusal.specs.Answers.{Acceptance}
+use Rattle.std.specs.Prelude.{Ok, Err}
 
 -- an outcome that looks at what is worked out of a table only where the tests before it pass
-pub alike : {B D : Type 0} {x x' : Acceptance} {d d' : D} → x ≡ x' → (x ≡ Accepted → d ≡ d') → (f : Acceptance → D → B) → ((r : Refusal) (y z : D) → f (Refused r) y ≡ f (Refused r) z)
+pub alike : {B D : Type 0} {x x' : Acceptance} {d d' : D} → x ≡ x' → (x ≡ Ok tt → d ≡ d') → (f : Acceptance → D → B) → ((r : Refusal) (y z : D) → f (Err r) y ≡ f (Err r) z)
     → f x d ≡ f x' d'
 alike {B} {D} {x} {x'} {d} {d'} e h f k = go x refl
   where
     go : (y : Acceptance) → x ≡ y → f x d ≡ f x' d'
-    go Accepted p = ap₂ f e (h p)
-    go (Refused r) p = ap (λ (z : Acceptance). f z d) p ∙ k r d d' ∙ sym (ap (λ (z : Acceptance). f z d') (sym e ∙ p))
+    go (Ok _) p = ap₂ f e (h p)
+    go (Err r) p = ap (λ (z : Acceptance). f z d) p ∙ k r d d' ∙ sym (ap (λ (z : Acceptance). f z d') (sym e ∙ p))
 
 module _ (c : Columns) (tails : List ℕ) (g : Gapped c tails) where
   abbrev c' : Columns
   c' = with_tails c tails
 
-  tails_alike : acceptance c ≡ Accepted → tail_at c ≡ tail_at c'
+  tails_alike : acceptance c ≡ Ok tt → tail_at c ≡ tail_at c'
   tails_alike p = fun_ext (all_tails_alike c tails g p)
 
   -- of a line, whether or not the table is accepted
@@ -92,15 +91,15 @@ module _ (c : Columns) (tails : List ℕ) (g : Gapped c tails) where
   unfolding ordered_lent_acceptance
   settle_ordered_gaps m a = go (ordered_acceptance c) refl
     where
-      refuses : (b : Columns) {r : Refusal} → ordered_acceptance b ≡ Refused r → ordered_lent_acceptance b a ≡ Refused r
+      refuses : (b : Columns) {r : Refusal} → ordered_acceptance b ≡ Err r → ordered_lent_acceptance b a ≡ Err r
       refuses b p = rw p
 
       go : (x : Acceptance) → ordered_acceptance c ≡ x → settled_in_order m c a ≡ settled_in_order m c' a
-      go Accepted p = same_columns m c a p ∙ gaps_settled m c tails g a ∙ sym (same_columns m c' a (sym order_gaps ∙ p))
-      go (Refused r) p = sym (ordered_refused_left m c a r (refuses c p)) ∙ ordered_refused_left m c' a r (refuses c' (sym order_gaps ∙ p))
+      go (Ok _) p = same_columns m c a p ∙ gaps_settled m c tails g a ∙ sym (same_columns m c' a (sym order_gaps ∙ p))
+      go (Err r) p = sym (ordered_refused_left m c a r (refuses c p)) ∙ ordered_refused_left m c' a r (refuses c' (sym order_gaps ∙ p))
 
   -- the text, the index and the bills of an accepted table
-  edges_alike : acceptance c ≡ Accepted → (left e : ℕ) → edges_from c left e ≡ edges_from c' left e
+  edges_alike : acceptance c ≡ Ok tt → (left e : ℕ) → edges_from c left e ≡ edges_from c' left e
   unfolding edges_from
   edges_alike p zero e = refl
   edges_alike p (suc left) e = rw (all_tails_alike c tails g p e, edges_alike p left (e + 1))
@@ -109,7 +108,7 @@ module _ (c : Columns) (tails : List ℕ) (g : Gapped c tails) where
   write_gaps m room =
       alike (gaps_accepted c tails g) (λ p. ap (table_text c.vertices m) (edges_alike p (length c.heads) 0)) (λ x text. write_as x text room) (λ r y z. refl)
 
-  pub index_alike : acceptance c ≡ Accepted → index_of c ≡ index_of c'
+  pub index_alike : acceptance c ≡ Ok tt → index_of c ≡ index_of c'
   index_alike p = ap (λ (t : ℕ → List ℕ). index_by t (length c.heads) c.vertices) (tails_alike p)
 
   pub index_gaps : (index list : List ℕ) → table_indexed c index list ≡ table_indexed c' index list
@@ -119,10 +118,10 @@ module _ (c : Columns) (tails : List ℕ) (g : Gapped c tails) where
       (λ x (i : TableIndex). index_outcome i index list (and_then x (index_room c.vertices (length i.list) index list))) (λ r y z. refl)
 
   module _ (m : Measure) (a : Entries) where
-    entries_alike : lent_acceptance c a ≡ Accepted → entries_of m c ≡ entries_of m c'
+    entries_alike : lent_acceptance c a ≡ Ok tt → entries_of m c ≡ entries_of m c'
     entries_alike p = gaps_entries m c tails g (columns_accepted c a p).table
 
-    bills_alike : (v : ℕ) → lent_acceptance c a ≡ Accepted → bill_of c a.labels v ≡ bill_of c' a.labels v
+    bills_alike : (v : ℕ) → lent_acceptance c a ≡ Ok tt → bill_of c a.labels v ≡ bill_of c' a.labels v
     unfolding bill_of
     bills_alike v p =
         ap (λ (H : Hypergraph). bill H (labels a.labels) (labels a.labels v).depth v) (gaps_hypergraph c tails g (columns_accepted c a p).table)
@@ -133,32 +132,32 @@ module _ (c : Columns) (tails : List ℕ) (g : Gapped c tails) where
         alike {D = Entries × List ℕ} (gaps_lent c tails g a) (λ p i. (entries_alike p i, bills_alike v p i))
         (λ x d. outcome
         (and_then
-        (and_then x (test (ltb v c.vertices) NoSuchVertex (test (same_entries a d.0) WrongAnswers (test (ltb 0 (labels a.labels v).depth) Underivable Accepted))))
+        (and_then x (test (ltb v c.vertices) NoSuchVertex (test (same_entries a d.0) WrongAnswers (test (ltb 0 (labels a.labels v).depth) Underivable (Ok tt)))))
         (bill_room d.1 (length room)))
         d.1 room)
         (λ r y z. refl)
 
     -- a change of line e: its tests, and the table as it then is
     module _ (e : ℕ) where
-      changed_gaps : (w : ℕ) (x : Acceptance) → (x ≡ Accepted → entries_of m (with_own c e w) ≡ entries_of m (with_own c' e w)) → changed m c a e w x ≡ changed m c' a e w x
-      changed_gaps w Accepted h = ap (λ (b : Entries). record { result = Accepted; own = set c.own e w; left = b }) (h refl)
-      changed_gaps w (Refused r) h = refl
+      changed_gaps : (w : ℕ) (x : Acceptance) → (x ≡ Ok tt → entries_of m (with_own c e w) ≡ entries_of m (with_own c' e w)) → changed m c a e w x ≡ changed m c' a e w x
+      changed_gaps w (Ok _) h = ap (λ (b : Entries). record { result = Ok tt; own = set c.own e w; left = b }) (h refl)
+      changed_gaps w (Err r) h = refl
 
-      marked_gaps : (s : ℕ) (x : Acceptance) → (x ≡ Accepted → entries_of m (with_strike c e s) ≡ entries_of m (with_strike c' e s)) → marked m c a e s x ≡ marked m c' a e s x
-      marked_gaps s Accepted h = ap (λ (b : Entries). record { result = Accepted; strikes = set c.strikes e s; left = b }) (h refl)
-      marked_gaps s (Refused r) h = refl
+      marked_gaps : (s : ℕ) (x : Acceptance) → (x ≡ Ok tt → entries_of m (with_strike c e s) ≡ entries_of m (with_strike c' e s)) → marked m c a e s x ≡ marked m c' a e s x
+      marked_gaps s (Ok _) h = ap (λ (b : Entries). record { result = Ok tt; strikes = set c.strikes e s; left = b }) (h refl)
+      marked_gaps s (Err r) h = refl
 
       repriced_alike : (w : ℕ) → reprice_acceptance m c a e w ≡ reprice_acceptance m c' a e w
       unfolding reprice_acceptance line_acceptance
       repriced_alike w =
           alike (gaps_lent c tails g a) entries_alike
-          (λ x b. and_then (and_then x (test (stands c e) NoSuchEdge Accepted)) (test (leb w greatest) NewWeight (test (same_entries a b) WrongAnswers Accepted))) (λ r y z. refl)
+          (λ x b. and_then (and_then x (test (stands c e) NoSuchEdge (Ok tt))) (test (leb w greatest) NewWeight (test (same_entries a b) WrongAnswers (Ok tt)))) (λ r y z. refl)
 
       stricken_alike : strike_acceptance m c a e ≡ strike_acceptance m c' a e
       unfolding strike_acceptance line_acceptance
       stricken_alike =
           alike (gaps_lent c tails g a) entries_alike
-          (λ x b. and_then (and_then x (test (stands c e) NoSuchEdge Accepted)) (test (same_entries a b) WrongAnswers Accepted)) (λ r y z. refl)
+          (λ x b. and_then (and_then x (test (stands c e) NoSuchEdge (Ok tt))) (test (same_entries a b) WrongAnswers (Ok tt))) (λ r y z. refl)
 
       restored_alike : restore_acceptance m c a e ≡ restore_acceptance m c' a e
       unfolding restore_acceptance struck_acceptance numbered_acceptance
@@ -166,8 +165,8 @@ module _ (c : Columns) (tails : List ℕ) (g : Gapped c tails) where
           alike (gaps_lent c tails g a) entries_alike
           (λ x b.
           and_then
-          (and_then (and_then x (test (ltb e (length c.heads)) NoSuchEdge Accepted)) (test (is_struck_mark (strike_at c e)) NotStruck Accepted))
-          (test (same_entries a b) WrongAnswers Accepted))
+          (and_then (and_then x (test (ltb e (length c.heads)) NoSuchEdge (Ok tt))) (test (is_struck_mark (strike_at c e)) NotStruck (Ok tt)))
+          (test (same_entries a b) WrongAnswers (Ok tt)))
           (λ r y z. refl)
 
       pub reprice_gaps : (w : ℕ) → repriced m c a e w ≡ repriced m c' a e w
@@ -192,7 +191,7 @@ module _ (c : Columns) (tails : List ℕ) (g : Gapped c tails) where
           ∙ ap (marked m c' a e standing) restored_alike
 
     -- the lists of the chosen lines
-    chosen_alike : lent_acceptance c a ≡ Accepted → chosen_list c a.labels ≡ chosen_list c' a.labels
+    chosen_alike : lent_acceptance c a ≡ Ok tt → chosen_list c a.labels ≡ chosen_list c' a.labels
     unfolding chosen_tail
     chosen_alike p =
         let edge = cell a.labels.edges in
@@ -200,9 +199,9 @@ module _ (c : Columns) (tails : List ℕ) (g : Gapped c tails) where
         fun_ext (λ v. ap (λ (us : List ℕ). pick (eqb (cell a.labels.depths v) 0) [] us) (t (edge v)))
 
     -- nothing before the table's own tests looks at it
-    unlooked : (x : Acceptance) (r : Refusal) (y z : Run) (stock outcomes : List ℕ) → concluded (begun (and_then x (Refused r)) y) stock outcomes ≡ concluded (begun (and_then x (Refused r)) z) stock outcomes
-    unlooked Accepted r y z stock outcomes = refl
-    unlooked (Refused q) r y z stock outcomes = refl
+    unlooked : (x : Acceptance) (r : Refusal) (y z : Run) (stock outcomes : List ℕ) → concluded (begun (and_then x (Err r)) y) stock outcomes ≡ concluded (begun (and_then x (Err r)) z) stock outcomes
+    unlooked (Ok _) r y z stock outcomes = refl
+    unlooked (Err q) r y z stock outcomes = refl
 
     pub replay_gaps : (parts received stock outcomes : List ℕ) → replayed m c a parts received stock outcomes ≡ replayed m c' a parts received stock outcomes
     unfolding replayed run_of open_acceptance
@@ -213,16 +212,16 @@ module _ (c : Columns) (tails : List ℕ) (g : Gapped c tails) where
         (begun
         (and_then first
         (and_then x
-        (test (eqb (length stock) c.vertices) AnswerLength (and_then (test (same_entries a d.0) WrongAnswers Accepted) (opening_acceptance 0 stock)))))
+        (test (eqb (length stock) c.vertices) AnswerLength (and_then (test (same_entries a d.0) WrongAnswers (Ok tt)) (opening_acceptance 0 stock)))))
         (replay_from d.1 0 parts received stock))
         stock outcomes)
         (λ r y z. unlooked first r _ _ stock outcomes)
 
 -- three answers before a fourth
 flat : (x y z w : Acceptance) → and_then (and_then x (and_then y z)) w ≡ and_then x (and_then y (and_then z w))
-flat (Refused r) y z w = refl
-flat Accepted (Refused r) z w = refl
-flat Accepted Accepted z w = refl
+flat (Err r) y z w = refl
+flat (Ok _) (Err r) z w = refl
+flat (Ok _) (Ok _) z w = refl
 
 -- appending, where a gap is a place that no span in use has
 module _ (m : Measure) (c : Columns) (k : Counts) (a : Entries) (index list : List ℕ) (l : NewLine) (tails : List ℕ) (level : length c.tails ≡ length tails)
@@ -234,8 +233,8 @@ module _ (m : Measure) (c : Columns) (k : Counts) (a : Entries) (index list : Li
   t' = in_use_of (with_tails c tails) k
 
   -- the longer table, whose counts passed
-  module _ (p : acceptance t ≡ Accepted) where
-    p' : acceptance t' ≡ Accepted
+  module _ (p : acceptance t ≡ Ok tt) where
+    p' : acceptance t' ≡ Ok tt
     p' = sym (gaps_accepted t (take k.listed tails) g) ∙ p
 
     longer_alike : (e : ℕ) → e < length (longer t l).heads → tail_at (longer t l) e ≡ tail_at (longer t' l) e
@@ -256,11 +255,11 @@ module _ (m : Measure) (c : Columns) (k : Counts) (a : Entries) (index list : Li
   abbrev front : Columns → Acceptance
   front b = and_then (counts_acceptance b k (length l.tail)) (and_then (acceptance (in_use_of b k)) (new_line_acceptance b.vertices (record { 0 = k.edges }) l))
 
-  module _ (f : front c ≡ Accepted) where
-    passed : acceptance t ≡ Accepted
+  module _ (f : front c ≡ Ok tt) where
+    passed : acceptance t ≡ Ok tt
     passed = (both_accepted (acceptance t) _ (both_accepted (counts_acceptance c k (length l.tail)) _ f).1).0
 
-    grown-accepted : acceptance (longer t l) ≡ Accepted
+    grown-accepted : acceptance (longer t l) ≡ Ok tt
     grown-accepted =
         let q = both_accepted (counts_acceptance c k (length l.tail)) _ f in
         let u = (counts_right c k (length l.tail) q.0).1 in
@@ -286,7 +285,7 @@ module _ (m : Measure) (c : Columns) (k : Counts) (a : Entries) (index list : Li
   abbrev looked : Columns → Behind
   looked b = (index_of (longer (in_use_of b k) l), (index_of (in_use_of b k), entries_of m (in_use_of b k)))
 
-  looked_alike : front c ≡ Accepted → looked c ≡ looked (with_tails c tails)
+  looked_alike : front c ≡ Ok tt → looked c ≡ looked (with_tails c tails)
   looked_alike f =
       let p = passed f in
       let x = index_alike (longer t l) (longer t' l).tails (longer_gapped p) (grown-accepted f) in
@@ -299,7 +298,7 @@ module _ (m : Measure) (c : Columns) (k : Counts) (a : Entries) (index list : Li
       and_then (sized_acceptance c.vertices a)
       (and_then places
       (and_then (index_room c.vertices (length d.0.list) index list)
-      (test (begin_with c.vertices d.1.0 index list) WrongIndex (test (same_entries a d.1.1) WrongAnswers Accepted))))
+      (test (begin_with c.vertices d.1.0 index list) WrongIndex (test (same_entries a d.1.1) WrongAnswers (Ok tt)))))
 
   abbrev places : Columns → Acceptance
   places b = room_acceptance b.heads b.own b.strikes b.spans b.tails k.edges (length l.tail)
@@ -312,17 +311,17 @@ module _ (m : Measure) (c : Columns) (k : Counts) (a : Entries) (index list : Li
       ∙ ap (λ (x : Acceptance). and_then (front (with_tails c tails)) (rest x (looked (with_tails c tails)))) places_alike
       ∙ flat (counts_acceptance (with_tails c tails) k (length l.tail)) (acceptance t') (new_line_acceptance c.vertices (record { 0 = k.edges }) l) (rest (places (with_tails c tails)) (looked (with_tails c tails)))
 
-  left_alike : (x : Acceptance) → (x ≡ Accepted → front c ≡ Accepted) → let o = grown m c k a index list l x in let o' = grown m (with_tails c tails) k a index list l x in
+  left_alike : (x : Acceptance) → (x ≡ Ok tt → front c ≡ Ok tt) → let o = grown m c k a index list l x in let o' = grown m (with_tails c tails) k a index list l x in
       o' ≡ leaves o.result (with_tails o.table o'.table.tails) o.answers o.index o.list
-  left_alike Accepted h =
+  left_alike (Ok _) h =
       let q = grown-accepted (h refl) in
       let s = longer_gapped (passed (h refl)) in
       let x = index_alike (longer t l) (longer t' l).tails s q in
       let y = gaps_entries m (longer t l) (longer t' l).tails s q in
-      sym (λ i. leaves (appending.Counts (new_counts c k l)) (over (longer t' l) (with_tails c tails)) (y i) (filled (x i).pairs index) (filled (x i).list list))
-  left_alike (Refused r) h = refl
+      sym (λ i. leaves (Ok (new_counts c k l)) (over (longer t' l) (with_tails c tails)) (y i) (filled (x i).pairs index) (filled (x i).list list))
+  left_alike (Err r) h = refl
 
-  front_passed : append_acceptance m c k a index list l ≡ Accepted → front c ≡ Accepted
+  front_passed : append_acceptance m c k a index list l ≡ Ok tt → front c ≡ Ok tt
   unfolding append_acceptance
   front_passed p =
       (both_accepted (front c) (rest (places c) (looked c))

@@ -13,9 +13,6 @@ use Rattle.weights.specs.declared.Measure.{Measure}
 use Rattle.weights.specs.Figures.{greatest, struck_mark}
 use Rattle.refusal.specs.declared.Refusal.{Refusal}
 use Rattle.refusal.specs.declared.Refusal.TheVariants.{Lengths, Head, Own, Span, Tail}
-use Rattle.refusal.specs.declared.Acceptance.{Acceptance}
-use Rattle.refusal.specs.declared.Acceptance.TheVariants.{Accepted, Refused}
-use Rattle.refusal.specs.declared.Appending.TheVariants as appending
 use Rattle.refusal.specs.declared.Counts.{Counts}
 use Rattle.columns.specs.Columns.{Columns}
 use Rattle.columns.specs.Acceptance.{most_vertices, most_edges, most_listed, longest_tail, test, all_below, acceptance}
@@ -35,6 +32,8 @@ use Rattle.append.proofs.Appended.{appended_result}
 use Rattle.amend.specs.Amend.{appended_said}
 use Rattle.amend.proofs.Printed.{appends}
 use Rattle.desk.specs.Appended.{Roomy, WrongLine, AppendTold}
+use Rattle.refusal.specs.Answers.{Acceptance}
+use Rattle.std.specs.Prelude.{Ok, Err}
 
 -- The line ----------------------------------------------------------------------------------------------------------------------------------------
 
@@ -46,7 +45,7 @@ not-all n xs h = go (all_below n xs) refl
     go false e = refl
 
 module _ (n : ℕ) (e : Hyperedge) (l : NewLine) (mark : l.mark ≤ struck_mark) where
-  line_right : RightLine n l → new_line_acceptance n e l ≡ Accepted
+  line_right : RightLine n l → new_line_acceptance n e l ≡ Ok tt
   unfolding new_line_acceptance
   line_right g =
       rw (
@@ -57,21 +56,21 @@ module _ (n : ℕ) (e : Hyperedge) (l : NewLine) (mark : l.mark ≤ struck_mark)
         below_all n l.tail g.listed,
       )
 
-  line_head : ¬ (l.head < n) → new_line_acceptance n e l ≡ Refused (Head e)
+  line_head : ¬ (l.head < n) → new_line_acceptance n e l ≡ Err (Head e)
   unfolding new_line_acceptance
   line_head h = rw (le-ltb l.head n (omega arith))
 
-  line_own : l.head < n → ¬ (l.own ≤ greatest) → new_line_acceptance n e l ≡ Refused (Own e)
+  line_own : l.head < n → ¬ (l.own ≤ greatest) → new_line_acceptance n e l ≡ Err (Own e)
   unfolding new_line_acceptance
   line_own h o = rw (lt-ltb l.head n h, lt-leb l.own greatest (omega arith))
 
-  line_long : l.head < n → l.own ≤ greatest → ¬ (length l.tail ≤ longest_tail) → new_line_acceptance n e l ≡ Refused (Span e)
+  line_long : l.head < n → l.own ≤ greatest → ¬ (length l.tail ≤ longest_tail) → new_line_acceptance n e l ≡ Err (Span e)
   unfolding new_line_acceptance
   line_long h o s =
       rw (lt-ltb l.head n h, le-leb l.own greatest o, le-leb l.mark struck_mark mark, lt-leb (length l.tail) longest_tail (omega arith))
 
   line_unlisted : l.head < n → l.own ≤ greatest → length l.tail ≤ longest_tail → ¬ ((k : ℕ) → k < length l.tail → get_or l.tail k 0 < n)
-      → new_line_acceptance n e l ≡ Refused (Tail e)
+      → new_line_acceptance n e l ≡ Err (Tail e)
   unfolding new_line_acceptance
   line_unlisted h o s b =
       rw (
@@ -91,7 +90,7 @@ blank_index = replicate (2 * most_vertices) 0
 abbrev pub blank_list : List ℕ
 blank_list = replicate most_listed 0
 
-module _ (t : Columns) (p : acceptance t ≡ Accepted) where
+module _ (t : Columns) (p : acceptance t ≡ Ok tt) where
   abbrev pub pairs_for : List ℕ
   pairs_for = filled (index_of t).pairs blank_index
 
@@ -107,7 +106,7 @@ module _ (t : Columns) (p : acceptance t ≡ Accepted) where
   few_uses = omega (arith, length-replicate {A = ℕ} most_listed 0, list_fits t t.vertices p, (table_accepted t p).tails)
 
   -- the index fits, so it is built
-  pub index_fits : table_indexed t blank_index blank_list ≡ index_outcome (index_of t) blank_index blank_list Accepted
+  pub index_fits : table_indexed t blank_index blank_list ≡ index_outcome (index_of t) blank_index blank_list (Ok tt)
   unfolding table_indexed index_acceptance index_room
   index_fits =
       let n : length (index_of t).pairs ≡ 2 * t.vertices = length_pairs _ _ t.vertices in
@@ -139,7 +138,7 @@ pub record Largest (c : Columns) : Type 0 where
   pub spans : length c.spans ≡ 2 * most_edges
   pub tails : length c.tails ≡ most_listed
 
-module _ (m : Measure) (c : Columns) (k : Counts) (l : NewLine) (p : acceptance (in_use_of c k) ≡ Accepted) (room : Largest c) (edges : k.edges ≤ most_edges) (listed : k.listed ≤ most_listed)
+module _ (m : Measure) (c : Columns) (k : Counts) (l : NewLine) (p : acceptance (in_use_of c k) ≡ Ok tt) (room : Largest c) (edges : k.edges ≤ most_edges) (listed : k.listed ≤ most_listed)
     (mark : l.mark ≤ struck_mark) where
   abbrev t : Columns
   t = in_use_of c k
@@ -158,7 +157,7 @@ module _ (m : Measure) (c : Columns) (k : Counts) (l : NewLine) (p : acceptance 
 
   -- only two tests of the counts can fail
   abbrev counted : (lines parts : Bool) → Acceptance
-  counted x y = test x Lengths (test y Lengths Accepted)
+  counted x y = test x Lengths (test y Lengths (Ok tt))
 
   counts_are : counts_acceptance c k size ≡ counted (ltb k.edges most_edges) (leb (new_end c k + size) most_listed)
   unfolding counts_acceptance
@@ -173,15 +172,15 @@ module _ (m : Measure) (c : Columns) (k : Counts) (l : NewLine) (p : acceptance 
         le-leb k.listed most_listed listed,
       )
 
-  counts_right : Roomy t l → counts_acceptance c k size ≡ Accepted
+  counts_right : Roomy t l → counts_acceptance c k size ≡ Ok tt
   counts_right r =
       counts_are
       ∙ ap₂ counted (lt-ltb k.edges most_edges (omega (arith, r.lines, lines_held))) (le-leb (new_end c k + size) most_listed (omega (arith, r.parts, end_held)))
 
-  counts_full : ¬ Roomy t l → counts_acceptance c k size ≡ Refused Lengths
+  counts_full : ¬ Roomy t l → counts_acceptance c k size ≡ Err Lengths
   counts_full n = counts_are ∙ go (ltb k.edges most_edges) (leb (new_end c k + size) most_listed) refl refl
     where
-      go : (a b : Bool) → ltb k.edges most_edges ≡ a → leb (new_end c k + size) most_listed ≡ b → counted a b ≡ Refused Lengths
+      go : (a b : Bool) → ltb k.edges most_edges ≡ a → leb (new_end c k + size) most_listed ≡ b → counted a b ≡ Err Lengths
       go false b x y = refl
       go true false x y = refl
       go true true x y =
@@ -189,7 +188,7 @@ module _ (m : Measure) (c : Columns) (k : Counts) (l : NewLine) (p : acceptance 
           let j = leb-true (new_end c k + size) most_listed y in
           absurd (n (record { lines = omega (arith, lines_held); parts = omega (arith, end_held) }))
 
-  roomy_checks : Roomy t l → RightLine c.vertices l → checks ≡ Accepted
+  roomy_checks : Roomy t l → RightLine c.vertices l → checks ≡ Ok tt
   unfolding append_acceptance sized_acceptance room_acceptance index_room
   roomy_checks r g =
       let s = entries_sized m t p in
@@ -218,14 +217,14 @@ module _ (m : Measure) (c : Columns) (k : Counts) (l : NewLine) (p : acceptance 
         entries_refl (entries_of m t),
       )
 
-  by_line : Roomy t l → (r : Refusal) → new_line_acceptance c.vertices (record { 0 = k.edges }) l ≡ Refused r → checks ≡ Refused r
+  by_line : Roomy t l → (r : Refusal) → new_line_acceptance c.vertices (record { 0 = k.edges }) l ≡ Err r → checks ≡ Err r
   unfolding append_acceptance
   by_line g r e = rw (counts_right g, p, e)
 
-  placed : (f : Hyperedge → Refusal) → Refused (f (record { 0 = k.edges })) ≡ Refused (f (record { 0 = length t.heads }))
-  placed f = ap (λ (e : ℕ). Refused (f (record { 0 = e }))) (sym lines_held)
+  placed : (f : Hyperedge → Refusal) → ◌≡◌ {A = Acceptance} (Err (f (record { 0 = k.edges }))) (Err (f (record { 0 = length t.heads })))
+  placed f = ap (λ (e : ℕ). Err (f (record { 0 = e }))) (sym lines_held)
 
-  wrong_checks : {r : Refusal} → WrongLine t l r → checks ≡ Refused r
+  wrong_checks : {r : Refusal} → WrongLine t l r → checks ≡ Err r
   unfolding append_acceptance
   wrong_checks (WrongLine.full n) = rw (counts_full n)
   wrong_checks (WrongLine.head g h) = by_line g _ (line_head c.vertices _ l mark h) ∙ placed Head
@@ -233,7 +232,7 @@ module _ (m : Measure) (c : Columns) (k : Counts) (l : NewLine) (p : acceptance 
   wrong_checks (WrongLine.long g h o s) = by_line g _ (line_long c.vertices _ l mark h o s) ∙ placed Span
   wrong_checks (WrongLine.unlisted g h o s b) = by_line g _ (line_unlisted c.vertices _ l mark h o s b) ∙ placed Tail
 
-  grows : checks ≡ Accepted → (appended m c k (entries_of m t) (pairs_for t p) (list_for t p) l).result ≡ appending.Counts (new_counts c k l)
+  grows : checks ≡ Ok tt → (appended m c k (entries_of m t) (pairs_for t p) (list_for t p) l).result ≡ Ok (new_counts c k l)
   unfolding appended
   grows e = rw e
 

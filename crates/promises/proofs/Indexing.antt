@@ -8,9 +8,6 @@ use lib.Dec.{leb}
 use borrow.Author.Tests.{leb-true, le-leb}
 use Rattle.refusal.specs.declared.Refusal.{Refusal}
 use Rattle.refusal.specs.declared.Refusal.TheVariants.{ColumnRoom}
-use Rattle.refusal.specs.declared.Acceptance.{Acceptance}
-use Rattle.refusal.specs.declared.Acceptance.TheVariants.{Accepted, Refused}
-use Rattle.refusal.specs.declared.Extent.TheVariants as extent
 use Rattle.columns.specs.Columns.{Columns}
 use Rattle.columns.specs.Acceptance.{acceptance}
 use Rattle.columns.specs.Filled.{filled}
@@ -20,11 +17,13 @@ use Rattle.columns.proofs.Exactly.{accepted_exactly, refused_exactly}
 use Rattle.columns.proofs.Refuses.{Refuses, none_refuses, test_refuses, then_refuses}
 use Rattle.indextable.specs.Index.{index_of, index_room, index_acceptance, index_outcome, table_indexed}
 use Rattle.indextable.specs.Asked.{IndexFits, RightIndexing, WrongIndexing}
+use Rattle.refusal.specs.Answers.{Acceptance}
+use Rattle.std.specs.Prelude.{Ok, Err}
 
 -- what does not pass is refused, where there is one refusal alone
-pub failed : (x : Acceptance) (r : Refusal) → Refuses (λ s. s ≡ r) x → ¬ (x ≡ Accepted) → x ≡ Refused r
-failed Accepted r u n = absurd (n refl)
-failed (Refused s) r u n = ap Refused (u.holds refl)
+pub failed : (x : Acceptance) (r : Refusal) → Refuses (λ s. s ≡ r) x → ¬ (x ≡ Ok tt) → x ≡ Err r
+failed (Ok _) r u n = absurd (n refl)
+failed (Err s) r u n = ap Err (u.holds refl)
 
 module _ (c : Columns) (index list : List ℕ) where
   abbrev pub room : Acceptance
@@ -35,7 +34,7 @@ module _ (c : Columns) (index list : List ℕ) where
   unfolding index_room
   room_alone = test_refuses (leb (2 * c.vertices) (length index)) _ _ (λ _. refl) (λ _. test_refuses (leb (length (index_of c).list) (length list)) _ _ (λ _. refl) (λ _. none_refuses))
 
-  pub room_exactly : (room ≡ Accepted) ↔ IndexFits c index list
+  pub room_exactly : (room ≡ Ok tt) ↔ IndexFits c index list
   unfolding index_room
   room_exactly = (
     λ p.
@@ -45,7 +44,7 @@ module _ (c : Columns) (index list : List ℕ) where
     λ f. rw (le-leb _ _ f.pairs, le-leb _ _ f.entries),
   )
 
-  pub index_exactly : (index_acceptance c index list ≡ Accepted) ↔ RightIndexing c index list
+  pub index_exactly : (index_acceptance c index list ≡ Ok tt) ↔ RightIndexing c index list
   unfolding index_acceptance
   index_exactly = (
     λ p. let t = both_accepted (acceptance c) room p in record { table = (accepted_exactly c).0 t.0; room = room_exactly.0 t.1 },
@@ -60,22 +59,22 @@ module _ (c : Columns) (index list : List ℕ) where
             subst (WrongIndexing c index list) (sym (room_alone.holds q)) (WrongIndexing.room ((accepted_exactly c).0 p) (λ f. refused (sym q ∙ room_exactly.1 f)));
       })
 
-  refuses : {r : Refusal} → WrongIndexing c index list r → index_acceptance c index list ≡ Refused r
+  refuses : {r : Refusal} → WrongIndexing c index list r → index_acceptance c index list ≡ Err r
   unfolding index_acceptance
   refuses (WrongIndexing.table w) = let q = (refused_exactly c _).1 w in rw q
   refuses (WrongIndexing.room t n) = rw ((accepted_exactly c).1 t, failed room ColumnRoom room_alone (λ p. n (room_exactly.0 p)))
 
-  pub index_refused_exactly : (r : Refusal) → (index_acceptance c index list ≡ Refused r) ↔ WrongIndexing c index list r
+  pub index_refused_exactly : (r : Refusal) → (index_acceptance c index list ≡ Err r) ↔ WrongIndexing c index list r
   index_refused_exactly r = (wrong.holds, refuses)
 
-  pub index_owes : Owed {L = List ℕ × List ℕ} extent.Refused (index, list) (RightIndexing c index list) (λ _. extent.Length (length (index_of c).list))
+  pub index_owes : Owed {L = List ℕ × List ℕ} Err (index, list) (RightIndexing c index list) (λ _. Ok (length (index_of c).list))
       (λ _. (filled (index_of c).pairs index, filled (index_of c).list list)) (WrongIndexing c index list)
       (table_indexed c index list).result ((table_indexed c index list).index, (table_indexed c index list).list)
   unfolding table_indexed
   index_owes = go (index_acceptance c index list) refl
     where
       go : (x : Acceptance) → index_acceptance c index list ≡ x → let o = index_outcome (index_of c) index list x in
-          Owed {L = List ℕ × List ℕ} extent.Refused (index, list) (RightIndexing c index list) (λ _. extent.Length (length (index_of c).list))
+          Owed {L = List ℕ × List ℕ} Err (index, list) (RightIndexing c index list) (λ _. Ok (length (index_of c).list))
           (λ _. (filled (index_of c).pairs index, filled (index_of c).list list)) (WrongIndexing c index list) o.result (o.index, o.list)
-      go Accepted p = Owed.accepted (index_exactly.0 p)
-      go (Refused r) p = Owed.refused ((index_refused_exactly r).0 p)
+      go (Ok _) p = Owed.accepted (index_exactly.0 p)
+      go (Err r) p = Owed.refused ((index_refused_exactly r).0 p)

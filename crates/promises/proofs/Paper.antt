@@ -18,10 +18,6 @@ use Rattle.weights.proofs.States.{unmade_state, over_state, made_state}
 use Rattle.refusal.specs.declared.Refusal.{Refusal}
 use Rattle.refusal.specs.declared.Refusal.TheVariants.{Text, InputLength}
 use Rattle.refusal.specs.declared.Header.{Header}
-use Rattle.refusal.specs.declared.Acceptance.TheVariants.{Accepted, Refused}
-use Rattle.refusal.specs.declared.Verdict.TheVariants.{Yes}
-use Rattle.refusal.specs.declared.Extent.TheVariants as extent
-use Rattle.refusal.specs.declared.Reading.TheVariants as reading
 use Rattle.columns.specs.Columns.{Entries, Columns, strike_at, with_own, with_strike}
 use Rattle.columns.specs.Acceptance.{acceptance, most_vertices}
 use Rattle.columns.specs.Filled.{filled}
@@ -65,8 +61,6 @@ use Rattle.roundtrip.specs.RoundTrip.{Room, filled_with}
 use Rattle.roundtrip.proofs.RoundTrip.{read_after_write, write_after_read, read_accepted}
 use Rattle.roundtrip.proofs.Texts.{permitted_same}
 use Rattle.writetable.specs.Write.{write_outcome, write_table}
-use Rattle.cursor.specs.declared.Found.TheVariants.{Number}
-use Rattle.cursor.specs.declared.FoundWeight.TheVariants.{Own}
 use Rattle.cursor.specs.declared.Separator.TheVariants.{Space, LineEnd}
 use Rattle.cursor.specs.Cursor.{token, number_at, weight_token, weight_at, separator_at}
 use Rattle.reading.specs.Lines.{Opens, Unopened, first_line, Holds, row_at}
@@ -88,6 +82,7 @@ use Rattle.promises.specs.Reads.{Reads}
 use Rattle.promises.proofs.Bills.{right_bill}
 use Rattle.promises.proofs.Gaps.{reprice_gaps, strike_gaps, bill_gaps, write_gaps}
 use Rattle.promises.proofs.Tokens.{number_exactly, weight_exactly, space_exactly, end_exactly, line_exactly, first_exactly, first_refused_exactly}
+use Rattle.std.specs.Prelude.{Ok, Err, Some, true}
 
 -- The source ---------------------------------------------------------------------------------------------------------------------------------------------------------
 
@@ -104,10 +99,10 @@ semirings = (tropical_semiring, bottleneck_semiring, grades_semiring)
 
 module _ (c : Columns) where
   -- "There are n parts, … n from 0 to 1,024. There are 0 to 4,096 lines" and so on: "A table is accepted if none of the refusals about its own columns (here 1 to 6) applies"
-  pub table_accepted : (acceptance c ≡ Accepted) ↔ RightTable c
+  pub table_accepted : (acceptance c ≡ Ok tt) ↔ RightTable c
   table_accepted = accepted_exactly c
 
-  pub table_refused : (r : Refusal) → (acceptance c ≡ Refused r) ↔ WrongTable c r
+  pub table_refused : (r : Refusal) → (acceptance c ≡ Err r) ↔ WrongTable c r
   table_refused = refused_exactly c
 
   -- "struck: that line then yields nothing"; by document 02, 2026-02, the strike stands "in a column of its own, 0 or 1"
@@ -134,7 +129,7 @@ module _ (c : Columns) where
     write_over_gaps = write_gaps c tails g m
 
   -- nor does closing them change an answer
-  pub gaps_closed : (m : Measure) → acceptance c ≡ Accepted → entries_of m (closed c) ≡ entries_of m c
+  pub gaps_closed : (m : Measure) → acceptance c ≡ Ok tt → entries_of m (closed c) ≡ entries_of m c
   gaps_closed m = entries_closed m c
 
 -- Make-ups, figures, depth -------------------------------------------------------------------------------------------------------------------------------------------
@@ -181,7 +176,7 @@ laws = lawful
 
 -- "both … leave in the answer columns the answers of the table as it then is": those of demand 2, so the next call's check says yes. Repricing changes the own figure, and
 -- striking, by document 02, 2026-02, the strike mark alone
-module _ (m : Measure) (c : Columns) (a : Entries) (e w : ℕ) (h : (repriced m c a e w).result ≡ Accepted) where
+module _ (m : Measure) (c : Columns) (a : Entries) (e w : ℕ) (h : (repriced m c a e w).result ≡ Ok tt) where
   pub reprice_stores : (repriced m c a e w).own ≡ set c.own e w
   reprice_stores = (reprice_leaves m c a e w h).stored
 
@@ -191,10 +186,10 @@ module _ (m : Measure) (c : Columns) (a : Entries) (e w : ℕ) (h : (repriced m 
   pub reprice-states : (v : ℕ) → StateMeans m (with_own c e w) (labels (repriced m c a e w).left.labels v) v
   reprice-states = (reprice_leaves m c a e w h).states
 
-  pub reprice_checks : checked m (with_own c e w) (repriced m c a e w).left ≡ Yes
+  pub reprice_checks : checked m (with_own c e w) (repriced m c a e w).left ≡ Ok true
   reprice_checks = (reprice_leaves m c a e w h).checks
 
-module _ (m : Measure) (c : Columns) (a : Entries) (e : ℕ) (h : (stricken m c a e).result ≡ Accepted) where
+module _ (m : Measure) (c : Columns) (a : Entries) (e : ℕ) (h : (stricken m c a e).result ≡ Ok tt) where
   pub strike_stores : (stricken m c a e).strikes ≡ set c.strikes e struck_mark
   strike_stores = (strike_leaves m c a e h).stored
 
@@ -204,7 +199,7 @@ module _ (m : Measure) (c : Columns) (a : Entries) (e : ℕ) (h : (stricken m c 
   pub strike_states : (v : ℕ) → StateMeans m (with_strike c e struck_mark) (labels (stricken m c a e).left.labels v) v
   strike_states = (strike_leaves m c a e h).states
 
-  pub strike_checks : checked m (with_strike c e struck_mark) (stricken m c a e).left ≡ Yes
+  pub strike_checks : checked m (with_strike c e struck_mark) (stricken m c a e).left ≡ Ok true
   strike_checks = (strike_leaves m c a e h).checks
 
 module _ (m : Measure) (c : Columns) (a : Entries) (v : ℕ) where
@@ -213,7 +208,7 @@ module _ (m : Measure) (c : Columns) (a : Entries) (v : ℕ) where
   bill_is = right_bill m c a v
 
   -- "A bill returns its length; the room behind it keeps its bytes"
-  pub bill_returns : (room : List ℕ) (size : ℕ) → (billed m c a v room).result ≡ extent.Length size → Printed m c a v room size (billed m c a v room).left
+  pub bill_returns : (room : List ℕ) (size : ℕ) → (billed m c a v room).result ≡ Ok size → Printed m c a v room size (billed m c a v room).left
   bill_returns = bill_printed m c a v
 
 -- "Parts that are over have a bill too"
@@ -257,11 +252,11 @@ text_is_walked = text_walk
 
 -- what each function of the reader finds is what stands there: "Numbers are decimal without leading zeros", and "anything but digits ends the reading with a refusal"
 module _ (s : List ℕ) (at next : ℕ) where
-  pub number_found : (limit v : ℕ) → (number_at s at limit ≡ token at next (Number v)) ↔ ((v < limit) × Reads s at next (digits v))
+  pub number_found : (limit v : ℕ) → (number_at s at limit ≡ token at next (Some v)) ↔ ((v < limit) × Reads s at next (digits v))
   number_found = number_exactly s at next
 
   -- an own figure, with the `-` of a struck line before it
-  pub figure_found : (o k : ℕ) → (weight_at s at ≡ weight_token at next (Own (record { 0 = o }) (record { 0 = k }))) ↔ ((o ≤ greatest) × (k ≤ struck_mark) × Reads s at next (own_text o k))
+  pub figure_found : (o k : ℕ) → (weight_at s at ≡ weight_token at next (Some ((record { 0 = o }), (record { 0 = k })))) ↔ ((o ≤ greatest) × (k ≤ struck_mark) × Reads s at next (own_text o k))
   figure_found = weight_exactly s at next
 
   -- a space, or an LF
@@ -284,7 +279,7 @@ pub first_line_refused : (s : List ℕ) (place : ℕ) → first_line s ≡ Unope
 first_line_refused = first_refused_exactly
 
 -- "Read after write gives the table with its gaps closed", and so the same answers
-module _ (m : Measure) (c : Columns) (room : List ℕ) (k : ℕ) (h o ms s t : List ℕ) (p : (write_table m c room).answer ≡ extent.Length k) (q : Room (closed c) h o ms s t) where
+module _ (m : Measure) (c : Columns) (room : List ℕ) (k : ℕ) (h o ms s t : List ℕ) (p : (write_table m c room).answer ≡ Ok k) (q : Room (closed c) h o ms s t) where
   pub read_after_writing : read_table (take k (write_table m c room).room) h o ms s t ≡ filled_with (closed c) m h o ms s t
   read_after_writing = read_after_write m c room k h o ms s t p q
 
@@ -292,12 +287,12 @@ module _ (m : Measure) (c : Columns) (room : List ℕ) (k : ℕ) (h o ms s t : L
   reads_the_same = reads_back m c room k h o ms s t p q
 
 -- "write after read gives the text back"
-module _ (text h o ms s t : List ℕ) (g : Header) (p : (read_table text h o ms s t).answer ≡ reading.Table g) where
+module _ (text h o ms s t : List ℕ) (g : Header) (p : (read_table text h o ms s t).answer ≡ Ok g) where
   pub write_after_reading : (room : List ℕ) → length text ≤ length room
-      → write_table g.measure (columns_read g (read_table text h o ms s t)) room ≡ write_outcome (extent.Length (length text)) (filled text room)
+      → write_table g.measure (columns_read g (read_table text h o ms s t)) room ≡ write_outcome (Ok (length text)) (filled text room)
   write_after_reading room = write_after_read text h o ms s t room g p
 
-  pub read_is_accepted : acceptance (columns_read g (read_table text h o ms s t)) ≡ Accepted
+  pub read_is_accepted : acceptance (columns_read g (read_table text h o ms s t)) ≡ Ok tt
   read_is_accepted = read_accepted text h o ms s t g p
 
 -- A table priced whole ---------------------------------------------------------------------------------------------------------------------------------------------

@@ -8,6 +8,8 @@ use native.Mathlib.Omega.{arith}
 use lib.ListN.{length, get_or, set, drop, replicate, length-replicate, drop_of_length-le}
 use lib.Dec.{eqb, ltb, leb}
 use borrow.Author.Tests.{lt-ltb, le-ltb, ltb-true, leb-true, leb-false, eqb-true, eq-eqb, ne_eqb}
+use Rattle.refusal.specs.declared.Refusal.{Refusal}
+use Rattle.std.specs.Prelude.{Result, Ok, Err, Option, Some, None}
 use Rattle.weights.specs.declared.Measure.{Measure}
 use Rattle.weights.specs.Choice.{pick}
 use Rattle.weights.proofs.Choice.{apart, both_true}
@@ -18,8 +20,6 @@ use Rattle.inventory.specs.Shelf.{most_events}
 use Rattle.text.specs.Render.{digits, tail_text}
 use Rattle.text.specs.Machine.{digit_of}
 use Rattle.text.proofs.Digits.{pick_by}
-use Rattle.cursor.specs.declared.Found.{Found}
-use Rattle.cursor.specs.declared.Found.TheVariants as found
 use Rattle.cursor.specs.declared.Separator.{Separator}
 use Rattle.cursor.specs.declared.Separator.TheVariants as separator
 use Rattle.cursor.specs.Cursor.{number_at, separator_at}
@@ -29,14 +29,8 @@ use Rattle.report.specs.Report.{most_input}
 use Rattle.reply.specs.Reply.{second_refused}
 use Rattle.ledger.specs.declared.Next.{Next}
 use Rattle.ledger.specs.declared.Next.TheVariants as next
-use Rattle.ledger.specs.declared.Counts.{Counts}
-use Rattle.ledger.specs.declared.Counts.TheVariants as counts
 use Rattle.ledger.specs.declared.EventLine.{EventLine}
 use Rattle.ledger.specs.declared.EventLine.TheVariants as line
-use Rattle.ledger.specs.declared.Events.{Events}
-use Rattle.ledger.specs.declared.Events.TheVariants as events
-use Rattle.ledger.specs.declared.Record.{Record}
-use Rattle.ledger.specs.declared.Record.TheVariants as read
 use Rattle.ledger.specs.Record.{
   number_limit,
   most_shelf,
@@ -215,9 +209,9 @@ module _ (A B : List ℕ → Type 0) (s : List ℕ) (at : ℕ) where
 -- The counts ------------------------------------------------------------------------------------------------------------------------------------------
 
 -- the counts from a place of the first line on, up to the next line
-abbrev CountsTold : (left : ℕ) → List ℕ → ℕ → Counts → Type 0
-CountsTold left s at (counts.Count k i) = Passes (ShelfForm left) (EventForm most_events) s at i 1 (at + 1) 2 1
-CountsTold left s at (counts.Wrong p) = Fails (ShelfForm left) (drop at s) 1 (at + 1) 1 (p + 1)
+abbrev CountsTold : (left : ℕ) → List ℕ → ℕ → Result (ℕ × ℕ) ℕ → Type 0
+CountsTold left s at (Ok (k, i)) = Passes (ShelfForm left) (EventForm most_events) s at i 1 (at + 1) 2 1
+CountsTold left s at (Err p) = Fails (ShelfForm left) (drop at s) 1 (at + 1) 1 (p + 1)
 
 full_told : (s : List ℕ) (at i : ℕ) (x : Separator) → SeparatorTold s at x → CountsTold zero s at (on_full at i x)
 unfolding ShelfForm
@@ -236,12 +230,12 @@ module _ (left : ℕ) (s : List ℕ) (at : ℕ) where
   CountTold (next.Wrong p) = Fails (ShelfForm (suc left)) (drop at s) 1 (at + 1) 1 (p + 1)
 
   -- a number after a space
-  found_told : drop at s ≡ 32 ∷ drop (at + 1) s → (stop : ℕ) (f : Found) → ToldAt number_limit Count s (at + 1) stop f → CountTold (as_next stop f)
+  found_told : drop at s ≡ 32 ∷ drop (at + 1) s → (stop : ℕ) (f : Option ℕ) → ToldAt number_limit Count s (at + 1) stop f → CountTold (as_next stop f)
   unfolding ShelfForm
-  found_told e stop (found.Number v) R =
+  found_told e stop (Some v) R =
       let h = R.from in
       join (left_passes (NumberThen number_limit Count) (EventForm most_events) s at e 1 (at + 1)) (up_to (R.passes 1 (suc (at + 1))) (omega arith))
-  found_told e stop found.NotANumber B =
+  found_told e stop None B =
       let h = B.from in
       (left_passes (NumberThen number_limit Count) (EventForm most_events) s at e 1 (at + 1)).on 1 (stop + 1) (to_column (B.fails 1 (suc (at + 1))) (omega arith))
 
@@ -259,9 +253,9 @@ module _ (left : ℕ) (s : List ℕ) (at : ℕ) where
   unfolding next_at
   next_told = by_separator (separator_at s at) (separator_told s at)
 
-  counted_more : (stop : ℕ) → Passes (ShelfForm (suc left)) (ShelfForm left) s at stop 1 (at + 1) 1 (stop + 1) → (x : Counts) → CountsTold left s stop x → CountsTold (suc left) s at x
-  counted_more stop P (counts.Count k i) o = join P o
-  counted_more stop P (counts.Wrong p) o = P.on 1 (p + 1) o
+  counted_more : (stop : ℕ) → Passes (ShelfForm (suc left)) (ShelfForm left) s at stop 1 (at + 1) 1 (stop + 1) → (x : Result (ℕ × ℕ) ℕ) → CountsTold left s stop x → CountsTold (suc left) s at x
+  counted_more stop P (Ok (k, i)) o = join P o
+  counted_more stop P (Err p) o = P.on 1 (p + 1) o
 
   by_next : (i : ℕ) (c : List ℕ) (x : Next) → CountTold x → (more : (v stop : ℕ) → Gathered) → ((v stop : ℕ) → CountsTold left s stop (more v stop).counts)
       → CountsTold (suc left) s at (on_next x i c more).counts
@@ -300,12 +294,12 @@ module _ (left : ℕ) (s : List ℕ) (at : ℕ) where
       (λ e. wrong (Pieces Rest k) stop stop U (λ l. line_stuck Rest s stop e (events_end left) l (stop - at + 1)))
 
   -- after a space: the pieces
-  by_pieces : (v i stop : ℕ) (f : Found) → Up (NumberThen number_limit (Pieces Rest)) i → ToldAt number_limit (Pieces Rest) s i stop f → (j : ℕ) → EventTold (on_pieces s v j (as_next stop f))
-  by_pieces v i stop (found.Number k) U R j =
+  by_pieces : (v i stop : ℕ) (f : Option ℕ) → Up (NumberThen number_limit (Pieces Rest)) i → ToldAt number_limit (Pieces Rest) s i stop f → (j : ℕ) → EventTold (on_pieces s v j (as_next stop f))
+  by_pieces v i stop (Some k) U R j =
       let a = U.0 in
       let b = R.from in
       by_end v k stop (omega arith, λ l. join (U.1 l) (up_to (R.passes l (i - at + 1)) (omega arith)))
-  by_pieces v i stop found.NotANumber U B j =
+  by_pieces v i stop None U B j =
       let a = U.0 in
       let b = B.from in
       wrong (NumberThen number_limit (Pieces Rest)) i stop U (λ l. to_column (B.fails l (i - at + 1)) (omega arith))
@@ -327,12 +321,12 @@ module _ (left : ℕ) (s : List ℕ) (at : ℕ) where
   after_part v i U (separator.LineEnd j) e = no_space v i U e.2
   after_part v i U separator.Neither e = no_space v i U e.0
 
-  by_part : at < length s → (stop : ℕ) (f : Found) → ToldAt number_limit (Part Rest) s at stop f → EventTold (on_part s stop f)
+  by_part : at < length s → (stop : ℕ) (f : Option ℕ) → ToldAt number_limit (Part Rest) s at stop f → EventTold (on_part s stop f)
   unfolding EventForm pieces_at next_at
-  by_part h stop (found.Number v) R =
+  by_part h stop (Some v) R =
       let b = R.from in
       after_part v stop (b, λ l. join (in_line (NumberThen number_limit (Part Rest)) s at h l) (up_to (R.passes l 1) (omega arith))) (separator_at s stop) (separator_told s stop)
-  by_part h stop found.NotANumber B = λ l. (in_line (NumberThen number_limit (Part Rest)) s at h l).on l (stop - at + 1) (to_column (B.fails l 1) (omega arith))
+  by_part h stop None B = λ l. (in_line (NumberThen number_limit (Part Rest)) s at h l).on l (stop - at + 1) (to_column (B.fails l 1) (omega arith))
 
   event_told : EventTold (event_at s at)
   unfolding event_at
@@ -342,9 +336,9 @@ module _ (left : ℕ) (s : List ℕ) (at : ℕ) where
       (λ e. by_part (leb-false (length s) at e) t.stop t.found
       (number_told_at number_limit (omega arith) (Part Rest) (part_stops Rest (events_end left)) (part_ends Rest (events_end left)) s at))
 
-abbrev EventsTold : (left : ℕ) → List ℕ → (at i : ℕ) → Events → Type 0
-EventsTold left s at i (events.Count k) = EventForm left (drop at s)
-EventsTold left s at i (events.Refused r) = (l c : ℕ) × (r ≡ Text (record { 0 = l }) (record { 0 = c })) × Fails (EventForm left) (drop at s) (i + 2) 1 l c
+abbrev EventsTold : (left : ℕ) → List ℕ → (at i : ℕ) → Result ℕ Refusal → Type 0
+EventsTold left s at i (Ok k) = EventForm left (drop at s)
+EventsTold left s at i (Err r) = (l c : ℕ) × (r ≡ Text (record { 0 = l }) (record { 0 = c })) × Fails (EventForm left) (drop at s) (i + 2) 1 l c
 
 too_many : (s : List ℕ) (l c : ℕ) → ¬ (s ≡ []) → Fails (EventForm zero) s l c l c
 unfolding EventForm
@@ -352,9 +346,9 @@ too_many [] l c n = absurd (n refl)
 too_many (b ∷ s) l c n = stuck_at (EventForm zero) b s l c (events_end zero) (λ x e. let q : suc (length x) ≡ 0 = ap length e in absurd (omega arith))
 
 module _ (left : ℕ) (s : List ℕ) (at i : ℕ) where
-  lifted : (j : ℕ) → ((l : ℕ) → Passes (EventForm (suc left)) (EventForm left) s at j l 1 (suc l) 1) → (x : Events) → EventsTold left s j (i + 1) x → EventsTold (suc left) s at i x
-  lifted j L (events.Count k) o = (L 0).right o
-  lifted j L (events.Refused r) o =
+  lifted : (j : ℕ) → ((l : ℕ) → Passes (EventForm (suc left)) (EventForm left) s at j l 1 (suc l) 1) → (x : Result ℕ Refusal) → EventsTold left s j (i + 1) x → EventsTold (suc left) s at i x
+  lifted j L (Ok k) o = (L 0).right o
+  lifted j L (Err r) o =
       let q : i + 1 + 2 ≡ suc (i + 2) = omega arith in
       (o.0, o.1, o.2, (L (i + 2)).on o.0 o.1 (subst (λ (l : ℕ). Fails (EventForm left) (drop j s) l 1 o.0 o.1) q o.3))
 
@@ -415,9 +409,9 @@ module _ (K : List ℕ → Type 0) where
 stock_plain : Plain stock_word
 stock_plain = (omega arith, (omega arith, (omega arith, (omega arith, (omega arith, tt)))))
 
-abbrev ShelfTold : (s : List ℕ) → Counts → Type 0
-ShelfTold s (counts.Count k i) = Passes RecordForm (EventForm most_events) s 0 i 1 1 2 1
-ShelfTold s (counts.Wrong p) = Fails RecordForm s 1 1 1 (p + 1)
+abbrev ShelfTold : (s : List ℕ) → Result (ℕ × ℕ) ℕ → Type 0
+ShelfTold s (Ok (k, i)) = Passes RecordForm (EventForm most_events) s 0 i 1 1 2 1
+ShelfTold s (Err p) = Fails RecordForm s 1 1 1 (p + 1)
 
 module _ (s : List ℕ) where
   word_passes : agreeing stock_word s ≡ 5 → Passes RecordForm (ShelfForm most_shelf) s 0 5 1 1 1 6
@@ -428,9 +422,9 @@ module _ (s : List ℕ) where
         right = λ r. subst RecordForm q (word_holds (ShelfForm most_shelf) stock_word (drop 5 s) r);
       }
 
-  worded : agreeing stock_word s ≡ 5 → (x : Counts) → CountsTold most_shelf s 5 x → ShelfTold s x
-  worded e (counts.Count k i) o = join (word_passes e) o
-  worded e (counts.Wrong p) o = (word_passes e).on 1 (p + 1) o
+  worded : agreeing stock_word s ≡ 5 → (x : Result (ℕ × ℕ) ℕ) → CountsTold most_shelf s 5 x → ShelfTold s x
+  worded e (Ok (k, i)) o = join (word_passes e) o
+  worded e (Err p) o = (word_passes e).on 1 (p + 1) o
 
   shelf_told : (c : List ℕ) → length c ≡ most_shelf → ShelfTold s (shelf_in s c).counts
   unfolding shelf_in
@@ -440,17 +434,17 @@ module _ (s : List ℕ) where
       (λ q. worded (eqb-true k 5 q) (counts_from (length c) s 5 0 c).counts (subst (λ (n : ℕ). CountsTold n s 5 (counts_from (length c) s 5 0 c).counts) e (counts_told (length c) s 5 0 c)))
       (λ q. to_column (word_stuck (ShelfForm most_shelf) stock_word s 1 1 stock_plain (shelf_end most_shelf) (λ x. apart (sym q ∙ eq-eqb k 5 x))) (omega arith))
 
-  abbrev RecordTold : Record → Type 0
-  RecordTold (read.Read k e) = RecordForm s
-  RecordTold (read.Refused r) = (l c : ℕ) × (r ≡ Text (record { 0 = l }) (record { 0 = c })) × Fails RecordForm s 1 1 l c
+  abbrev RecordTold : Result (ℕ × ℕ) Refusal → Type 0
+  RecordTold (Ok (k, e)) = RecordForm s
+  RecordTold (Err r) = (l c : ℕ) × (r ≡ Text (record { 0 = l }) (record { 0 = c })) × Fails RecordForm s 1 1 l c
 
-  by_events : (k i : ℕ) → Passes RecordForm (EventForm most_events) s 0 i 1 1 2 1 → (x : Events) → EventsTold most_events s i 0 x → RecordTold (with_counts k x)
-  by_events k i B (events.Count e) o = B.right o
-  by_events k i B (events.Refused r) o = (o.0, o.1, o.2, B.on o.0 o.1 o.3)
+  by_events : (k i : ℕ) → Passes RecordForm (EventForm most_events) s 0 i 1 1 2 1 → (x : Result ℕ Refusal) → EventsTold most_events s i 0 x → RecordTold (with_counts k x)
+  by_events k i B (Ok e) o = B.right o
+  by_events k i B (Err r) o = (o.0, o.1, o.2, B.on o.0 o.1 o.3)
 
-  by_counts : (x : Counts) (c vs ks : List ℕ) → length vs ≡ most_events → ShelfTold s x → RecordTold (on_counts s x c vs ks).result
-  by_counts (counts.Wrong p) c vs ks e F = (1, p - 0 + 1, refl, to_column F (omega arith))
-  by_counts (counts.Count k i) c vs ks e B =
+  by_counts : (x : Result (ℕ × ℕ) ℕ) (c vs ks : List ℕ) → length vs ≡ most_events → ShelfTold s x → RecordTold (on_counts s x c vs ks).result
+  by_counts (Err p) c vs ks e F = (1, p - 0 + 1, refl, to_column F (omega arith))
+  by_counts (Ok (k, i)) c vs ks e B =
       by_events k i B (events_from (length vs) s i 0 vs ks).events (subst (λ (n : ℕ). EventsTold n s i 0 (events_from (length vs) s i 0 vs ks).events) e (events_told (length vs) s i 0 vs ks))
 
   record_told : (c vs ks : List ℕ) → length c ≡ most_shelf → length vs ≡ most_events → RecordTold (read_record s c vs ks).result
@@ -605,10 +599,10 @@ permitted_form s p =
 -- What is said ----------------------------------------------------------------------------------------------------------------------------------------
 
 module _ (m : Measure) (c : Columns) (a : Entries) (s : List ℕ) where
-  by_result : ¬ PermittedRecord s → (x : Record) (shelf vs ks : List ℕ) → RecordTold s x
+  by_result : ¬ PermittedRecord s → (x : Result (ℕ × ℕ) Refusal) (shelf vs ks : List ℕ) → RecordTold s x
       → (l k : ℕ) × (on_read m c a x shelf vs ks ≡ second_refused (Text (record { 0 = l }) (record { 0 = k }))) × FirstByteOf PermittedRecord s l k
-  by_result n (read.Read k e) shelf vs ks o = absurd (n (form_permitted s o))
-  by_result n (read.Refused r) shelf vs ks o =
+  by_result n (Ok (k, e)) shelf vs ks o = absurd (n (form_permitted s o))
+  by_result n (Err r) shelf vs ks o =
       (o.0, o.1, ap second_refused o.2, first_of PermittedRecord s o.0 o.1 (mapped PermittedRecord RecordForm s 1 1 o.0 o.1 form_permitted (λ x _. permitted_form x) o.3))
 
   pub record_refused : length s ≤ most_input → ¬ PermittedRecord s

@@ -6,13 +6,8 @@ use mathlib.Core.List.{List}
 use Prim.Native.Nat.{ℕ, ◌*◌}
 use lib.ListN.{length, take}
 use Rattle.weights.specs.declared.Measure.{Measure}
-use Rattle.refusal.specs.declared.Extent.TheVariants as extent
 use Rattle.refusal.specs.declared.Refusal.{Refusal}
-use Rattle.refusal.specs.declared.Acceptance.TheVariants.{Accepted}
-use Rattle.refusal.specs.declared.Acceptance.TheVariants as answer
-use Rattle.refusal.specs.declared.Extent.TheVariants.{Length, Refused}
 use Rattle.refusal.specs.declared.Counts.{Counts}
-use Rattle.refusal.specs.declared.Appending.TheVariants as appending
 use Rattle.columns.specs.Columns.{Entries, Columns, with_own}
 use Rattle.columns.specs.Filled.{filled}
 use Rattle.columns.specs.Gaps.{Gapped, with_tails}
@@ -34,6 +29,7 @@ use Rattle.promises.proofs.Fixed.{fixed}
 use Rattle.promises.proofs.Indexing.{index_exactly as indexing_exactly, index_refused_exactly, index_owes}
 use Rattle.promises.proofs.Appends.{append_exactly, append_refused_exactly, append_owes, longer_right}
 use Rattle.promises.proofs.Gaps.{index_gaps, append_gaps}
+use Rattle.std.specs.Prelude.{Ok, Err}
 
 -- 2026-01: show me every line that needs this seal -------------------------------------------------------------------------------------------------------------------
 
@@ -57,19 +53,19 @@ index_stays = index_kept
 
 module _ (c : Columns) (index list : List ℕ) where
   -- "One call builds it and returns the list's length"; places behind it keep their bytes
-  pub index_built : index_acceptance c index list ≡ Accepted
-      → table_indexed c index list ≡ record { result = Length (length (index_of c).list); index = filled (index_of c).pairs index; list = filled (index_of c).list list }
+  pub index_built : index_acceptance c index list ≡ Ok tt
+      → table_indexed c index list ≡ record { result = Ok (length (index_of c).list); index = filled (index_of c).pairs index; list = filled (index_of c).list list }
   unfolding table_indexed
   index_built p = rw p
 
   -- the same with what each refusal says: 1 to 6 and 21, then 18; places after the pairs and after the list keep their bytes
-  pub index-table : Owed {L = List ℕ × List ℕ} extent.Refused (index, list) (RightIndexing c index list) (λ _. extent.Length (length (index_of c).list))
+  pub index-table : Owed {L = List ℕ × List ℕ} Err (index, list) (RightIndexing c index list) (λ _. Ok (length (index_of c).list))
       (λ _. (filled (index_of c).pairs index, filled (index_of c).list list)) (WrongIndexing c index list)
       (table_indexed c index list).result ((table_indexed c index list).index, (table_indexed c index list).list)
   index-table = index_owes c index list
 
   -- a refusal leaves both columns
-  pub index_refused : (r : Refusal) → index_acceptance c index list ≡ answer.Refused r → table_indexed c index list ≡ record { result = Refused r; index = index; list = list }
+  pub index_refused : (r : Refusal) → index_acceptance c index list ≡ Err r → table_indexed c index list ≡ record { result = Err r; index = index; list = list }
   unfolding table_indexed
   index_refused r p = rw p
 
@@ -83,7 +79,7 @@ module _ (c : Columns) (index list : List ℕ) where
 -- "Also add a call that appends a line … It returns the new counts". 1, 2, the lines that stand, the new line by 3, 4, 21, 5 and 6 "with its new number as place", 7, 18, 19, 8
 module _ (m : Measure) (c : Columns) (k : Counts) (a : Entries) (index list : List ℕ) (l : NewLine) where
   pub append : let t = longer (in_use_of c k) l in let o = appended m c k a index list l in
-      Owed {L = Columns × Entries × List ℕ × List ℕ} appending.Refused (c, a, index, list) (RightAppend m c k a index list l) (λ _. appending.Counts (new_counts c k l))
+      Owed {L = Columns × Entries × List ℕ × List ℕ} Err (c, a, index, list) (RightAppend m c k a index list l) (λ _. Ok (new_counts c k l))
       (λ _. (over t c, entries_of m t, filled (index_of t).pairs index, filled (index_of t).list list)) (WrongAppend m c k a index list l)
       o.result (o.table, o.answers, o.index, o.list)
   append = append_owes m c k a index list l
@@ -93,19 +89,19 @@ module _ (m : Measure) (c : Columns) (k : Counts) (a : Entries) (index list : Li
 
   -- "It returns the new counts … Table, index and answers must then be those of the longer table": what it means to be its index and its answers, and that the next call's
   -- checks pass
-  pub append_extends : (k' : Counts) → (appended m c k a index list l).result ≡ appending.Counts k' → Extended m c k l k' (appended m c k a index list l) (longer (in_use_of c k) l)
+  pub append_extends : (k' : Counts) → (appended m c k a index list l).result ≡ Ok k' → Extended m c k l k' (appended m c k a index list l) (longer (in_use_of c k) l)
   append_extends = appended-longer m c k a index list l
 
   -- "places beyond the new counts keep their bytes"
-  pub append_keeps_behind : (k' : Counts) → (appended m c k a index list l).result ≡ appending.Counts k' → Behind c index list k' (appended m c k a index list l) (longer (in_use_of c k) l)
+  pub append_keeps_behind : (k' : Counts) → (appended m c k a index list l).result ≡ Ok k' → Behind c index list k' (appended m c k a index list l) (longer (in_use_of c k) l)
   append_keeps_behind = appended_behind m c k a index list l
 
   -- it is turned away where the chain of `append_acceptance` says, and by which refusal
-  pub append_turned_away : (r : Refusal) → append_acceptance m c k a index list l ≡ answer.Refused r → (appended m c k a index list l).result ≡ appending.Refused r
+  pub append_turned_away : (r : Refusal) → append_acceptance m c k a index list l ≡ Err r → (appended m c k a index list l).result ≡ Err r
   append_turned_away = appended_result m c k a index list l
 
   -- and a refusal alters no lent byte
-  pub append_refused : (r : Refusal) → (appended m c k a index list l).result ≡ appending.Refused r
+  pub append_refused : (r : Refusal) → (appended m c k a index list l).result ≡ Err r
       → let o = appended m c k a index list l in (o.table ≡ c) × ((o.answers ≡ a) × ((o.index ≡ index) × (o.list ≡ list)))
   append_refused = appended_keeps m c k a index list l
 

@@ -6,8 +6,6 @@ use lib.ListN.{set}
 use Rattle.weights.specs.declared.Measure.{Measure}
 use Rattle.weights.specs.declared.Measure.TheVariants.{Cost}
 use Rattle.weights.specs.Figures.{standing, struck_mark, is_struck_mark}
-use Rattle.refusal.specs.declared.Acceptance.TheVariants.{Accepted}
-use Rattle.refusal.specs.declared.Acceptance.TheVariants as answer
 use Rattle.columns.specs.Columns.{Entries, Columns, strike_at, with_own, with_strike}
 use Rattle.columns.specs.Gaps.{Gapped, with_tails}
 use Rattle.columns.specs.Owed.{Owed}
@@ -30,13 +28,14 @@ use Rattle.text.specs.Machine.{limit, line_at, digit_of, grown, instead, after, 
 use Rattle.promises.specs.Fixed.{Fixed}
 use Rattle.promises.proofs.Fixed.{fixed}
 use Rattle.promises.proofs.Gaps.{restore_gaps}
+use Rattle.std.specs.Prelude.{Ok, Err}
 
 -- 2026-02: bring a struck line back ----------------------------------------------------------------------------------------------------------------------------------
 
 -- "Turned away: 20 for restoring a line that isn't struck, tried directly after 9 (for this call 9 means only that the line does not exist)": 1 to 7 with 21, 9, 20, 8.
 -- On acceptance the strike mark is taken away and the answers are those of the table as it then is; every own figure keeps its bytes, since it is lent to be read alone
 module _ (m : Measure) (c : Columns) (a : Entries) (e : ℕ) where
-  pub restore : Owed {L = List ℕ × Entries} answer.Refused (c.strikes, a) (RightRestore m c a e) (λ _. Accepted)
+  pub restore : Owed {L = List ℕ × Entries} Err (c.strikes, a) (RightRestore m c a e) (λ _. Ok tt)
       (λ _. (set c.strikes e standing, entries_of m (with_strike c e standing))) (WrongRestore m c a e) (restored m c a e).result
       ((restored m c a e).strikes, (restored m c a e).left)
   restore = restore_owes m c a e
@@ -45,7 +44,7 @@ module _ (m : Measure) (c : Columns) (a : Entries) (e : ℕ) where
   restore_fixed = fixed (restore_acceptance m c a e) (restore_exactly m c a e) (restore_refused_exactly m c a e)
 
   -- what is left has demand 2's answers, so the next call's check says yes
-  pub restore_answers : (restored m c a e).result ≡ Accepted
+  pub restore_answers : (restored m c a e).result ≡ Ok tt
       → Leaves m (with_strike c e standing) (set c.strikes e standing) (restored m c a e).strikes (restored m c a e).left
   restore_answers = restore_leaves m c a e
 

@@ -9,7 +9,6 @@ use Rattle.weights.specs.declared.State.TheVariants.{Made, Unmade}
 use Rattle.weights.specs.Figures.{capped}
 use Rattle.weights.specs.Measures.{days, weigh}
 use Rattle.weights.proofs.Laws.{lawful}
-use Rattle.refusal.specs.declared.Acceptance.TheVariants.{Accepted}
 use Rattle.columns.specs.Columns.{Entries, Columns, entries, own_at}
 use Rattle.columns.specs.Worked.{worked}
 use Rattle.columns.specs.Right.{RightTable}
@@ -40,6 +39,7 @@ use Rattle.examples.specs.Paper.{five, cases}
 use Rattle.examples.proofs.Paper.{every_case_holds}
 use Rattle.promises.specs.Figures.{figure_in}
 use Rattle.promises.proofs.Rising.{rising_path, rising_days, new_figure, old_figure}
+use Rattle.std.specs.Prelude.{Ok}
 
 -- 2026-03: the bench starts when the last part arrives ---------------------------------------------------------------------------------------------------------------
 
@@ -62,7 +62,7 @@ days_weight_function own xs = refl
 pub figures_mean : (m : Measure) (c : Columns) → RightTable c → (v : ℕ) → Valued (valuation m) (BestWeight (weighted (valuation m) (hypergraph c) (own_at c)) v) (labels (answers_of m c) v)
 figures_mean m c r = let p = (accepted_exactly c).1 r in best_weight (weighs m) (hypergraph c) (own_at c) (lawful m) (well_formed c p) (answers_fixpoint m c p)
 
-pub days_mean : (c : Columns) (a : Entries) → (settled Days c a).result ≡ Accepted → (v : ℕ)
+pub days_mean : (c : Columns) (a : Entries) → (settled Days c a).result ≡ Ok tt → (v : ℕ)
     → Valued (valuation Days) (BestWeight (weighted (valuation Days) (hypergraph c) (own_at c)) v) (labels (settled Days c a).left.labels v)
 days_mean c a h v = (demand_2 Days c a h v).worth
 

@@ -5,7 +5,6 @@ use Prim.Native.Nat.{ℕ}
 use Rattle.weights.specs.declared.Measure.{Measure}
 use Rattle.weights.specs.declared.Measure.TheVariants.{Cost, Days}
 use Rattle.refusal.specs.declared.Refusal.TheVariants.{Text}
-use Rattle.refusal.specs.declared.Reading.TheVariants as reading
 use Rattle.text.specs.Tables.{Table, listed_in_all}
 use Rattle.text.specs.Render.{digits, word, first_word, measure_text, header, Permitted}
 use Rattle.text.specs.Worked.{cost_text}
@@ -17,6 +16,7 @@ use Rattle.readtable.specs.Read.{room_for, read_into, read_table}
 use Rattle.report.specs.Report.{report}
 use Rattle.report.specs.Examples.{cost_list}
 use Rattle.report.proofs.Examples.{worked_cost}
+use Rattle.std.specs.Prelude.{Ok, Err}
 
 -- 2026-07: days without saying so ------------------------------------------------------------------------------------------------------------------------------------
 
@@ -38,7 +38,7 @@ pub five_in_days : parse five_unnamed ≡ Whole (five Days)
 unfolding first_word listed_in_all limit line_at digit_of grown instead after spell named ended step run finish parse
 five_in_days = refl
 
-pub days_returned : (read_table five_unnamed [] [] [] [] []).answer ≡ reading.Table (record { vertices = 5; measure = Days; edges = 0; listed = 0 })
+pub days_returned : (read_table five_unnamed [] [] [] [] []).answer ≡ Ok (record { vertices = 5; measure = Days; edges = 0; listed = 0 })
 unfolding first_word listed_in_all limit line_at digit_of grown instead after spell named ended step run finish parse room_for read_into
 days_returned = refl
 
@@ -47,7 +47,7 @@ pub five_in_cost : parse five_cost ≡ Whole (five Cost)
 unfolding first_word listed_in_all limit line_at digit_of grown instead after spell named ended step run finish parse
 five_in_cost = refl
 
-pub cost_returned : (read_table five_cost [] [] [] [] []).answer ≡ reading.Table (record { vertices = 5; measure = Cost; edges = 0; listed = 0 })
+pub cost_returned : (read_table five_cost [] [] [] [] []).answer ≡ Ok (record { vertices = 5; measure = Cost; edges = 0; listed = 0 })
 unfolding first_word listed_in_all limit line_at digit_of grown instead after spell named ended step run finish parse room_for read_into
 cost_returned = refl
 
@@ -60,7 +60,7 @@ pub days_refused_at : FirstByte five_days 1 9
 unfolding column_of column_from survived first_word limit line_at digit_of grown spell named ended step run finish parse
 days_refused_at = wrong_byte five_days 1 refl
 
-pub days_refused : (read_table five_days [] [] [] [] []).answer ≡ reading.Refused (Text (record { 0 = 1 }) (record { 0 = 9 }))
+pub days_refused : (read_table five_days [] [] [] [] []).answer ≡ Err (Text (record { 0 = 1 }) (record { 0 = 9 }))
 unfolding column_of column_from survived first_word limit line_at digit_of grown spell named ended step run finish parse read_into
 days_refused = refl
 

@@ -13,9 +13,6 @@ use Rattle.weights.specs.Labels.{ahead_of}
 use Rattle.weights.proofs.Laws.{lawful}
 use Rattle.refusal.specs.declared.Counts.{Counts}
 use Rattle.refusal.specs.declared.Refusal.TheVariants.{AnswerLength, WrongAnswers}
-use Rattle.refusal.specs.declared.Acceptance.TheVariants.{Accepted, Refused}
-use Rattle.refusal.specs.declared.Appending.TheVariants as appending
-use Rattle.refusal.specs.declared.Verdict.TheVariants.{No}
 use Rattle.columns.specs.Columns.{Entries, Columns, cell, tail_at, with_own, with_strike}
 use Rattle.columns.specs.Acceptance.{acceptance, lent_acceptance}
 use Rattle.columns.specs.Longer.{NewLine, in_use_of, longer}
@@ -47,6 +44,7 @@ use Rattle.text.specs.Render.{digits}
 use Rattle.report.specs.Report.{names, state_word, row}
 use Rattle.topological.specs.Ordering.{settled_in_order}
 use Rattle.topological.proofs.Settled.{ordered_demand_2}
+use Rattle.std.specs.Prelude.{Ok, Err, false}
 
 -- 2026-09: keep the piece count in the entry --------------------------------------------------------------------------------------------------------------------------
 
@@ -55,12 +53,12 @@ abbrev pub pieces_in : Entries → ℕ → ℕ
 pieces_in a v = cell a.pieces v
 
 -- "the number of lines without parts in the chosen make-up, counted as often as they stand there, capped at 1,000,000,000; 0 if unmade" (`HasPieces`): of what settling leaves
-pub settle_counts : (m : Measure) (c : Columns) (a : Entries) → (settled m c a).result ≡ Accepted
+pub settle_counts : (m : Measure) (c : Columns) (a : Entries) → (settled m c a).result ≡ Ok tt
     → (v : ℕ) → HasPieces (hypergraph c) (labels (settled m c a).left.labels) v (pieces_in (settled m c a).left v)
 settle_counts m c a h v = (demand_2 m c a h v).pieces
 
 module _ (m : Measure) (c : Columns) (t : RightTable c) (v : ℕ) where
-  accepted : acceptance c ≡ Accepted
+  accepted : acceptance c ≡ Ok tt
   accepted = (accepted_exactly c).1 t
 
   -- this fixes it
@@ -115,25 +113,25 @@ unfolding row
 pieces_printed a v = refl
 
 -- "Settling, repricing, striking, restoring, appending and the dealers' settling all keep it true": it is that of the table as it then is
-pub ordered_counts : (m : Measure) (c : Columns) (a : Entries) → (settled_in_order m c a).result ≡ Accepted
+pub ordered_counts : (m : Measure) (c : Columns) (a : Entries) → (settled_in_order m c a).result ≡ Ok tt
     → (v : ℕ) → HasPieces (hypergraph c) (labels (settled_in_order m c a).left.labels) v (pieces_in (settled_in_order m c a).left v)
 ordered_counts m c a h v = (ordered_demand_2 m c a h v).pieces
 
 module _ (m : Measure) (c : Columns) (a : Entries) (e : ℕ) where
-  pub reprice-counts : (w : ℕ) → (repriced m c a e w).result ≡ Accepted
+  pub reprice-counts : (w : ℕ) → (repriced m c a e w).result ≡ Ok tt
       → (v : ℕ) → HasPieces (hypergraph (with_own c e w)) (labels (repriced m c a e w).left.labels) v (pieces_in (repriced m c a e w).left v)
   reprice-counts w h v = ((reprice_leaves m c a e w h).means v).pieces
 
-  pub strike_counts : (stricken m c a e).result ≡ Accepted
+  pub strike_counts : (stricken m c a e).result ≡ Ok tt
       → (v : ℕ) → HasPieces (hypergraph (with_strike c e struck_mark)) (labels (stricken m c a e).left.labels) v (pieces_in (stricken m c a e).left v)
   strike_counts h v = ((strike_leaves m c a e h).means v).pieces
 
-  pub restore_counts : (restored m c a e).result ≡ Accepted
+  pub restore_counts : (restored m c a e).result ≡ Ok tt
       → (v : ℕ) → HasPieces (hypergraph (with_strike c e standing)) (labels (restored m c a e).left.labels) v (pieces_in (restored m c a e).left v)
   restore_counts h v = ((restore_leaves m c a e h).means v).pieces
 
 pub append_counts : (m : Measure) (c : Columns) (k : Counts) (a : Entries) (index list : List ℕ) (l : NewLine) (k' : Counts)
-    → (appended m c k a index list l).result ≡ appending.Counts k'
+    → (appended m c k a index list l).result ≡ Ok k'
     → let o = (appended m c k a index list l).answers in (v : ℕ) → HasPieces (hypergraph (longer (in_use_of c k) l)) (labels o.labels) v (pieces_in o v)
 append_counts m c k a index list l k' h v = ((appended-longer m c k a index list l k' h).means v).pieces
 
@@ -142,12 +140,12 @@ module _ (m : Measure) (c : Columns) (a : Entries) (l : RightLent c a) (wrong : 
   not_meant : ¬ AllMean m c a
   not_meant all = wrong (ap (λ (b : Entries). b.pieces) (yes_only m c a ((yes_exactly m c a).1 (record { accepted = (lent_exactly c a).1 l; means = all }))))
 
-  pub wrong_count_no : checked m c a ≡ No
+  pub wrong_count_no : checked m c a ≡ Ok false
   wrong_count_no = (no_exactly m c a).1 ((lent_exactly c a).1 l, not_meant)
 
-  pub wrong_count_8 : (e w : ℕ) → Named c e → w ≤ greatest → (repriced m c a e w).result ≡ Refused WrongAnswers
+  pub wrong_count_8 : (e w : ℕ) → Named c e → w ≤ greatest → (repriced m c a e w).result ≡ Err WrongAnswers
   wrong_count_8 e w n h = repriced_result_lem m c a e w ∙ (reprice_refused_exactly m c a e w WrongAnswers).1 (WrongChange.answers l n h not_meant)
 
 -- "Turned away: 7 and 8 cover the new column": 7, where it is not n long, behind the table's own refusals
-pub short_count_7 : (c : Columns) (a : Entries) → RightTable c → ¬ (length a.pieces ≡ c.vertices) → lent_acceptance c a ≡ Refused AnswerLength
+pub short_count_7 : (c : Columns) (a : Entries) → RightTable c → ¬ (length a.pieces ≡ c.vertices) → lent_acceptance c a ≡ Err AnswerLength
 short_count_7 c a t n = (lent_refused_exactly c a AnswerLength).1 (WrongLent.answers t (λ s. n s.pieces))

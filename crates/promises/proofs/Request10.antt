@@ -11,10 +11,7 @@ use Rattle.weights.specs.Measures.{grade, fold}
 use Rattle.weights.specs.Laws.{Ordered}
 use Rattle.weights.proofs.Laws.{reversed}
 use Rattle.weights.proofs.Weighing.{weigh-grade}
-use Rattle.refusal.specs.declared.Acceptance.TheVariants.{Accepted}
 use Rattle.refusal.specs.declared.Refusal.TheVariants.{MeasureNumber}
-use Rattle.refusal.specs.declared.MeasureChoice.TheVariants as choice
-use Rattle.refusal.specs.declared.Reading.TheVariants as reading
 use Rattle.refusal.specs.Refusals.{measure_of}
 use Rattle.provenance.specs.Hypergraph.{Stands, Derivations, node, weight, weights}
 use Rattle.provenance.specs.Means.{Means}
@@ -41,16 +38,17 @@ use Rattle.report.specs.Report.{report}
 use Rattle.report.specs.Examples.{grade_list}
 use Rattle.report.proofs.Examples.{worked_grade}
 use Rattle.promises.specs.Figures.{figure_in}
+use Rattle.std.specs.Prelude.{Ok, Err}
 
 -- 2026-10: the kit is as good as its weakest part --------------------------------------------------------------------------------------------------------------------
 
 -- "The grade of a line is the least of its own figure and its parts' grades": of a make-up of an accepted table; without parts, its own figure
-pub grade_of_a_line : (c : Columns) → acceptance c ≡ Accepted → {v : ℕ} (e : ℕ) (s : Stands (hypergraph c) e) (h : (hypergraph c).head e ≡ v) (ds : Derivations (hypergraph c) ((hypergraph c).tail e))
+pub grade_of_a_line : (c : Columns) → acceptance c ≡ Ok tt → {v : ℕ} (e : ℕ) (s : Stands (hypergraph c) e) (h : (hypergraph c).head e ≡ v) (ds : Derivations (hypergraph c) ((hypergraph c).tail e))
     → weight grade (own_at c) (node e s h ds) ≡ fold min (own_at c e) (weights grade (own_at c) ds)
 unfolding weight
 grade_of_a_line c p e s h ds = weigh-grade (own_at c e) (weights grade (own_at c) ds) ((table_accepted c p).each e s.numbered).1.own
 
-module _ (c : Columns) (a : Entries) (h : (settled Grade c a).result ≡ Accepted) (v : ℕ) where
+module _ (c : Columns) (a : Entries) (h : (settled Grade c a).result ≡ Ok tt) (v : ℕ) where
   -- "and a part's best is the greatest over its make-ups"; "In demand 2 none then weighs more"
   pub greatest_of_make_ups : GreatestGrade c (labels (settled Grade c a).left.labels v) v
   greatest_of_make_ups = grade-greatest c a h v
@@ -78,10 +76,10 @@ pub grade_rises_at_most : (c c' : Columns) (e d : ℕ) → Pair c c' e d → (v 
 grade_rises_at_most c c' e d p v s s' = let r = (demand_3_billed Grade c c' e d p).rises v s s' in (r.least, r.most)
 
 -- "For C the number is 2", "16 from 3 upward"
-pub grade_numbered : measure_of 2 ≡ choice.Measure Grade
+pub grade_numbered : measure_of 2 ≡ Ok Grade
 grade_numbered = refl
 
-pub sixteen_from_three : (k : ℕ) → 2 < k → measure_of k ≡ choice.Refused MeasureNumber
+pub sixteen_from_three : (k : ℕ) → 2 < k → measure_of k ≡ Err MeasureNumber
 sixteen_from_three k h = rw (ne_eqb k 0 (λ q. absurd (omega arith)), ne_eqb k 1 (λ q. absurd (omega arith)), ne_eqb k 2 (λ q. absurd (omega arith))) refl
 
 -- "The text word is `grade`", "14 no longer for `grade`": `parts 5 grade`, LF, as the machine reads it, what the call returns, and what is written
@@ -92,7 +90,7 @@ pub five_in_grade : parse five_grade ≡ Whole (record { vertices = 5; measure =
 unfolding first_word listed_in_all limit line_at digit_of grown instead after spell named ended step run finish parse
 five_in_grade = refl
 
-pub grade_returned : (read_table five_grade [] [] [] [] []).answer ≡ reading.Table (record { vertices = 5; measure = Grade; edges = 0; listed = 0 })
+pub grade_returned : (read_table five_grade [] [] [] [] []).answer ≡ Ok (record { vertices = 5; measure = Grade; edges = 0; listed = 0 })
 unfolding first_word listed_in_all limit line_at digit_of grown instead after spell named ended step run finish parse room_for read_into
 grade_returned = refl
 

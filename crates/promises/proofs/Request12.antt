@@ -9,7 +9,6 @@ use Rattle.weights.specs.declared.Vertex.{Vertex}
 use Rattle.refusal.specs.declared.Event.{Event}
 use Rattle.refusal.specs.declared.Refusal.{Refusal}
 use Rattle.refusal.specs.declared.Refusal.TheVariants.{EventVertex, OpeningCount, ReceivedCount}
-use Rattle.refusal.specs.declared.Acceptance.TheVariants.{Accepted, Refused}
 use Rattle.refusal.specs.Refusals.{place_of, code, code_of, last_place}
 use Rattle.columns.specs.Columns.{Entries, Columns, cell}
 use Rattle.columns.specs.Gaps.{Gapped, with_tails}
@@ -25,6 +24,7 @@ use Rattle.inventory.proofs.Replayed.{replay_meaning, conservation, outcome_rece
 use Rattle.inventory.proofs.Worked.{worked_records}
 use Rattle.promises.specs.Fixed.{Fixed}
 use Rattle.promises.proofs.Gaps.{replay_gaps}
+use Rattle.std.specs.Prelude.{Ok, Err}
 
 -- 2026-12: run last month's orders past the shelf --------------------------------------------------------------------------------------------------------------------
 
@@ -41,7 +41,7 @@ module _ (m : Measure) (c : Columns) (a : Entries) (parts received stock outcome
   pub replay_one_end : (p q : RightReplay m c a parts received stock outcomes) → (p.outcomes ≡ q.outcomes) × (p.final ≡ q.final)
   replay_one_end p q = replays_once c a.labels p.replays q.replays
 
-  module _ (p : (replayed m c a parts received stock outcomes).result ≡ Accepted) where
+  module _ (p : (replayed m c a parts received stock outcomes).result ≡ Ok tt) where
     -- "write for each event into a lent column 0 for a receipt, 1 for a piece from the shelf, 2 for built, 3 for late. An order takes a piece from the shelf; if there's
     -- none, and the part's chosen line has parts and all of them are on the shelf in the number listed, those are used and the order counts as built; otherwise it is
     -- late and takes nothing"
@@ -67,7 +67,7 @@ module _ (m : Measure) (c : Columns) (a : Entries) (parts received stock outcome
   pub replay_over_gaps : (tails : List ℕ) → Gapped c tails → replayed m c a parts received stock outcomes ≡ replayed m (with_tails c tails) a parts received stock outcomes
   replay_over_gaps tails g = replay_gaps c tails g m a parts received stock outcomes
 
-  module _ {r : Refusal} (p : (replayed m c a parts received stock outcomes).result ≡ Refused r) where
+  module _ {r : Refusal} (p : (replayed m c a parts received stock outcomes).result ≡ Err r) where
     -- "A refusal … alters no lent byte", however many events came before the bad one
     pub replay_refusal_keeps : let o = replayed m c a parts received stock outcomes in (o.stock ≡ stock) × (o.outcomes ≡ outcomes)
     replay_refusal_keeps = replay_keeps m c a parts received stock outcomes p

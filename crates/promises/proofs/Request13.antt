@@ -7,7 +7,6 @@ use native.Mathlib.Omega.{arith}
 use lib.ListN.{length, get_or, drop, replicate}
 use Rattle.refusal.specs.Refusals.{code_of, code}
 use Rattle.refusal.specs.declared.Refusal.TheVariants.{ByteRoom}
-use Rattle.refusal.specs.declared.Acceptance.TheVariants.{Accepted, Refused}
 use Rattle.columns.specs.Columns.{Columns}
 use Rattle.columns.specs.Right.{RightTable}
 use Rattle.shuffle.specs.Bytes.{bytes_of, from_bytes, EachBelow}
@@ -25,6 +24,7 @@ use Rattle.shuffle.proofs.Inverse.{
   unshuffle_then_shuffle,
   upper_nought,
 }
+use Rattle.std.specs.Prelude.{Ok, Err}
 
 -- 2026-13: shuffle the figures before filing --------------------------------------------------------------------------------------------------------------------------
 
@@ -51,24 +51,24 @@ pub every_bytes_back : (k : ℕ) (bs : List ℕ) → length bs ≡ 8 * k → Eac
 every_bytes_back = shuffle_unshuffle
 
 pub column_by_the_calls : (own room other : List ℕ) → EachBelow 18_446_744_073_709_551_616 own → length room ≡ 8 * length own → length other ≡ length own
-    → unshuffle_outcome (shuffle_outcome own room).left other ≡ outcome Accepted own
+    → unshuffle_outcome (shuffle_outcome own room).left other ≡ outcome (Ok tt) own
 column_by_the_calls = shuffle_then_unshuffle
 
 pub bytes_by_the_calls : (bytes own room : List ℕ) → EachBelow 256 bytes → length bytes ≡ 8 * length own → length room ≡ length bytes
-    → shuffle_outcome (unshuffle_outcome bytes own).left room ≡ outcome Accepted bytes
+    → shuffle_outcome (unshuffle_outcome bytes own).left room ≡ outcome (Ok tt) bytes
 bytes_by_the_calls = unshuffle_then_shuffle
 
 -- "Turned away: only 27 if the byte room isn't exactly eight times the column's length": of any column and any bytes, and then nothing is written
-pub shuffling_accepted : (own room : List ℕ) → length room ≡ 8 * length own → shuffle_outcome own room ≡ outcome Accepted (shuffled own)
+pub shuffling_accepted : (own room : List ℕ) → length room ≡ 8 * length own → shuffle_outcome own room ≡ outcome (Ok tt) (shuffled own)
 shuffling_accepted = shuffle_accepted
 
-pub shuffling_refused : (own room : List ℕ) → length room ≢ 8 * length own → shuffle_outcome own room ≡ outcome (Refused ByteRoom) room
+pub shuffling_refused : (own room : List ℕ) → length room ≢ 8 * length own → shuffle_outcome own room ≡ outcome (Err ByteRoom) room
 shuffling_refused = shuffle_refused
 
-pub unshuffling_accepted : (bytes own : List ℕ) → length bytes ≡ 8 * length own → unshuffle_outcome bytes own ≡ outcome Accepted (unshuffled (length own) bytes)
+pub unshuffling_accepted : (bytes own : List ℕ) → length bytes ≡ 8 * length own → unshuffle_outcome bytes own ≡ outcome (Ok tt) (unshuffled (length own) bytes)
 unshuffling_accepted = unshuffle_accepted
 
-pub unshuffling_refused : (bytes own : List ℕ) → length bytes ≢ 8 * length own → unshuffle_outcome bytes own ≡ outcome (Refused ByteRoom) own
+pub unshuffling_refused : (bytes own : List ℕ) → length bytes ≢ 8 * length own → unshuffle_outcome bytes own ≡ outcome (Err ByteRoom) own
 unshuffling_refused = unshuffle_refused
 
 pub byte_room_is : code_of ByteRoom ≡ code 27 0

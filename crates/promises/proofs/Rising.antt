@@ -9,7 +9,6 @@ use native.Mathlib.Omega.{arith}
 use Rattle.weights.specs.declared.Measure.TheVariants.{Days}
 use Rattle.weights.specs.Measures.{days}
 use Rattle.weights.proofs.Laws.{at_most, days_lawful}
-use Rattle.refusal.specs.declared.Acceptance.TheVariants.{Accepted}
 use Rattle.columns.specs.Columns.{Columns, own_at, with_own}
 use Rattle.columns.specs.Acceptance.{acceptance}
 use Rattle.provenance.specs.Hypergraph.{Derivation, weight}
@@ -28,6 +27,7 @@ use Rattle.settle.proofs.Demands.{answers_fixpoint}
 use Rattle.reprice.specs.Demand3.{Pair}
 use Rattle.reprice.proofs.Revision.{line_raised}
 use Rattle.promises.specs.Figures.{figure_in}
+use Rattle.std.specs.Prelude.{Ok}
 
 times_once : (d k : ℕ) → k ≤ 1 → d * k ≤ d
 times_once d k h = go (ℕ_discrete k 0)
@@ -39,7 +39,7 @@ times_once d k h = go (ℕ_discrete k 0)
 pub pair_raised : (c c' : Columns) (e d : ℕ) → Pair c c' e d → Raised (own_at c) (own_at c') e d
 pair_raised c c' e d p = subst (λ (x : Columns). Raised (own_at c) (own_at x) e d) (sym p.raised) (line_raised c e d p.accepted p.numbered)
 
-pub old_figure : (c : Columns) → acceptance c ≡ Accepted → {v : ℕ} (t : Derivation (hypergraph c) v) → Follows (labels (answers_of Days c)) t → figure_in Days c v ≡ weight days (own_at c) t
+pub old_figure : (c : Columns) → acceptance c ≡ Ok tt → {v : ℕ} (t : Derivation (hypergraph c) v) → Follows (labels (answers_of Days c)) t → figure_in Days c v ≡ weight days (own_at c) t
 old_figure c p t f = sym (supports days_lawful (answers_fixpoint Days c p) t f).weighs
 
 module _ (c c' : Columns) (e d : ℕ) (p : Pair c c' e d) {v : ℕ} (t : Derivation (hypergraph c) v) where
@@ -47,7 +47,7 @@ module _ (c c' : Columns) (e d : ℕ) (p : Pair c c' e d) {v : ℕ} (t : Derivat
   pub new_figure : figure_in Days c' v ≤ weight days (own_at c') t
   new_figure =
       subst (λ (x : Columns). figure_in Days x v ≤ weight days (own_at x) t) (sym p.raised)
-      (at_most (bound days_lawful (answers_fixpoint Days (with_own c e (own_at c e + d)) (subst (λ (x : Columns). acceptance x ≡ Accepted) p.raised p.accepted')) t).low)
+      (at_most (bound days_lawful (answers_fixpoint Days (with_own c e (own_at c e + d)) (subst (λ (x : Columns). acceptance x ≡ Ok tt) p.raised p.accepted')) t).low)
 
   module _ (f : Follows (labels (answers_of Days c)) t) where
     pub rising_path : (es : List ℕ) → Path t es → total (own_at c') es ≤ total (own_at c) es + d

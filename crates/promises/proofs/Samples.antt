@@ -15,15 +15,13 @@ use Rattle.statistics.specs.Summaries.{summary_of}
 use Rattle.text.specs.Render.{digits}
 use Rattle.text.specs.Machine.{digit_of}
 use Rattle.text.proofs.Digits.{pick_by}
-use Rattle.cursor.specs.declared.Found.{Found}
-use Rattle.cursor.specs.declared.Found.TheVariants as found
 use Rattle.cursor.specs.Cursor.{token, number_at}
 use Rattle.reader.proofs.Fields.{behind, Stops, number_found}
 use Rattle.reply.specs.Reply.{refused_by}
 use Rattle.sample.specs.declared.Next.{Next}
 use Rattle.sample.specs.declared.Next.TheVariants.{Number, Wrong, End}
-use Rattle.sample.specs.declared.Sample.{Sample}
-use Rattle.sample.specs.declared.Sample.TheVariants.{Count, Refused}
+use Rattle.std.specs.Prelude.{Result, Ok, Err, Option, Some, None}
+use Rattle.refusal.specs.declared.Refusal.{Refusal}
 use Rattle.sample.specs.Sample.{most_read, number_limit, on_found, result_at, Read, read, on_next, sample_from, summary_said, read_said, mean_said}
 use Rattle.sample.specs.Told.{sample_text, Readable, none, also}
 use Rattle.sample.specs.Permitted.{PermittedSample}
@@ -123,13 +121,13 @@ module _ (left : ℕ) where
     abbrev begun : (l : ℕ) → Passes (EndOr (NumberThen number_limit Rest)) (NumberThen number_limit Rest) s at at l 1 l 1
     begun = in_line (NumberThen number_limit Rest) s at h
 
-    found_told : (stop : ℕ) (f : Found) → ToldAt number_limit Rest s at stop f → NextTold s at (on_found s stop f)
+    found_told : (stop : ℕ) (f : Option ℕ) → ToldAt number_limit Rest s at stop f → NextTold s at (on_found s stop f)
     unfolding Results
-    found_told stop (found.Number v) R =
+    found_told stop (Some v) R =
         pick_by (NextTold s at) (eqb (get_or s stop 0) 10)
         (λ e l. join (begun l) (join (R.passes l 1) (line_passes (Results left) s stop e l (1 + (stop - at)))))
         (λ e l. (begun l).on l (stop - at + 1) ((R.passes l 1).on l (stop - at + 1) (to_column (line_stuck (Results left) s stop e (results_end left) l (1 + (stop - at))) (omega arith))))
-    found_told stop found.NotANumber B = λ l. (begun l).on l (stop - at + 1) (to_column (B.fails l 1) (omega arith))
+    found_told stop None B = λ l. (begun l).on l (stop - at + 1) (to_column (B.fails l 1) (omega arith))
 
   result_told : (s : List ℕ) (at : ℕ) → NextTold s at (result_at s at)
   unfolding result_at
@@ -140,14 +138,14 @@ module _ (left : ℕ) where
 
 -- The lines ---------------------------------------------------------------------------------------------------------------------------------------------
 
-abbrev Outcome : (left : ℕ) → List ℕ → (at i : ℕ) → Sample → Type 0
-Outcome left s at i (Count k) = Results left (drop at s)
-Outcome left s at i (Refused r) = (l c : ℕ) × (r ≡ Text (record { 0 = l }) (record { 0 = c })) × Fails (Results left) (drop at s) (i + 1) 1 l c
+abbrev Outcome : (left : ℕ) → List ℕ → (at i : ℕ) → Result ℕ Refusal → Type 0
+Outcome left s at i (Ok k) = Results left (drop at s)
+Outcome left s at i (Err r) = (l c : ℕ) × (r ≡ Text (record { 0 = l }) (record { 0 = c })) × Fails (Results left) (drop at s) (i + 1) 1 l c
 
 module _ (left : ℕ) (s : List ℕ) (at i : ℕ) where
-  lifted : (next : ℕ) → ((l : ℕ) → Passes (Results (suc left)) (Results left) s at next l 1 (suc l) 1) → (x : Sample) → Outcome left s next (i + 1) x → Outcome (suc left) s at i x
-  lifted next L (Count k) o = (L 0).right o
-  lifted next L (Refused r) o =
+  lifted : (next : ℕ) → ((l : ℕ) → Passes (Results (suc left)) (Results left) s at next l 1 (suc l) 1) → (x : Result ℕ Refusal) → Outcome left s next (i + 1) x → Outcome (suc left) s at i x
+  lifted next L (Ok k) o = (L 0).right o
+  lifted next L (Err r) o =
       let q : i + 1 + 1 ≡ suc (i + 1) = omega arith in
       (o.0, o.1, o.2, (L (i + 1)).on o.0 o.1 (subst (λ (l : ℕ). Fails (Results left) (drop next s) l 1 o.0 o.1) q o.3))
 
@@ -169,9 +167,9 @@ sample_refused s n =
     let x = sample_from most_read s 0 0 (replicate most_read 0) in
     go x.sample x.column (sample_told most_read s 0 0 (replicate most_read 0))
   where
-    go : (x : Sample) (column : List ℕ) → Outcome most_read s 0 0 x → (l c : ℕ) × (read_said x column ≡ refused_by (Text (record { 0 = l }) (record { 0 = c }))) × FirstByteOf PermittedSample s l c
-    go (Count k) column o = absurd (n (form_permitted s o))
-    go (Refused r) column o =
+    go : (x : Result ℕ Refusal) (column : List ℕ) → Outcome most_read s 0 0 x → (l c : ℕ) × (read_said x column ≡ refused_by (Text (record { 0 = l }) (record { 0 = c }))) × FirstByteOf PermittedSample s l c
+    go (Ok k) column o = absurd (n (form_permitted s o))
+    go (Err r) column o =
         (o.0, o.1, ap refused_by o.2, first_of PermittedSample s o.0 o.1 (mapped PermittedSample (Results most_read) s 1 1 o.0 o.1 form_permitted (λ x _. permitted_form x) o.3))
 
 -- A permitted sample ------------------------------------------------------------------------------------------------------------------------------------
@@ -184,21 +182,21 @@ line_read s rest at x e l =
     let d = length-drop at s in
     let stop = at + length (digits x) in
     let b : get_or s stop 0 ≡ 10 = sym (byte_first s stop) ∙ ap (λ (z : List ℕ). get_or z 0 0) (behind s (digits x) (10 ∷ rest) at e) in
-    sym (result_number s at (token at stop (found.Number x)) x (omega arith) (sym (number_found s (10 ∷ rest) at number_limit x e l (omega arith))) refl b)
+    sym (result_number s at (token at stop (Some x)) x (omega arith) (sym (number_found s (10 ∷ rest) at number_limit x e l (omega arith))) refl b)
 
 lines_read : {xs : List ℕ} → Readable xs → (left : ℕ) (s : List ℕ) (at i : ℕ) (done old unread : List ℕ) → length done ≡ i → i + left ≡ length old
-    → drop at s ≡ sample_text xs ++ unread → Ended left xs unread → sample_from left s at i (filled done old) ≡ read (Count (i + length xs)) (filled (done ++ xs) old)
+    → drop at s ≡ sample_text xs ++ unread → Ended left xs unread → sample_from left s at i (filled done old) ≡ read (Ok (i + length xs)) (filled (done ++ xs) old)
 unfolding sample_from
 lines_read none zero s at i done old unread d f e end =
     let p : i ≡ i + 0 = omega arith in
-    ap₂ (λ (k : ℕ) (z : List ℕ). read (Count k) (filled z old)) p (sym (append-nil done))
+    ap₂ (λ (k : ℕ) (z : List ℕ). read (Ok k) (filled z old)) p (sym (append-nil done))
 lines_read none (suc left) s at i done old unread d f e (inl end) =
     let p : i ≡ i + 0 = omega arith in
     let w : sample_text [] ++ unread ≡ [] = unfold sample_text in end.1 in
     let z : length (drop at s) ≡ 0 = ap length (e ∙ w) in
     let l = length-drop at s in
     ap (λ (x : Next). on_next x at i (filled done old) (λ v next. sample_from left s next (i + 1) (set (filled done old) i v))) (sym (result_end s at (omega arith)))
-    ∙ ap₂ (λ (k : ℕ) (z : List ℕ). read (Count k) (filled z old)) p (sym (append-nil done))
+    ∙ ap₂ (λ (k : ℕ) (z : List ℕ). read (Ok k) (filled z old)) p (sym (append-nil done))
 lines_read none (suc left) s at i done old unread d f e (inr end) = absurd (omega arith)
 lines_read (also h r) zero s at i done old unread d f e (inl end) = absurd (omega (arith, end.0))
 lines_read (also h r) zero s at i done old unread d f e (inr end) = absurd (omega arith)
@@ -212,7 +210,7 @@ lines_read (also {x} {xs} h r) (suc left) s at i done old unread d f e end =
     ap (λ (y : Next). on_next y at i (filled done old) (λ v z. sample_from left s z (i + 1) (set (filled done old) i v))) (line_read s more at x e1 h)
     ∙ ap (λ (z : List ℕ). sample_from left s next (i + 1) z) (filled-set done old i x d (omega arith))
     ∙ lines_read r left s next (i + 1) (done ++ x ∷ []) old unread l (omega arith) e2 (ended_less left x xs unread end)
-    ∙ ap₂ (λ (k : ℕ) (z : List ℕ). read (Count k) (filled z old)) p (append_snoc done x xs)
+    ∙ ap₂ (λ (k : ℕ) (z : List ℕ). read (Ok k) (filled z old)) p (append_snoc done x xs)
 
 pub sample_permitted : (s : List ℕ) (p : PermittedSample s) → mean_said s ≡ summary_said (summary_of p.results)
 unfolding mean_said

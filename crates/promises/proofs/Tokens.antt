@@ -20,18 +20,13 @@ use Rattle.text.specs.Machine.{digit_of, Parse, Whole, Wrong, parse}
 use Rattle.text.specs.Bytes.{column_of, FirstByte}
 use Rattle.text.proofs.Bytes.{wrong_byte}
 use Rattle.text.proofs.Digits.{pick_by}
-use Rattle.cursor.specs.declared.Found.{Found}
-use Rattle.cursor.specs.declared.Found.TheVariants.{Number, NotANumber}
-use Rattle.cursor.specs.declared.FoundWeight.{FoundWeight}
-use Rattle.cursor.specs.declared.FoundWeight.TheVariants.{Own, NotAWeight}
 use Rattle.cursor.specs.declared.Separator.{Separator}
 use Rattle.cursor.specs.declared.Separator.TheVariants.{Space, LineEnd}
 use Rattle.cursor.specs.declared.Token.{Token}
 use Rattle.cursor.specs.declared.WeightToken.{WeightToken}
-use Rattle.cursor.specs.Cursor.{token, digits_from, number_of, number_at, as_weight, weight_token, marked_from, weight_at, separator_at}
+use Rattle.cursor.specs.Cursor.{FoundWeight, token, digits_from, number_of, number_at, as_weight, weight_token, marked_from, weight_at, separator_at}
 use Rattle.cursor.proofs.Counts.{number_counts, weight_counts, token_start, weight_start}
 use Rattle.refusal.specs.declared.Refusal.TheVariants.{Text}
-use Rattle.refusal.specs.declared.Reading.TheVariants as reading
 use Rattle.refusal.specs.Refusals.{place_of, column_of as column_in}
 use Rattle.reading.specs.Lines.{refused_at, Opens, Unopened, first_of, first_line, Stalk, on_own, on_head, stem_at, Listing, Ends, Breaks, list_end, on_vertex, listed_from}
 use Rattle.reading.specs.Lines.{Row, Holds, Fails, on_listing, on_stem, row_at, reading_of}
@@ -41,6 +36,7 @@ use Rattle.reader.specs.Stops.{StopsAt}
 use Rattle.reader.proofs.Stops.{token_stop}
 use Rattle.reader.proofs.Fields.{Stops, behind, number_text, number_found, weight_text, weight_found, first_text, first_found}
 use Rattle.promises.specs.Reads.{Reads}
+use Rattle.std.specs.Prelude.{Option, Err, Some, None}
 
 -- a number's reading, by the place that it was asked at
 stops : (s : List ℕ) (at limit : ℕ) → StopsAt s limit at (number_at s at limit).stop
@@ -58,9 +54,9 @@ module _ (s : List ℕ) (at : ℕ) where
 -- No digit follows -----------------------------------------------------------------------------------------------------------------------------------------------------
 
 abbrev Ended : List ℕ → Token → Type 0
-Ended s t = (v : ℕ) → t.found ≡ Number v → Stops (drop t.stop s)
+Ended s t = (v : ℕ) → t.found ≡ Some v → Stops (drop t.stop s)
 
-unfound : {A : Type 0} {v : ℕ} → NotANumber ≡ Number v → A
+unfound : {A : Type 0} {v : ℕ} → ◌≡◌ {A = Option ℕ} None (Some v) → A
 unfound e = let z : ◌≡◌ {A = ℕ} 0 1 = cc in absurd (omega arith)
 
 digits-ended : (s bs : List ℕ) (start i limit v : ℕ) → drop i s ≡ bs → Ended s (digits_from bs start i limit v)
@@ -126,40 +122,40 @@ module _ (s : List ℕ) (at stop : ℕ) where
   stopped : {bytes : List ℕ} → Reads s at stop bytes → Stops (drop stop s)
   stopped r = ended_first (drop stop s) (subst NoDigit (sym (byte_first s stop)) r.ended)
 
-  pub number_exactly : (limit v : ℕ) → (number_at s at limit ≡ token at stop (Number v)) ↔ ((v < limit) × Reads s at stop (digits v))
+  pub number_exactly : (limit v : ℕ) → (number_at s at limit ≡ token at stop (Some v)) ↔ ((v < limit) × Reads s at stop (digits v))
   number_exactly limit v = (
     λ e.
         let c = number_counts s at limit at stop v e in
         let n = rw e at (at_ended s at limit) in
         (c.0, reads (digits v) (omega (arith, c.1)) c.2 (number_text s at limit at stop v e) (n v refl)),
-    λ (l, r). number_found s (drop stop s) at limit v r.text l (stopped r) ∙ ap (λ (k : ℕ). token at k (Number v)) (sym r.place),
+    λ (l, r). number_found s (drop stop s) at limit v r.text l (stopped r) ∙ ap (λ (k : ℕ). token at k (Some v)) (sym r.place),
   )
 
   -- an own figure ends where its number does
-  found-ended : (from : ℕ) (k : Mark) (o : ℕ) (j : Mark) (t : Token) → Ended s t → marked_from from k t ≡ weight_token at stop (Own (record { 0 = o }) j) → Stops (drop stop s)
+  found-ended : (from : ℕ) (k : Mark) (o : ℕ) (j : Mark) (t : Token) → Ended s t → marked_from from k t ≡ weight_token at stop (Some ((record { 0 = o }), j)) → Stops (drop stop s)
   found-ended from k o j t n e = go t.found refl
     where
-      go : (f : Found) → t.found ≡ f → Stops (drop stop s)
-      go (Number v) q = let p : t.stop ≡ stop = ap (λ (x : WeightToken). x.stop) e in subst (λ (x : ℕ). Stops (drop x s)) p (n v q)
-      go NotANumber q = let z : as_weight k NotANumber ≡ Own (record { 0 = o }) j = sym (ap (as_weight k) q) ∙ ap (λ (x : WeightToken). x.found) e in absurd (no_own z)
+      go : (f : Option ℕ) → t.found ≡ f → Stops (drop stop s)
+      go (Some v) q = let p : t.stop ≡ stop = ap (λ (x : WeightToken). x.stop) e in subst (λ (x : ℕ). Stops (drop x s)) p (n v q)
+      go None q = let z : ◌≡◌ {A = FoundWeight} (as_weight k None) (Some (record { 0 = o }, j)) = sym (ap (as_weight k) q) ∙ ap (λ (x : WeightToken). x.found) e in absurd (no_own z)
         where
-          no_own : NotAWeight ≡ Own (record { 0 = o }) j → ⊥
+          no_own : ◌≡◌ {A = FoundWeight} None (Some (record { 0 = o }, j)) → ⊥
           no_own e = let z : ◌≡◌ {A = ℕ} 0 1 = cc in omega arith
 
-  weight_ended : (o k : ℕ) → weight_at s at ≡ weight_token at stop (Own (record { 0 = o }) (record { 0 = k })) → Stops (drop stop s)
+  weight_ended : (o k : ℕ) → weight_at s at ≡ weight_token at stop (Some ((record { 0 = o }), (record { 0 = k }))) → Stops (drop stop s)
   unfolding weight_at
   weight_ended o k =
-      pick_by (λ (t : WeightToken). t ≡ weight_token at stop (Own (record { 0 = o }) (record { 0 = k })) → Stops (drop stop s)) (eqb (get_or s at 0) 45)
+      pick_by (λ (t : WeightToken). t ≡ weight_token at stop (Some ((record { 0 = o }), (record { 0 = k }))) → Stops (drop stop s)) (eqb (get_or s at 0) 45)
       (λ b e. found-ended at (record { 0 = struck_mark }) o (record { 0 = k }) (number_at s (at + 1) (greatest + 1)) (at_ended s (at + 1) (greatest + 1)) e)
       (λ b e. found-ended at (record { 0 = standing }) o (record { 0 = k }) (number_at s at (greatest + 1)) (at_ended s at (greatest + 1)) e)
 
-  pub weight_exactly : (o k : ℕ) → (weight_at s at ≡ weight_token at stop (Own (record { 0 = o }) (record { 0 = k }))) ↔ ((o ≤ greatest) × (k ≤ struck_mark) × Reads s at stop (own_text o k))
+  pub weight_exactly : (o k : ℕ) → (weight_at s at ≡ weight_token at stop (Some ((record { 0 = o }), (record { 0 = k })))) ↔ ((o ≤ greatest) × (k ≤ struck_mark) × Reads s at stop (own_text o k))
   weight_exactly o k = (
     λ e.
         let c = weight_counts s at at stop _ _ e in
         (c.0, c.1, reads (own_text o k) (omega (arith, c.2)) c.3 (weight_text s at o k at stop e) (weight_ended o k e)),
     λ (l, m, r).
-        weight_found s (drop stop s) at o (stopped r) l k m r.text ∙ ap (λ (i : ℕ). weight_token at i (Own (record { 0 = o }) (record { 0 = k }))) (sym r.place),
+        weight_found s (drop stop s) at o (stopped r) l k m r.text ∙ ap (λ (i : ℕ). weight_token at i (Some ((record { 0 = o }), (record { 0 = k })))) (sym r.place),
   )
 
 module _ (s : List ℕ) (at next : ℕ) where
@@ -202,7 +198,7 @@ first_exactly s n start m = (
 pub first_refused_exactly : (s : List ℕ) (place : ℕ) → first_line s ≡ Unopened place → FirstByte s 1 (place + 1)
 first_refused_exactly s place h = go (parse s) refl (first_refused s (refused_at 1 0 place) (ap first_of (sym h)))
   where
-    go : (x : Parse) → parse s ≡ x → reading.Refused (refused_at 1 0 place) ≡ reading_of s x → FirstByte s 1 (place + 1)
+    go : (x : Parse) → parse s ≡ x → Err (refused_at 1 0 place) ≡ reading_of s x → FirstByte s 1 (place + 1)
     go (Whole t) q e = let z : ◌≡◌ {A = ℕ} 0 1 = cc in absurd (omega arith)
     go (Wrong l) q e =
         let t : refused_at 1 0 place ≡ Text (record { 0 = l }) (record { 0 = column_of s }) = cc in
@@ -225,7 +221,7 @@ module _ (s : List ℕ) (n : ℕ) where
   parts_listed zero at next xs (Parts.part e f r) h = absurd (omega arith)
   parts_listed (suc left) at next xs (Parts.part {from = from} {after = after} {v = v} {vs = vs} e f r) h =
       let q = (space_exactly s at from).0 e in
-      let f' : number_at s (at + 1) n ≡ token from after (Number v) = ap (λ (k : ℕ). number_at s k n) (sym q.0) ∙ f in
+      let f' : number_at s (at + 1) n ≡ token from after (Some v) = ap (λ (k : ℕ). number_at s k n) (sym q.0) ∙ f in
       rw (eq-eqb (get_or s at 0) 32 q.1, f') (parts_listed left after next (xs ++ v ∷ []) r (omega arith) ∙ ap (λ (ys : List ℕ). Ends ys next) (append_assoc xs (v ∷ []) vs))
 
   -- and what was listed stands there
@@ -238,7 +234,7 @@ module _ (s : List ℕ) (n : ℕ) where
       pick_by (Listed at left xs) (eqb (get_or s at 0) 10)
       (λ e. ([], sym (append-nil xs), Parts.no_part ((end_exactly s at (at + 1)).1 (refl, eqb-true _ _ e)), omega arith)) (λ e. tt)
 
-  one_listed : (at stop left v : ℕ) (xs : List ℕ) → get_or s at 0 ≡ 32 → number_at s (at + 1) n ≡ token (at + 1) stop (Number v) → (L : Listing)
+  one_listed : (at stop left v : ℕ) (xs : List ℕ) → get_or s at 0 ≡ 32 → number_at s (at + 1) n ≡ token (at + 1) stop (Some v) → (L : Listing)
       → Listed stop left (xs ++ v ∷ []) L → Listed at (suc left) xs L
   one_listed at stop left v xs b e (Ends ys next) (vs, p, r, l) =
       (v ∷ vs, p ∙ append_assoc xs (v ∷ []) vs, Parts.part ((space_exactly s at (at + 1)).1 (refl, b)) e r, omega arith)
@@ -255,18 +251,18 @@ module _ (s : List ℕ) (n : ℕ) where
       pick_by (Listed at (suc left) xs) (eqb (get_or s at 0) 32)
       (λ e. go (eqb-true _ _ e) more (λ ys next. listed_parts left next ys) (number_at s (at + 1) n).stop (number_at s (at + 1) n).found (number_is (at + 1))) (λ e. end_listed at (suc left) xs)
     where
-      go : get_or s at 0 ≡ 32 → (more : List ℕ → ℕ → Listing) → ((ys : List ℕ) (next : ℕ) → Listed next left ys (more ys next)) → (stop : ℕ) (f : Found)
+      go : get_or s at 0 ≡ 32 → (more : List ℕ → ℕ → Listing) → ((ys : List ℕ) (next : ℕ) → Listed next left ys (more ys next)) → (stop : ℕ) (f : Option ℕ)
           → number_at s (at + 1) n ≡ token (at + 1) stop f → Listed at (suc left) xs (on_vertex xs stop f more)
-      go b more rec stop (Number v) e = one_listed at stop left v xs b e (more (xs ++ v ∷ []) stop) (rec (xs ++ v ∷ []) stop)
-      go b more rec stop NotANumber e = tt
+      go b more rec stop (Some v) e = one_listed at stop left v xs b e (more (xs ++ v ∷ []) stop) (rec (xs ++ v ∷ []) stop)
+      go b more rec stop None e = tt
 
   module _ (most at : ℕ) where
     abbrev Rowed : Row → Type 0
     Rowed (Holds e next) = Line s n at e next × (length e.tail ≤ most)
     Rowed (Fails xs place) = Unit {0}
 
-    module _ (stop h : ℕ) (head : number_at s at n ≡ token at stop (Number h)) (b : get_or s stop 0 ≡ 32) where
-      tail_rowed : (end : ℕ) (w : Weight) (k : Mark) → weight_at s (stop + 1) ≡ weight_token (stop + 1) end (Own w k) → (L : Listing) → Listed end most [] L
+    module _ (stop h : ℕ) (head : number_at s at n ≡ token at stop (Some h)) (b : get_or s stop 0 ≡ 32) where
+      tail_rowed : (end : ℕ) (w : Weight) (k : Mark) → weight_at s (stop + 1) ≡ weight_token (stop + 1) end (Some (w, k)) → (L : Listing) → Listed end most [] L
           → Rowed (on_listing (record { 0 = h }) w k L)
       tail_rowed end w k own (Ends ys next) (vs, p, r, l) = (
         record {
@@ -283,17 +279,17 @@ module _ (s : List ℕ) (n : ℕ) where
       tail_rowed end w k own (Breaks ys place) t = tt
 
       own_rowed : (end : ℕ) (f : FoundWeight) → weight_at s (stop + 1) ≡ weight_token (stop + 1) end f → Rowed (on_stem s n most (on_own h end f))
-      own_rowed end (Own w k) own = tail_rowed end w k own (listed_from most s n end []) (listed_parts most end [])
-      own_rowed end NotAWeight own = tt
+      own_rowed end (Some (w, k)) own = tail_rowed end w k own (listed_from most s n end []) (listed_parts most end [])
+      own_rowed end None own = tt
 
     weight_is : (from : ℕ) → weight_at s from ≡ weight_token from (weight_at s from).stop (weight_at s from).found
     weight_is from = λ i. weight_token (weight_start s from i) (weight_at s from).stop (weight_at s from).found
 
-    head_rowed : (stop : ℕ) (f : Found) → number_at s at n ≡ token at stop f → Rowed (on_stem s n most (on_head s stop f))
-    head_rowed stop (Number h) e =
+    head_rowed : (stop : ℕ) (f : Option ℕ) → number_at s at n ≡ token at stop f → Rowed (on_stem s n most (on_head s stop f))
+    head_rowed stop (Some h) e =
         pick_by (λ (x : Stalk). Rowed (on_stem s n most x)) (eqb (get_or s stop 0) 32)
         (λ b. own_rowed stop h e (eqb-true _ _ b) (weight_at s (stop + 1)).stop (weight_at s (stop + 1)).found (weight_is (stop + 1))) (λ b. tt)
-    head_rowed stop NotANumber e = tt
+    head_rowed stop None e = tt
 
     rowed : Rowed (row_at s n most at)
     unfolding row_at stem_at

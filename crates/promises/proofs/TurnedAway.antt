@@ -12,10 +12,6 @@ use Rattle.weights.specs.Labels.{ahead_of}
 use Rattle.refusal.specs.declared.Refusal.TheVariants.{TooManyVertices, Lengths, Head, Own, Span, Tail, AnswerLength, WrongAnswers, NoSuchEdge, NewWeight, NoSuchVertex, Underivable, BillRoom, Text, TextRoom, MeasureNumber, InputLength, NotStruck, StrikeMark, ColumnRoom, WrongIndex}
 use Rattle.refusal.specs.declared.TextLine.{TextLine}
 use Rattle.refusal.specs.declared.TextColumn.{TextColumn}
-use Rattle.refusal.specs.declared.Acceptance.TheVariants.{Refused}
-use Rattle.refusal.specs.declared.Extent.TheVariants as extent
-use Rattle.refusal.specs.declared.Reading.TheVariants as reading
-use Rattle.refusal.specs.declared.MeasureChoice.TheVariants as choice
 use Rattle.refusal.specs.Refusals.{measure_of, code, code_of}
 use Rattle.columns.specs.Columns.{Entries, columns, entries}
 use Rattle.columns.specs.Acceptance.{all_below, edge_acceptance, edges_acceptance, acceptance, lent_acceptance}
@@ -38,6 +34,7 @@ use Rattle.text.proofs.Permitted.{wrong_unpermitted}
 use Rattle.readtable.specs.Read.{room_for, read_into, read_table}
 use Rattle.report.specs.Report.{refused_line, report}
 use Rattle.report.proofs.Reports.{report_long}
+use Rattle.std.specs.Prelude.{Err}
 
 -- "A refusal returns its number and a place (a table line for 3 to 6, a text line from 1 for 14, otherwise 0)", and 14 a column (2026-06): the table's first column. Of 22 to
 -- 27 the files of their requests say it
@@ -69,37 +66,37 @@ pub text_number : (l : TextLine) (c : TextColumn) → code_of (Text l c) ≡ rec
 text_number l c = refl
 
 -- "n = 1,025"
-pub refusal_1 : acceptance (columns 1_025 [] [] [] [] []) ≡ Refused TooManyVertices
+pub refusal_1 : acceptance (columns 1_025 [] [] [] [] []) ≡ Err TooManyVertices
 unfolding acceptance
 refusal_1 = refl
 
 -- "2 heads, 1 own figure"
-pub refusal_2 : acceptance (columns 5 (0 ∷ 1 ∷ []) (0 ∷ []) (0 ∷ 0 ∷ []) (0 ∷ 0 ∷ 0 ∷ 0 ∷ []) []) ≡ Refused Lengths
+pub refusal_2 : acceptance (columns 5 (0 ∷ 1 ∷ []) (0 ∷ []) (0 ∷ 0 ∷ []) (0 ∷ 0 ∷ 0 ∷ 0 ∷ []) []) ≡ Err Lengths
 unfolding acceptance
 refusal_2 = refl
 
 -- "n = 5, head 5"
-pub refusal_3 : acceptance (columns 5 (5 ∷ []) (0 ∷ []) (0 ∷ []) (0 ∷ 0 ∷ []) []) ≡ Refused (Head (record { 0 = 0 }))
+pub refusal_3 : acceptance (columns 5 (5 ∷ []) (0 ∷ []) (0 ∷ []) (0 ∷ 0 ∷ []) []) ≡ Err (Head (record { 0 = 0 }))
 unfolding acceptance edges_acceptance edge_acceptance
 refusal_3 = refl
 
 -- "4 now turns away any figure above 1,000,000,000" (document 02, 2026-02), struck or not
-pub refusal_4 : acceptance (columns 5 (0 ∷ []) (1_000_000_001 ∷ []) (1 ∷ []) (0 ∷ 0 ∷ []) []) ≡ Refused (Own (record { 0 = 0 }))
+pub refusal_4 : acceptance (columns 5 (0 ∷ []) (1_000_000_001 ∷ []) (1 ∷ []) (0 ∷ 0 ∷ []) []) ≡ Err (Own (record { 0 = 0 }))
 unfolding acceptance edges_acceptance edge_acceptance
 refusal_4 = refl
 
 -- "spans (0,2), (1,1)"
-pub refusal_5 : acceptance (columns 5 (0 ∷ 1 ∷ []) (0 ∷ 0 ∷ []) (0 ∷ 0 ∷ []) (0 ∷ 2 ∷ 1 ∷ 1 ∷ []) (0 ∷ 1 ∷ [])) ≡ Refused (Span (record { 0 = 1 }))
+pub refusal_5 : acceptance (columns 5 (0 ∷ 1 ∷ []) (0 ∷ 0 ∷ []) (0 ∷ 0 ∷ []) (0 ∷ 2 ∷ 1 ∷ 1 ∷ []) (0 ∷ 1 ∷ [])) ≡ Err (Span (record { 0 = 1 }))
 unfolding acceptance edges_acceptance edge_acceptance all_below
 refusal_5 = refl
 
 -- "n = 5, part 9"
-pub refusal_6 : acceptance (columns 5 (0 ∷ []) (0 ∷ []) (0 ∷ []) (0 ∷ 1 ∷ []) (9 ∷ [])) ≡ Refused (Tail (record { 0 = 0 }))
+pub refusal_6 : acceptance (columns 5 (0 ∷ []) (0 ∷ []) (0 ∷ []) (0 ∷ 1 ∷ []) (9 ∷ [])) ≡ Err (Tail (record { 0 = 0 }))
 unfolding acceptance edges_acceptance edge_acceptance all_below
 refusal_6 = refl
 
 -- "n = 5, 4 places"
-pub refusal_7 : lent_acceptance worked (entries (0 ∷ 0 ∷ 0 ∷ 0 ∷ []) (0 ∷ 0 ∷ 0 ∷ 0 ∷ []) (0 ∷ 0 ∷ 0 ∷ 0 ∷ []) (0 ∷ 0 ∷ 0 ∷ 0 ∷ [])) ≡ Refused AnswerLength
+pub refusal_7 : lent_acceptance worked (entries (0 ∷ 0 ∷ 0 ∷ 0 ∷ []) (0 ∷ 0 ∷ 0 ∷ 0 ∷ []) (0 ∷ 0 ∷ 0 ∷ 0 ∷ []) (0 ∷ 0 ∷ 0 ∷ 0 ∷ [])) ≡ Err AnswerLength
 unfolding lent_acceptance acceptance edges_acceptance edge_acceptance all_below
 refusal_7 = refl
 
@@ -112,37 +109,37 @@ unfolding answers_of entries_of below pieces_at piece total bill bills best_firs
 priced = refl
 
 -- "a figure off by 1"
-pub refusal_8 : (repriced Cost worked (with_figure 2601) 1 500).result ≡ Refused WrongAnswers
+pub refusal_8 : (repriced Cost worked (with_figure 2601) 1 500).result ≡ Err WrongAnswers
 unfolding repriced reprice_acceptance line_acceptance same_answers same_entries equal lent_acceptance acceptance edges_acceptance edge_acceptance all_below
 refusal_8 = rw priced refl
 
 -- "line 6 of 6"
-pub refusal_9 : (repriced Cost worked (with_figure 2600) 6 500).result ≡ Refused NoSuchEdge
+pub refusal_9 : (repriced Cost worked (with_figure 2600) 6 500).result ≡ Err NoSuchEdge
 unfolding repriced reprice_acceptance line_acceptance lent_acceptance acceptance edges_acceptance edge_acceptance all_below
 refusal_9 = refl
 
 -- 1,000,000,001
-pub refusal_10 : (repriced Cost worked (with_figure 2600) 1 1_000_000_001).result ≡ Refused NewWeight
+pub refusal_10 : (repriced Cost worked (with_figure 2600) 1 1_000_000_001).result ≡ Err NewWeight
 unfolding repriced reprice_acceptance line_acceptance lent_acceptance acceptance edges_acceptance edge_acceptance all_below
 refusal_10 = refl
 
 -- "part 5 of 5"
-pub refusal_11 : (billed Cost worked (with_figure 2600) 5 []).result ≡ extent.Refused NoSuchVertex
+pub refusal_11 : (billed Cost worked (with_figure 2600) 5 []).result ≡ Err NoSuchVertex
 unfolding billed bill_acceptance part_acceptance lent_acceptance acceptance edges_acceptance edge_acceptance all_below
 refusal_11 = refl
 
 -- "part 4 below"
-pub refusal_12 : (billed Cost worked (with_figure 2600) 4 []).result ≡ extent.Refused Underivable
+pub refusal_12 : (billed Cost worked (with_figure 2600) 4 []).result ≡ Err Underivable
 unfolding billed bill_acceptance part_acceptance same_answers same_entries equal lent_acceptance acceptance edges_acceptance edge_acceptance all_below
 refusal_12 = rw priced refl
 
 -- "6 lines, room 5"
-pub refusal_13 : (billed Cost worked (with_figure 2600) 3 (0 ∷ 0 ∷ 0 ∷ 0 ∷ 0 ∷ [])).result ≡ extent.Refused BillRoom
+pub refusal_13 : (billed Cost worked (with_figure 2600) 3 (0 ∷ 0 ∷ 0 ∷ 0 ∷ 0 ∷ [])).result ≡ Err BillRoom
 unfolding billed bill_acceptance part_acceptance bill_of bill bills same_answers same_entries equal lent_acceptance acceptance edges_acceptance edge_acceptance all_below
 refusal_13 = rw priced refl
 
 -- "empty text, place 1"; "For the empty text it is line 1, column 1" (document 02, 2026-06)
-pub refusal_14 : (read_table [] [] [] [] [] []).answer ≡ reading.Refused (Text (record { 0 = 1 }) (record { 0 = 1 }))
+pub refusal_14 : (read_table [] [] [] [] [] []).answer ≡ Err (Text (record { 0 = 1 }) (record { 0 = 1 }))
 unfolding run finish parse survived column_from column_of read_into
 refusal_14 = refl
 
@@ -157,12 +154,12 @@ unfolding first_word limit line_at digit_of grown instead after spell named ende
 mark_unnumbered = wrong_unpermitted _ 2 refl
 
 -- "6 lines, 5 heads": the worked text
-pub refusal_15 : let z = replicate {A = ℕ} 6 0 in (read_table cost_text (replicate 5 0) z z (replicate 12 0) z).answer ≡ reading.Refused TextRoom
+pub refusal_15 : let z = replicate {A = ℕ} 6 0 in (read_table cost_text (replicate 5 0) z z (replicate 12 0) z).answer ≡ Err TextRoom
 unfolding cost_text first_word listed_in_all limit line_at digit_of grown instead after spell named ended step run finish parse room_for read_into
 refusal_15 = refl
 
 -- "16 from 3 upward" (document 02, 2026-10)
-pub refusal_16 : measure_of 3 ≡ choice.Refused MeasureNumber
+pub refusal_16 : measure_of 3 ≡ Err MeasureNumber
 refusal_16 = refl
 
 -- "65,536 bytes", whatever they are: "The program: 17 first"
@@ -170,12 +167,12 @@ pub refusal_17 : (input : List ℕ) → length input ≡ 65_536 → report input
 refusal_17 input h = report_long input (omega arith)
 
 -- restoring a line that stands
-pub refusal_20 : (restored Cost worked (with_figure 2600) 1).result ≡ Refused NotStruck
+pub refusal_20 : (restored Cost worked (with_figure 2600) 1).result ≡ Err NotStruck
 unfolding restored restore_acceptance struck_acceptance numbered_acceptance lent_acceptance acceptance edges_acceptance edge_acceptance all_below
 refusal_20 = refl
 
 -- the mark 2
-pub refusal_21 : acceptance (columns 5 (0 ∷ []) (0 ∷ []) (2 ∷ []) (0 ∷ 0 ∷ []) []) ≡ Refused (StrikeMark (record { 0 = 0 }))
+pub refusal_21 : acceptance (columns 5 (0 ∷ []) (0 ∷ []) (2 ∷ []) (0 ∷ 0 ∷ []) []) ≡ Err (StrikeMark (record { 0 = 0 }))
 unfolding acceptance edges_acceptance edge_acceptance
 refusal_21 = refl
 

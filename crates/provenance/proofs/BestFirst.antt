@@ -10,8 +10,6 @@ use native.Mathlib.Decide.{ℕ_discrete}
 use lib.Dec.{eqb}
 use borrow.Author.Tests.{eqb-true, eqb-false}
 use Rattle.weights.specs.declared.Label.{Label}
-use Rattle.weights.specs.declared.Offer.{Offer}
-use Rattle.weights.specs.declared.Offer.TheVariants.{Nothing, Found}
 use Rattle.weights.specs.Measures.{Algebra}
 use Rattle.weights.specs.Choice.{pick}
 use Rattle.weights.specs.Labels.{ahead_of}
@@ -21,6 +19,8 @@ use Rattle.weights.proofs.Order.{ahead_refl, ahead_trans, ranked}
 use Rattle.provenance.specs.Hypergraph.{Hypergraph}
 use Rattle.provenance.specs.Labelling.{Made, AllMade, weight_in, depth_in, none_zero, offer_of, Ready, candidate}
 use Rattle.provenance.specs.BestFirst.{earlier, offer, opening, next}
+use Rattle.weights.specs.Offers.{Offer}
+use Rattle.std.specs.Prelude.{Some, None}
 
 -- e is ready, and its head is unmade
 pub record Open (H : Hypergraph) (ls : ℕ → Label) (e : ℕ) : Type 0 where
@@ -54,35 +54,35 @@ tested ls (v ∷ vs) = go (eqb (ls v).depth 0) (none_zero (depth_in ls) vs) refl
 module _ (A : Algebra) (H : Hypergraph) (own : ℕ → ℕ) (ls : ℕ → Label) where
   -- what an offer tells
   pub data Offered (e : ℕ) : Offer → Type 0 where
-    given : Ready H ls e → Offered e (Found (candidate A H own ls e))
-    refused : ¬ Ready H ls e → Offered e Nothing
+    given : Ready H ls e → Offered e (Some (candidate A H own ls e))
+    refused : ¬ Ready H ls e → Offered e None
 
   pub offered : (e : ℕ) → e < H.edges → Offered e (offer A H own (weight_in ls) (depth_in ls) e)
   unfolding offer_of
   offered e h = go (H.live e) (none_zero (depth_in ls) (H.tail e)) refl (tested ls (H.tail e))
     where
-      go : (p q : Bool) → H.live e ≡ p → Tested ls (H.tail e) q → Offered e (pick p (pick q (Found (candidate A H own ls e)) Nothing) Nothing)
+      go : (p q : Bool) → H.live e ≡ p → Tested ls (H.tail e) q → Offered e (pick p (pick q (Some (candidate A H own ls e)) None) None)
       go false q p i = refused (λ r. let z : ◌≡◌ {A = ℕ} 0 1 = let y = r.stands.unstruck in cc in omega arith)
       go true true p (all x) = given (record { stands = record { numbered = h; unstruck = p }; tails = x })
       go true false p (some n) = refused (λ r. n r.tails)
 
   data Opened (e : ℕ) : Offer → Type 0 where
-    given : Open H ls e → Opened e (Found (candidate A H own ls e))
-    refused : ¬ Open H ls e → Opened e Nothing
+    given : Open H ls e → Opened e (Some (candidate A H own ls e))
+    refused : ¬ Open H ls e → Opened e None
 
   opened : (e : ℕ) → e < H.edges → Opened e (opening A H own (weight_in ls) (depth_in ls) e)
   unfolding opening
   opened e h = go (eqb (ls (H.head e)).depth 0) (offer A H own (weight_in ls) (depth_in ls) e) refl (offered e h)
     where
-      go : (p : Bool) (o : Offer) → eqb (ls (H.head e)).depth 0 ≡ p → Offered e o → Opened e (pick p o Nothing)
+      go : (p : Bool) (o : Offer) → eqb (ls (H.head e)).depth 0 ≡ p → Offered e o → Opened e (pick p o None)
       go true o p (Offered.given r) = Opened.given (record { ready = r; fresh = eqb-true _ _ p })
       go true o p (Offered.refused n) = Opened.refused (λ q. n q.ready)
       go false o p r = Opened.refused (λ q. eqb-false _ _ p q.fresh)
 
   -- what the first of the open hyperedges below k tells
   pub data Next (k : ℕ) : Offer → Type 0 where
-    stuck : ((e : ℕ) → e < k → ¬ Open H ls e) → Next k Nothing
-    found : (e : ℕ) → Open H ls e → ((e' : ℕ) → e' < k → Open H ls e' → Ahead A (candidate A H own ls e) (candidate A H own ls e')) → Next k (Found (candidate A H own ls e))
+    stuck : ((e : ℕ) → e < k → ¬ Open H ls e) → Next k None
+    found : (e : ℕ) → Open H ls e → ((e' : ℕ) → e' < k → Open H ls e' → Ahead A (candidate A H own ls e) (candidate A H own ls e')) → Next k (Some (candidate A H own ls e))
 
   below : (k : ℕ) {P : ℕ → Type 0} → ((e : ℕ) → e < k → P e) → P k → (e : ℕ) → e < suc k → P e
   below k {P} f p e h = go (ℕ_discrete e k)
@@ -98,7 +98,7 @@ module _ (A : Algebra) (H : Hypergraph) (own : ℕ → ℕ) (ls : ℕ → Label)
     extend k (found e o a) (Opened.refused c) = found e o (below k a (λ q. absurd (c q)))
     extend k (found e o a) (Opened.given o') = go (ahead_of A (candidate A H own ls e) (candidate A H own ls k)) (ranked L (candidate A H own ls e) (candidate A H own ls k))
       where
-        go : (b : Bool) → Ranked A (candidate A H own ls e) (candidate A H own ls k) b → Next (suc k) (pick b (Found (candidate A H own ls e)) (Found (candidate A H own ls k)))
+        go : (b : Bool) → Ranked A (candidate A H own ls e) (candidate A H own ls k) b → Next (suc k) (pick b (Some (candidate A H own ls e)) (Some (candidate A H own ls k)))
         go true (ahead p) = found e o (below k a (λ _. p))
         go false (behind n p) = found k o' (below k (λ e' h q. ahead_trans L p (a e' h q)) (λ _. ahead_refl L))
 

@@ -9,7 +9,6 @@ use native.Mathlib.Decide.{dec_le, ℕ_discrete}
 use lib.ListN.{get_or, set, replicate, length, length-set, length-replicate}
 use lib.Seq.{get_or-set_same, get_or-set_other, ext_get_or}
 use Rattle.weights.specs.declared.Label.{Label}
-use Rattle.weights.specs.declared.Offer.{Offer}
 use Rattle.weights.specs.Measures.{Algebra, weigh}
 use Rattle.weights.specs.Labels.{unmade}
 use Rattle.weights.specs.Laws.{InRange, Lawful}
@@ -22,6 +21,7 @@ use Rattle.provenance.proofs.Meaning.{unique}
 use Rattle.provenance.proofs.BestFirst.{Open, Next, stuck, found, next_is}
 use Rattle.columns.specs.Columns.{Answers, Sized}
 use Rattle.provenance.specs.BestFirst.{labels, put, blank, place, turn, turns, best_first}
+use Rattle.weights.specs.Offers.{Offer}
 
 -- a made label under f is the same under g
 abbrev Keeps : (ℕ → Label) → (ℕ → Label) → Type 0

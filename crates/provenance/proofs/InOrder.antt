@@ -11,8 +11,6 @@ use lib.ListN.{length-replicate}
 use lib.Dec.{eqb}
 use borrow.Author.Tests.{eqb-true, eqb-false}
 use Rattle.weights.specs.declared.Label.{Label}
-use Rattle.weights.specs.declared.Offer.{Offer}
-use Rattle.weights.specs.declared.Offer.TheVariants.{Nothing, Found}
 use Rattle.weights.specs.Measures.{Algebra, weigh}
 use Rattle.weights.specs.Choice.{pick}
 use Rattle.weights.specs.Labels.{unmade, ahead_of}
@@ -26,6 +24,8 @@ use Rattle.provenance.specs.BestFirst.{labels, put, blank, place, earlier, offer
 use Rattle.provenance.specs.InOrder.{InOrder, offer_to, first, walk, in_order}
 use Rattle.provenance.proofs.BestFirst.{Offered, offered}
 use Rattle.provenance.proofs.Existence.{zeros, at_blank, sized_put, put_here, put_elsewhere, columns_unique}
+use Rattle.weights.specs.Offers.{Offer}
+use Rattle.std.specs.Prelude.{Some, None}
 
 -- What `first` tells
 
@@ -36,21 +36,21 @@ module _ (A : Algebra) (H : Hypergraph) (own : ℕ → ℕ) (ls : ℕ → Label)
     pub yields : H.head e ≡ v
 
   data Told (e : ℕ) : Offer → Type 0 where
-    given : Due e → Told e (Found (candidate A H own ls e))
-    refused : ¬ Due e → Told e Nothing
+    given : Due e → Told e (Some (candidate A H own ls e))
+    refused : ¬ Due e → Told e None
 
   told : (e : ℕ) → e < H.edges → Told e (offer_to A H own (weight_in ls) (depth_in ls) v e)
   unfolding offer_to
   told e h = go (eqb (H.head e) v) (offer A H own (weight_in ls) (depth_in ls) e) refl (offered A H own ls e h)
     where
-      go : (p : Bool) (o : Offer) → eqb (H.head e) v ≡ p → Offered A H own ls e o → Told e (pick p o Nothing)
+      go : (p : Bool) (o : Offer) → eqb (H.head e) v ≡ p → Offered A H own ls e o → Told e (pick p o None)
       go true o p (Offered.given r) = Told.given (record { ready = r; yields = eqb-true _ _ p })
       go true o p (Offered.refused n) = Told.refused (λ q. n q.ready)
       go false o p r = Told.refused (λ q. eqb-false _ _ p q.yields)
 
   pub data First (k : ℕ) : Offer → Type 0 where
-    none : ((e : ℕ) → e < k → ¬ Due e) → First k Nothing
-    found : (e : ℕ) → Due e → ((e' : ℕ) → e' < k → Due e' → Ahead A (candidate A H own ls e) (candidate A H own ls e')) → First k (Found (candidate A H own ls e))
+    none : ((e : ℕ) → e < k → ¬ Due e) → First k None
+    found : (e : ℕ) → Due e → ((e' : ℕ) → e' < k → Due e' → Ahead A (candidate A H own ls e) (candidate A H own ls e')) → First k (Some (candidate A H own ls e))
 
   below : (k : ℕ) {P : ℕ → Type 0} → ((e : ℕ) → e < k → P e) → P k → (e : ℕ) → e < suc k → P e
   below k {P} f p e h = go (ℕ_discrete e k)
@@ -66,7 +66,7 @@ module _ (A : Algebra) (H : Hypergraph) (own : ℕ → ℕ) (ls : ℕ → Label)
     extend k (found e o a) (Told.refused c) = found e o (below k a (λ q. absurd (c q)))
     extend k (found e o a) (Told.given o') = go (ahead_of A (candidate A H own ls e) (candidate A H own ls k)) (ranked L (candidate A H own ls e) (candidate A H own ls k))
       where
-        go : (b : Bool) → Ranked A (candidate A H own ls e) (candidate A H own ls k) b → First (suc k) (pick b (Found (candidate A H own ls e)) (Found (candidate A H own ls k)))
+        go : (b : Bool) → Ranked A (candidate A H own ls e) (candidate A H own ls k) b → First (suc k) (pick b (Some (candidate A H own ls e)) (Some (candidate A H own ls k)))
         go true (ahead p) = found e o (below k a (λ _. p))
         go false (behind n p) = found k o' (below k (λ e' h q. ahead_trans L p (a e' h q)) (λ _. ahead_refl L))
 

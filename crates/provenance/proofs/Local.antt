@@ -11,7 +11,6 @@ use lib.ListN.{get_or-eq_default}
 use lib.Dec.{ltb, eqb}
 use borrow.Author.Tests.{ltb-true, ltb-false, eqb-true, eqb-false}
 use Rattle.weights.specs.declared.Label.{Label}
-use Rattle.weights.specs.declared.Offer.{Offer}
 use Rattle.weights.specs.Measures.{Algebra}
 use Rattle.weights.specs.Choice.{pick}
 use Rattle.weights.proofs.Choice.{apart, both_true, both_false, pick-false}
@@ -26,6 +25,7 @@ use Rattle.provenance.specs.BestFirst.{labels, offer, best_first}
 use Rattle.provenance.proofs.BestFirst.{Offered, offered}
 use Rattle.provenance.proofs.Existence.{exists, columns_unique}
 use Rattle.provenance.specs.Local.{every, gives, keeps_up, vertex_right, edge_right}
+use Rattle.weights.specs.Offers.{Offer}
 
 not-blank : {l : Label} → Made l → ¬ (l.depth ≡ 0)
 not-blank a z = omega (arith, a.deep)

@@ -10,7 +10,6 @@ use lib.Dec.{eqb}
 use borrow.Author.Tests.{eqb-true, eq-eqb, ne_eqb}
 use Rattle.weights.specs.declared.Measure.{Measure}
 use Rattle.weights.specs.declared.Label.{Label}
-use Rattle.weights.specs.declared.Offer.TheVariants.{Nothing, Found}
 use Rattle.weights.specs.Figures.{over, none}
 use Rattle.weights.specs.Measures.{Algebra, algebra, weigh}
 use Rattle.weights.specs.Choice.{pick}
@@ -24,6 +23,7 @@ use Rattle.provenance.specs.Labelling.{AllMade, depth_in, tail-weights, each, gr
 use Rattle.provenance.specs.Local.{gives, keeps_up}
 use Rattle.provenance.specs.Values.{value, UnmadeIn, Valueless, offer_at, gives_at, keeps_up_at}
 use Rattle.provenance.proofs.BestFirst.{not-zero}
+use Rattle.std.specs.Prelude.{Some, None}
 
 module _ (ls : ℕ → Label) where
   -- the test of a tail, of parts that are all made, and with one that is not
@@ -92,7 +92,7 @@ module _ (m : Measure) (live : Bool) (own : ℕ) (tail : List ℕ) (w d : ℕ �
       g : ℕ
       g = greatest_depth d tail + 1
 
-      go : (p q : Bool) → pick p (pick q (Found (label x g e)) Nothing) Nothing ≡ offer_at (pick p (pick q x none) none) (pick p (pick q g 0) 0) e
+      go : (p q : Bool) → pick p (pick q (Some (label x g e)) None) None ≡ offer_at (pick p (pick q x none) none) (pick p (pick q g 0) 0) e
       go true true = rw (ne_eqb x none (value_finite m own (each w tail)).1)
       go true false = refl
       go false q = refl
@@ -112,7 +112,7 @@ module _ (A : Algebra) (live : Bool) (own : ℕ) (tail : List ℕ) (w d : ℕ �
       no_made : (z : ℕ) → pick (eqb z y) (eqb 0 t) false ≡ false
       no_made z = rw (ne_eqb 0 t (λ p. n (sym p))) (pick-false (eqb z y))
 
-      go : (p q : Bool) → gives_at (pick p (pick q x none) none) (pick p (pick q g 0) 0) y t ≡ gives (pick p (pick q (Found (label x g e)) Nothing) Nothing) y t
+      go : (p q : Bool) → gives_at (pick p (pick q x none) none) (pick p (pick q g 0) 0) y t ≡ gives (pick p (pick q (Some (label x g e)) None) None) y t
       go true true = refl
       go true false = no_made none
       go false q = no_made none
@@ -121,7 +121,7 @@ module _ (A : Algebra) (live : Bool) (own : ℕ) (tail : List ℕ) (w d : ℕ �
   unfolding offer_of value_of height_of
   keeps_up-value l = go live (none_zero d tail)
     where
-      go : (p q : Bool) → keeps_up_at A l (pick p (pick q x none) none) (pick p (pick q g 0) 0) e ≡ keeps_up A l (pick p (pick q (Found (label x g e)) Nothing) Nothing)
+      go : (p q : Bool) → keeps_up_at A l (pick p (pick q x none) none) (pick p (pick q g 0) 0) e ≡ keeps_up A l (pick p (pick q (Some (label x g e)) None) None)
       go true true = rw (ne_eqb g 0 (λ p. omega arith))
       go true false = refl
       go false q = refl

@@ -1,16 +1,15 @@
 -- Best-first (document 000, Algorithm 1), as an executable definition over the three answer columns: `vertices` turns from all unmade; a turn takes the first of
 -- the candidates of ready hyperedges whose head is unmade, and labels that head with it. This is what contracts equate the answer columns with.
 -- Assumes nothing: these are definitions.
-use Rattle.std.specs.Prelude.{ℕ, zero, suc, get_or, set, replicate, eqb}
+use Rattle.std.specs.Prelude.{ℕ, zero, suc, get_or, set, replicate, eqb, Some, None}
 use Rattle.weights.specs.declared.Label.{Label}
-use Rattle.weights.specs.declared.Offer.{Offer}
-use Rattle.weights.specs.declared.Offer.TheVariants.{Nothing, Found}
 use Rattle.weights.specs.Measures.{Algebra}
 use Rattle.weights.specs.Choice.{pick}
 use Rattle.weights.specs.Labels.{label, ahead_of}
 use Rattle.columns.specs.Columns.{Answers}
 use Rattle.provenance.specs.Hypergraph.{Hypergraph}
 use Rattle.provenance.specs.Labelling.{weight_in, depth_in, offer_of}
+use Rattle.weights.specs.Offers.{Offer}
 
 -- the label of v
 abbrev pub labels : Answers → ℕ → Label
@@ -26,9 +25,9 @@ blank n = record { weights = replicate n 0; depths = replicate n 0; edges = repl
 
 -- the first of two offers
 abbrev pub earlier : Algebra → Offer → Offer → Offer
-earlier A a Nothing = a
-earlier A Nothing (Found b) = Found b
-earlier A (Found a) (Found b) = pick (ahead_of A a b) (Found a) (Found b)
+earlier A a None = a
+earlier A None (Some b) = Some b
+earlier A (Some a) (Some b) = pick (ahead_of A a b) (Some a) (Some b)
 
 module _ (A : Algebra) (H : Hypergraph) (own : ℕ → ℕ) where
   -- the candidate of hyperedge e, where it is ready
@@ -37,17 +36,17 @@ module _ (A : Algebra) (H : Hypergraph) (own : ℕ → ℕ) where
 
   -- the same, where its head is unmade
   unfoldable pub opening : (weight depth : ℕ → ℕ) → ℕ → Offer
-  opening w d e = pick (eqb (d (H.head e)) 0) (offer w d e) Nothing
+  opening w d e = pick (eqb (d (H.head e)) 0) (offer w d e) None
 
   -- the first of those of the hyperedges below k
   unfoldable pub next : (weight depth : ℕ → ℕ) → ℕ → Offer
-  next w d zero = Nothing
+  next w d zero = None
   next w d (suc k) = earlier A (next w d k) (opening w d k)
 
   -- a turn of the algorithm's loop
   abbrev pub place : Answers → Offer → Answers
-  place a Nothing = a
-  place a (Found l) = put a (H.head l.edge.0) l
+  place a None = a
+  place a (Some l) = put a (H.head l.edge.0) l
 
   unfoldable pub turn : Answers → Answers
   turn a = place a (next (weight_in (labels a)) (depth_in (labels a)) H.edges)

@@ -1,15 +1,14 @@
 -- Labellings: a label (figure, depth, line) for each vertex; what a hyperedge gives from the labels of its tail; and the fixpoint, the local condition that a
 -- right labelling meets. Assumes nothing: these are definitions.
-use Rattle.std.specs.Prelude.{◌≡◌, Bool, true, false, List, [], ◌∷◌, ℕ, ◌+◌, ◌<◌, max, eqb}
+use Rattle.std.specs.Prelude.{◌≡◌, Bool, true, false, List, [], ◌∷◌, ℕ, ◌+◌, ◌<◌, max, eqb, Some, None}
 use Rattle.weights.specs.declared.Label.{Label}
-use Rattle.weights.specs.declared.Offer.{Offer}
-use Rattle.weights.specs.declared.Offer.TheVariants.{Nothing, Found}
 use Rattle.weights.specs.Figures.{none as no_figure}
 use Rattle.weights.specs.Measures.{Algebra, weigh}
 use Rattle.weights.specs.Choice.{pick}
 use Rattle.weights.specs.Labels.{label, unmade}
 use Rattle.weights.specs.Order.{Ahead}
 use Rattle.provenance.specs.Hypergraph.{Hypergraph, Stands}
+use Rattle.weights.specs.Offers.{Offer}
 
 -- depth 0 occurs only for unmade
 pub record Made (l : Label) : Type 0 where
@@ -51,7 +50,7 @@ yield A own tail w d e = label (weigh A own (each w tail)) (greatest_depth d tai
 
 -- the same, unless it is struck or a vertex of its tail is unmade
 unfoldable pub offer_of : Algebra → (live : Bool) (own : ℕ) → List ℕ → (weight depth : ℕ → ℕ) → ℕ → Offer
-offer_of A live own tail w d e = pick live (pick (none_zero d tail) (Found (yield A own tail w d e)) Nothing) Nothing
+offer_of A live own tail w d e = pick live (pick (none_zero d tail) (Some (yield A own tail w d e)) None) None
 
 -- a line's value, "the figure that its own figure and the lent figures of its parts give" (document 02, 2026-04), or none; and the depth that it gives, or 0
 unfoldable pub value_of : Algebra → (live : Bool) (own : ℕ) → List ℕ → (weight depth : ℕ → ℕ) → ℕ

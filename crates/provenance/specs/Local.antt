@@ -1,15 +1,14 @@
 -- The local test of a labelling: one test for each vertex (its label is blank, or what its own hyperedge offers) and one for each hyperedge (its head's label does
 -- not come after its offer). All pass exactly if the labelling is the fixpoint. This is how answers are checked without settling. Assumes nothing: these are definitions.
-use Rattle.std.specs.Prelude.{Bool, true, false, ℕ, zero, suc, ltb, eqb}
+use Rattle.std.specs.Prelude.{Bool, true, false, ℕ, zero, suc, ltb, eqb, Some, None}
 use Rattle.weights.specs.declared.Label.{Label}
-use Rattle.weights.specs.declared.Offer.{Offer}
-use Rattle.weights.specs.declared.Offer.TheVariants.{Nothing, Found}
 use Rattle.weights.specs.Measures.{Algebra}
 use Rattle.weights.specs.Choice.{pick}
 use Rattle.weights.specs.Labels.{ahead_of}
 use Rattle.provenance.specs.Hypergraph.{Hypergraph}
 use Rattle.provenance.specs.Labelling.{weight_in, depth_in}
 use Rattle.provenance.specs.BestFirst.{offer}
+use Rattle.weights.specs.Offers.{Offer}
 
 -- p holds below n
 unfoldable pub every : (ℕ → Bool) → ℕ → Bool
@@ -18,13 +17,13 @@ every p (suc k) = pick (p k) (every p k) false
 
 -- the offer is of this weight and depth
 abbrev pub gives : Offer → (w d : ℕ) → Bool
-gives Nothing w d = false
-gives (Found x) w d = pick (eqb x.weight.0 w) (eqb x.depth d) false
+gives None w d = false
+gives (Some x) w d = pick (eqb x.weight.0 w) (eqb x.depth d) false
 
 -- a head with the label l does not come after what one of its hyperedges offers
 abbrev pub keeps_up : Algebra → Label → Offer → Bool
-keeps_up A l Nothing = true
-keeps_up A l (Found x) = pick (eqb l.depth 0) false (ahead_of A l x)
+keeps_up A l None = true
+keeps_up A l (Some x) = pick (eqb l.depth 0) false (ahead_of A l x)
 
 module _ (A : Algebra) (H : Hypergraph) (own : ℕ → ℕ) (ls : ℕ → Label) where
   -- the label of v is blank, or what its own hyperedge offers

@@ -1,16 +1,15 @@
 -- The value of a line, worked out once from a labelling (document 02, 2026-04), and the depth that it gives: which lines have one, and what a line offers in terms of
 -- them. Assumes nothing: these are definitions.
-use Rattle.std.specs.Prelude.{◌≡◌, Bool, true, false, ℕ, eqb}
+use Rattle.std.specs.Prelude.{◌≡◌, Bool, true, false, ℕ, eqb, Some, None}
 use mathlib.Core.List.{List, Memᴰ}
 use Rattle.weights.specs.declared.Label.{Label}
-use Rattle.weights.specs.declared.Offer.{Offer}
-use Rattle.weights.specs.declared.Offer.TheVariants.{Nothing, Found}
 use Rattle.weights.specs.Figures.{none}
 use Rattle.weights.specs.Measures.{Algebra}
 use Rattle.weights.specs.Choice.{pick}
 use Rattle.weights.specs.Labels.{label, ahead_of}
 use Rattle.provenance.specs.Hypergraph.{Hypergraph}
 use Rattle.provenance.specs.Labelling.{weight_in, depth_in, value_of, height_of}
+use Rattle.weights.specs.Offers.{Offer}
 
 module _ (A : Algebra) (H : Hypergraph) (own : ℕ → ℕ) (ls : ℕ → Label) where
   abbrev pub value : ℕ → ℕ
@@ -32,7 +31,7 @@ pub data Valueless (H : Hypergraph) (ls : ℕ → Label) (e : ℕ) : Type 0 wher
 
 -- what a line of this value and height offers
 abbrev pub offer_at : (value height e : ℕ) → Offer
-offer_at x h e = pick (eqb x none) Nothing (Found (label x h e))
+offer_at x h e = pick (eqb x none) None (Some (label x h e))
 
 -- a part of this figure and of a depth above 0 has what a line of this value and height offers: a line without a value has height 0, which is no such part's depth
 abbrev pub gives_at : (value height : ℕ) → (w d : ℕ) → Bool

@@ -11,8 +11,6 @@ use lib.Dec.{eqb}
 use borrow.Author.Tests.{eq-eqb, ne_eqb, eqb-true, eqb-false}
 use Rattle.weights.specs.Lists.{member}
 use Rattle.weights.specs.declared.Measure.{Measure}
-use Rattle.weights.specs.declared.Offer.{Offer}
-use Rattle.weights.specs.declared.Offer.TheVariants.{Nothing, Found}
 use Rattle.weights.specs.Choice.{pick}
 use Rattle.weights.specs.Measures.{Algebra, algebra, weigh}
 use Rattle.weights.proofs.Laws.{lawful, below_over}
@@ -26,6 +24,8 @@ use Rattle.minima.proofs.Laws.{least_at_most, least_lower, least_greatest, lower
 use Rattle.queue.specs.Keys.{heavy, packed, unpacked, Fits, Fitting, nothing, found, key_of}
 use Rattle.queue.proofs.Packing.{unpacked-packed, below_none, key_earlier, fitting_earlier}
 use Rattle.queue.specs.Queue.{least_with, offered, key_at, Queued, Fitted}
+use Rattle.weights.specs.Offers.{Offer}
+use Rattle.std.specs.Prelude.{Some, None}
 
 -- The least key with a head ---------------------------------------------------------------------------------------------------------------------
 
@@ -192,16 +192,16 @@ module _ (A : Algebra) (H : Hypergraph) (own w d w' d' : ℕ → ℕ) (v : ℕ) 
       )
 
 -- a hyperedge offers nothing where a vertex of its tail is unmade, or its head is made
-pub open_unmade : (A : Algebra) (H : Hypergraph) (own w d : ℕ → ℕ) (v e : ℕ) → d v ≡ 0 → member v (H.tail e) ≡ true → opening A H own w d e ≡ Nothing
+pub open_unmade : (A : Algebra) (H : Hypergraph) (own w d : ℕ → ℕ) (v e : ℕ) → d v ≡ 0 → member v (H.tail e) ≡ true → opening A H own w d e ≡ None
 unfolding opening offer_of
 open_unmade A H own w d v e z m = rw (zero_stops d v (H.tail e) z m) (none_of (eqb (d (H.head e)) 0) (H.live e))
   where
-    none_of : (p q : Bool) → pick {A = Offer} p (pick q Nothing Nothing) Nothing ≡ Nothing
+    none_of : (p q : Bool) → pick {A = Offer} p (pick q None None) None ≡ None
     none_of true true = refl
     none_of true false = refl
     none_of false q = refl
 
-pub open_made : (A : Algebra) (H : Hypergraph) (own w d : ℕ → ℕ) (e : ℕ) → d (H.head e) ≢ 0 → opening A H own w d e ≡ Nothing
+pub open_made : (A : Algebra) (H : Hypergraph) (own w d : ℕ → ℕ) (e : ℕ) → d (H.head e) ≢ 0 → opening A H own w d e ≡ None
 unfolding opening
 open_made A H own w d e n = rw (ne_eqb _ _ n)
 
@@ -217,17 +217,17 @@ open_fits m H own w d e f h = go (eqb (d (H.head e)) 0) (H.live e) (none_zero d 
     fits : Fits (yield (algebra m) (own e) (H.tail e) w d e)
     fits = record { weight = weigh_below m (own e) (each w (H.tail e)); depth = omega (arith, greatest_at_most d 2046 f.depth (H.tail e)); edge = h }
 
-    go : (p q r : Bool) → Fitting (pick p (pick q (pick r (Found (yield (algebra m) (own e) (H.tail e) w d e)) Nothing) Nothing) Nothing)
+    go : (p q r : Bool) → Fitting (pick p (pick q (pick r (Some (yield (algebra m) (own e) (H.tail e) w d e)) None) None) None)
     go false q r = nothing
     go true false r = nothing
     go true true false = nothing
     go true true true = found fits
 
 -- what a key tells of the offer
-pub told_nothing : (m : Measure) {o : Offer} (k : ℕ) → Fitting o → k ≡ key_of m o → k ≡ none → Nothing ≡ o
+pub told_nothing : (m : Measure) {o : Offer} (k : ℕ) → Fitting o → k ≡ key_of m o → k ≡ none → None ≡ o
 told_nothing m k nothing p z = refl
 told_nothing m k (found {l = l} f) p z = absurd (omega (arith, below_none m l f))
 
-pub told_found : (m : Measure) {o : Offer} (k : ℕ) → Fitting o → k ≡ key_of m o → k ≢ none → Found (unpacked m k) ≡ o
+pub told_found : (m : Measure) {o : Offer} (k : ℕ) → Fitting o → k ≡ key_of m o → k ≢ none → Some (unpacked m k) ≡ o
 told_found m k nothing p n = absurd (n p)
-told_found m k (found {l = l} f) p n = ap Found (ap (unpacked m) p ∙ unpacked-packed m l f)
+told_found m k (found {l = l} f) p n = ap Some (ap (unpacked m) p ∙ unpacked-packed m l f)

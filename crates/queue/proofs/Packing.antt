@@ -9,8 +9,6 @@ use borrow.Author.Tests.{le-leb, leb-true}
 use Rattle.weights.specs.declared.Measure.{Measure}
 use Rattle.weights.specs.declared.Measure.TheVariants.{Cost, Days, Grade}
 use Rattle.weights.specs.declared.Label.{Label}
-use Rattle.weights.specs.declared.Offer.{Offer}
-use Rattle.weights.specs.declared.Offer.TheVariants.{Found}
 use Rattle.weights.specs.Measures.{algebra}
 use Rattle.weights.specs.Choice.{pick}
 use Rattle.weights.specs.Labels.{ahead_of}
@@ -21,6 +19,8 @@ use Rattle.weights.proofs.Order.{ranked}
 use Rattle.provenance.specs.BestFirst.{earlier}
 use Rattle.minima.specs.Minima.{none}
 use Rattle.queue.specs.Keys.{heavy, rank, packed, unpacked, Fits, Fitting, nothing, found, key_of}
+use Rattle.weights.specs.Offers.{Offer}
+use Rattle.std.specs.Prelude.{Some}
 
 -- the rank of a weight that has room has room; taken twice it is the weight; and its order is the measure's
 pub rank_below : (m : Measure) (w : ℕ) → w < heavy → rank m w < heavy
@@ -72,7 +72,7 @@ key_earlier m nothing (found {l = l} g) = omega (arith, below_none m l g)
 key_earlier m (found {l = l} f) nothing = omega (arith, below_none m l f)
 key_earlier m (found {l = a} f) (found {l = b} g) = go (ahead_of (algebra m) a b) (ranked (lawful m) a b)
   where
-    go : (t : Bool) → Ranked (algebra m) a b t → key_of m (pick t (Found a) (Found b)) ≡ min (packed m a) (packed m b)
+    go : (t : Bool) → Ranked (algebra m) a b t → key_of m (pick t (Some a) (Some b)) ≡ min (packed m a) (packed m b)
     go true (ahead p) = omega (arith, packed-ahead m a b f g p)
     go false (behind n p) = omega (arith, packed-ahead m b a g f p)
 
@@ -81,7 +81,7 @@ fitting_earlier m f nothing = f
 fitting_earlier m nothing (found g) = found g
 fitting_earlier m (found {l = a} f) (found {l = b} g) = go (ahead_of (algebra m) a b)
   where
-    go : (t : Bool) → Fitting (pick t (Found a) (Found b))
+    go : (t : Bool) → Fitting (pick t (Some a) (Some b))
     go true = found f
     go false = found g
 

@@ -1,13 +1,12 @@
 -- A label as one number, its key: 40 bits of the weight's rank, 11 of depth and 12 of hyperedge, so that keys are compared where labels would be. An offer of
 -- nothing has the key of none. Assumes nothing: these are definitions.
-use Rattle.std.specs.Prelude.{ℕ, ◌+◌, ◌*◌, ◌-◌, ◌/◌, ◌%◌, ◌<◌}
+use Rattle.std.specs.Prelude.{ℕ, ◌+◌, ◌*◌, ◌-◌, ◌/◌, ◌%◌, ◌<◌, Some, None}
 use Rattle.weights.specs.declared.Measure.{Measure}
 use Rattle.weights.specs.declared.Measure.TheVariants.{Cost, Days, Grade}
 use Rattle.weights.specs.declared.Label.{Label}
-use Rattle.weights.specs.declared.Offer.{Offer}
-use Rattle.weights.specs.declared.Offer.TheVariants.{Nothing, Found}
 use Rattle.weights.specs.Labels.{label}
 use Rattle.minima.specs.Minima.{none}
+use Rattle.weights.specs.Offers.{Offer}
 
 -- weights below it have room in a key
 abbrev pub heavy : ℕ
@@ -32,9 +31,9 @@ pub record Fits (l : Label) : Type 0 where
   pub edge : l.edge.0 < 4096
 
 pub data Fitting : Offer → Type 0 where
-  nothing : Fitting Nothing
-  found : {l : Label} → Fits l → Fitting (Found l)
+  nothing : Fitting None
+  found : {l : Label} → Fits l → Fitting (Some l)
 
 abbrev pub key_of : Measure → Offer → ℕ
-key_of m Nothing = none
-key_of m (Found l) = packed m l
+key_of m None = none
+key_of m (Some l) = packed m l

@@ -1,15 +1,14 @@
 -- The waiting labels, as keys: for every unmade vertex the first of the candidates of its ready hyperedges. Document 000, Algorithm 1 (the queue of items to be
 -- labelled). What a queue holds is said by `Queued`. Assumes nothing: these are definitions.
-use Rattle.std.specs.Prelude.{ℕ, zero, suc, ◌≤◌, ◌<◌, min, ◌≡◌, List, eqb}
+use Rattle.std.specs.Prelude.{ℕ, zero, suc, ◌≤◌, ◌<◌, min, ◌≡◌, List, eqb, Some, None}
 use Rattle.weights.specs.declared.Measure.{Measure}
-use Rattle.weights.specs.declared.Offer.{Offer}
-use Rattle.weights.specs.declared.Offer.TheVariants.{Nothing, Found}
 use Rattle.weights.specs.Choice.{pick}
 use Rattle.weights.specs.Measures.{algebra}
 use Rattle.provenance.specs.Hypergraph.{Hypergraph}
 use Rattle.provenance.specs.BestFirst.{opening}
 use Rattle.minima.specs.Minima.{none, leaves, key_in, Grouped, lowered}
 use Rattle.queue.specs.Keys.{heavy, packed, key_of}
+use Rattle.weights.specs.Offers.{Offer}
 
 -- of k hyperedges with these keys and heads: the least key of those with head u
 unfoldable pub least_with : (key head : ℕ → ℕ) → (u k : ℕ) → ℕ
@@ -18,8 +17,8 @@ least_with key head u (suc k) = min (least_with key head u k) (pick (eqb (head k
 
 -- vertex v is offered a candidate, or none
 abbrev pub offered : Measure → List ℕ → ℕ → Offer → List ℕ
-offered m q v Nothing = q
-offered m q v (Found l) = lowered q v (packed m l)
+offered m q v None = q
+offered m q v (Some l) = lowered q v (packed m l)
 
 module _ (m : Measure) (H : Hypergraph) (own weight depth : ℕ → ℕ) where
   -- the key of what hyperedge e has to offer

@@ -3,29 +3,22 @@
 
 #![tactic(auto)]
 
-ghost use Rattle.std.specs.Prelude.{◌≡◌, ◌-◌};
-ghost use Rattle.queue.specs.Keys.{heavy, rank, packed, unpacked, Fits};
+ghost use Rattle.std.specs.Prelude.{◌≡◌};
+ghost use Rattle.queue.specs.Keys.{rank, packed, unpacked, Fits};
 
 use weights::{Hyperedge, Label, Measure, Weight};
 
-// The weights of a key mirrored, so that the greater comes first.
-fn mirror(weight: u64) -> u64
-    ensures { result ≡ heavy - 1 - weight }
-{
-    if weight > 1099511627775 {
-        return 0;
-    }
-    1099511627775 - weight
-}
+// The greatest weight that has room in a key.
+const HEAVIEST: u64 = 1099511627775;
 
-// The place of a weight in the measure's order, and the weight of such a place.
+// The place of a weight in the measure's order, and the weight of such a place. Grades are mirrored,
+// so that the greater comes first.
 fn rank(measure: Measure, weight: u64) -> u64
     ensures { result ≡ rank measure weight }
 {
     match measure {
-        Measure::Cost => weight,
-        Measure::Days => weight,
-        Measure::Grade => mirror(weight),
+        Measure::Cost | Measure::Days => weight,
+        Measure::Grade => HEAVIEST.saturating_sub(weight),
     }
 }
 

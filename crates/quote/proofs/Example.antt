@@ -5,7 +5,6 @@ use Prim.Native.Nat.{ℕ}
 use Rattle.weights.specs.declared.Measure.TheVariants.{Cost}
 use Rattle.weights.specs.Measures.{fold, weigh}
 use Rattle.weights.specs.Labels.{ahead_of}
-use Rattle.refusal.specs.declared.Acceptance.TheVariants.{Accepted}
 use Rattle.columns.specs.Worked.{worked}
 use Rattle.columns.specs.Same.{equal, same_answers, same_entries}
 use Rattle.columns.specs.Acceptance.{all_below, edge_acceptance, edges_acceptance, acceptance, lent_acceptance}
@@ -22,8 +21,9 @@ use Rattle.report.specs.Report.{state_word}
 use Rattle.reply.specs.Reply.{answered}
 use Rattle.quote.specs.Quote.{most_lines, row, rows, last_row, sheet, bill_said}
 use Rattle.quote.proofs.Quoted.{quoted}
+use Rattle.std.specs.Prelude.{Ok}
 
-accepted : bill_acceptance Cost worked (entries_of Cost worked) 2 most_lines ≡ Accepted
+accepted : bill_acceptance Cost worked (entries_of Cost worked) 2 most_lines ≡ Ok tt
 unfolding fold weigh ahead_of each greatest_depth none_zero offer_of opening next turn turns best_first answers_of entries_of below pieces_at piece total bill bills equal same_answers same_entries all_below edge_acceptance edges_acceptance acceptance lent_acceptance bill_of part_acceptance bill_acceptance
 accepted = refl
 

@@ -9,8 +9,6 @@ use lib.Seq.{take-append_seam}
 use Rattle.weights.specs.declared.Measure.{Measure}
 use Rattle.weights.specs.declared.Label.{Label}
 use Rattle.refusal.specs.declared.Refusal.{Refusal}
-use Rattle.refusal.specs.declared.Acceptance.{Acceptance}
-use Rattle.refusal.specs.declared.Acceptance.TheVariants as answer
 use Rattle.refusal.specs.Refusals.{place_of, column_of}
 use Rattle.columns.specs.Columns.{Entries, Columns, head_at, own_at}
 use Rattle.columns.specs.Right.{RightTable, WrongEdge, WrongTable, WrongLent}
@@ -31,6 +29,8 @@ use Rattle.reply.specs.Reply.{most_reply, Said, answered, refused_by, on_extent}
 use Rattle.quote.specs.Quote.{most_lines, most_row, row, rows, last, sheet, said_of, bill_said}
 use Rattle.quote.specs.Quoted.{Quoted}
 use Rattle.quote.proofs.Rows.{row_split, row_most, last_split, last_most}
+use Rattle.refusal.specs.Answers.{Acceptance}
+use Rattle.std.specs.Prelude.{Ok, Err}
 
 -- How long rows are ------------------------------------------------------------------------------------------------------------------------------
 
@@ -147,10 +147,10 @@ module _ (m : Measure) (c : Columns) (a : Entries) (v : ℕ) where
   fits = go (bill_acceptance m c a v most_lines) refl
     where
       go : (x : Acceptance) → bill_acceptance m c a v most_lines ≡ x → length (bill_said m c a v).bytes ≤ most_reply
-      go answer.Accepted p =
+      go (Ok _) p =
           let g = (bill_exactly m c a v most_lines).0 p in
           subst (λ (s : Said). length s.bytes ≤ most_reply) (sym (bill_printed g)) (sheet_short g)
-      go (answer.Refused r) p =
+      go (Err r) p =
           let g = (bill_refused_exactly m c a v most_lines r).0 p in
           let l = bill_low g in
           let w = refused_most r l.0 l.1 in

@@ -7,10 +7,6 @@ use lib.ListN.{length, take, drop, replicate, length-append, length-replicate}
 use Rattle.weights.specs.declared.Measure.{Measure}
 use Rattle.weights.specs.declared.Entry.{Entry}
 use Rattle.refusal.specs.declared.Refusal.{Refusal}
-use Rattle.refusal.specs.declared.Acceptance.{Acceptance}
-use Rattle.refusal.specs.declared.Acceptance.TheVariants as answer
-use Rattle.refusal.specs.declared.Extent.{Extent}
-use Rattle.refusal.specs.declared.Extent.TheVariants.{Length, Refused}
 use Rattle.columns.specs.Columns.{Entries, Columns, columns}
 use Rattle.settle.specs.Settling.{entry_at}
 use Rattle.columns.specs.Owed.{Outcome}
@@ -24,15 +20,17 @@ use Rattle.reply.specs.declared.Reply.{Reply}
 use Rattle.reply.specs.Reply.{Said, answered, refused_by, on_extent, Replied}
 use Rattle.quote.specs.Quote.{most_lines, rows, last, sheet, said_of, bill_said}
 use Rattle.quote.proofs.Rows.{rows_read}
+use Rattle.refusal.specs.Answers.{Acceptance, Extent}
+use Rattle.std.specs.Prelude.{Ok, Err}
 
 -- a bill that is printed is no longer than the room
-size_within : (m : Measure) (c : Columns) (a : Entries) (v : ℕ) (room : List ℕ) (size : ℕ) → (billed m c a v room).result ≡ Length size → size ≤ length room
+size_within : (m : Measure) (c : Columns) (a : Entries) (v : ℕ) (room : List ℕ) (size : ℕ) → (billed m c a v room).result ≡ Ok size → size ≤ length room
 unfolding billed
 size_within m c a v room size e = go (bill_acceptance m c a v (length room)) refl e
   where
-    go : (x : Acceptance) → bill_acceptance m c a v (length room) ≡ x → (outcome x (bill_of c a.labels v) room).result ≡ Length size → size ≤ length room
-    go (answer.Refused r) p q = let z : ◌≡◌ {A = ℕ} 0 1 = cc in absurd (omega arith)
-    go answer.Accepted p q = let h : size ≡ length (bill_of c a.labels v) = cc in let r = ((bill_exactly m c a v (length room)).0 p).room in omega arith
+    go : (x : Acceptance) → bill_acceptance m c a v (length room) ≡ x → (outcome x (bill_of c a.labels v) room).result ≡ Ok size → size ≤ length room
+    go (Err r) p q = let z : ◌≡◌ {A = ℕ} 0 1 = cc in absurd (omega arith)
+    go (Ok _) p q = let h : size ≡ length (bill_of c a.labels v) = cc in let r = ((bill_exactly m c a v (length room)).0 p).room in omega arith
 
 module _ (m : Measure) (c : Columns) (a : Entries) (v : ℕ) (x : Extent) (lines : List ℕ) (q : record { result = x; left = lines } ≡ billed m c a v (replicate most_lines 0)) where
   said : bill_said m c a v ≡ on_extent x (λ k. answered (sheet c a v (take k lines)))
@@ -40,15 +38,15 @@ module _ (m : Measure) (c : Columns) (a : Entries) (v : ℕ) (x : Extent) (lines
   said = ap (said_of c a v) (sym q)
 
   -- it is refused
-  pub reply_refused : (r : Refusal) → x ≡ Refused r → (old : List ℕ) (y : Reply) (room : List ℕ) → Replied (refused_by r) old y room → Replied (bill_said m c a v) old y room
+  pub reply_refused : (r : Refusal) → x ≡ Err r → (old : List ℕ) (y : Reply) (room : List ℕ) → Replied (refused_by r) old y room → Replied (bill_said m c a v) old y room
   unfolding on_extent
   reply_refused r e old y room w =
       let p = said ∙ ap (λ (z : Extent). on_extent z (λ k. answered (sheet c a v (take k lines)))) e in
       subst (λ (z : Said). Replied z old y room) (sym p) w
 
   -- it has k lines
-  module _ (k : ℕ) (e : x ≡ Length k) where
-    result_is : (billed m c a v (replicate most_lines 0)).result ≡ Length k
+  module _ (k : ℕ) (e : x ≡ Ok k) where
+    result_is : (billed m c a v (replicate most_lines 0)).result ≡ Ok k
     result_is = sym (ap (λ (o : Outcome Extent (List ℕ)). o.result) q) ∙ e
 
     pub lines_few : k ≤ most_lines

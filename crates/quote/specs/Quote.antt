@@ -3,7 +3,6 @@ use Rattle.std.specs.Prelude.{ℕ, List, [], ◌∷◌, ◌++◌, replicate, tak
 use Rattle.weights.specs.declared.Measure.{Measure}
 use Rattle.weights.specs.declared.State.{State}
 use Rattle.weights.specs.declared.Entry.{Entry}
-use Rattle.refusal.specs.declared.Extent.{Extent}
 use Rattle.columns.specs.Columns.{Entries, Columns, head_at, own_at}
 use Rattle.columns.specs.Owed.{Outcome}
 use Rattle.settle.specs.Settling.{entry_at}
@@ -11,6 +10,7 @@ use Rattle.bill.specs.Billing.{billed}
 use Rattle.text.specs.Render.{digits}
 use Rattle.report.specs.Report.{state_word}
 use Rattle.reply.specs.Reply.{Said, answered, on_extent}
+use Rattle.refusal.specs.Answers.{Extent}
 
 -- the most lines of a bill that is printed; a longer one is refused by 13
 abbrev pub most_lines : ℕ

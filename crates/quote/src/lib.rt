@@ -1,14 +1,17 @@
 // A bill as rows to quote from: a row for each of its lines, and last one with the part's figure.
+//
+// Kept: columns and rooms are lent, or arrays of a fixed size: the library and its programs use no heap.
 
 #![tactic(auto)]
 
 ghost use Rattle.std.specs.Prelude.{◌≡◌, [], ◌++◌, ◌+◌, ◌*◌, ◌≤◌, length};
-ghost use Rattle.columns.specs.Columns.{columns, entries, cell};
+ghost use Rattle.columns.specs.Columns.{columns, cell};
+ghost use Rattle.columns.specs.Given.{columns_of, entries_in};
 ghost use Rattle.writing.specs.Written.{Written};
 ghost use Rattle.reply.specs.Reply.{most_reply, Replied};
 ghost use Rattle.quote.specs.Quote.{most_row, most_last, row, rows, last_row, bill_said};
 
-use refusal::Extent;
+use columns::{Entries, Table};
 use reply::{Reply, Status, put_refusal};
 use report::put_stem;
 use weights::{Measure, State, Vertex};
@@ -21,11 +24,7 @@ pub const MOST_LINES: usize = 16384;
 fn cell(column: &[u64], line: u64) -> u64
     ensures { result ≡ cell column.now line }
 {
-    if line >= column.len() as u64 {
-        return 0;
-    }
-    let i = line as usize;
-    column[i]
+    column.get(line as usize).copied().unwrap_or(0)
 }
 
 // The row of a line. Its part and its figure are written as a list of numbers is.
@@ -51,11 +50,8 @@ fn put_rows(room: &mut [u8], heads: &[u64], own: &[u64], lines: &[u64]) -> usize
     ensures upper_bound { result ≤ most_row * length lines.now }
 {
     let mut at: usize = 0;
-    let mut i = 0;
-    while i < lines.len() {
-        let line = lines[i];
-        at += put_row(&mut room[at..], heads, own, line);
-        i += 1;
+    for line in lines {
+        at += put_row(&mut room[at..], heads, own, *line);
     }
     at
 }
@@ -95,33 +91,23 @@ fn put_sheet(
 pub fn put_bill(
     room: &mut [u8],
     measure: Measure,
-    n: u64,
-    heads: &[u64],
-    own: &[u64],
-    strikes: &[u64],
-    spans: &[u64],
-    tails: &[u64],
-    weights: &[u64],
-    depths: &[u64],
-    edges: &[u64],
-    pieces: &[u64],
+    table: &Table,
+    entries: &Entries,
     part: Vertex,
 ) -> Reply
     requires { most_reply ≤ length room.old }
-    ensures { let c = columns n heads.now own.now strikes.now spans.now tails.now in
-        let a = entries weights.now depths.now edges.now pieces.now in
+    ensures { let c = columns_of table.now in
+        let a = entries_in entries.now in
         Replied (bill_said measure c a part.0) room.old result room.new }
 {
+    let Table { heads, own, .. } = *table;
     let mut lines = [0u64; MOST_LINES];
-    let extent = bill::bill(
-        measure, n, heads, own, strikes, spans, tails, weights, depths, edges, pieces, part,
-        &mut lines,
-    );
+    let extent = bill::bill(measure, table, entries, part, &mut lines);
     match extent {
-        Extent::Refused(r) => return put_refusal(room, r),
-        Extent::Length(k) => {
+        Err(r) => return put_refusal(room, r),
+        Ok(k) => {
             let size = k as usize;
-            let entry = settle::entry(weights, depths, edges, pieces, part);
+            let entry = settle::entry(entries, part);
             let state = entry.state;
             let weight = entry.weight;
             let v = part.0;

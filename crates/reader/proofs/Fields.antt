@@ -17,17 +17,14 @@ use Rattle.columns.specs.Acceptance.{most_vertices}
 use Rattle.text.specs.Render.{digits, word, first_word, measure_text, header, mark_text, own_text}
 use Rattle.text.specs.Machine.{digit_of}
 use Rattle.text.proofs.Digits.{pick_by, digits_one, digits_more, by_digits, digit_byte, byte_digit}
-use Rattle.cursor.specs.declared.Found.{Found}
-use Rattle.cursor.specs.declared.Found.TheVariants.{Number, NotANumber}
 use Rattle.cursor.specs.declared.Token.{Token}
 use Rattle.cursor.specs.declared.WeightToken.{WeightToken}
-use Rattle.cursor.specs.declared.FoundWeight.{FoundWeight}
-use Rattle.cursor.specs.declared.FoundWeight.TheVariants.{Own, NotAWeight}
 use Rattle.cursor.specs.declared.Separator.{Separator}
 use Rattle.cursor.specs.declared.Separator.TheVariants.{Space, LineEnd, Neither}
-use Rattle.cursor.specs.Cursor.{token, digits_from, number_of, number_at, as_weight, weight_token, marked_from, weight_at, separator_at}
+use Rattle.cursor.specs.Cursor.{FoundWeight, token, digits_from, number_of, number_at, as_weight, weight_token, marked_from, weight_at, separator_at}
 use Rattle.cursor.proofs.Counts.{byte_within, number_counts}
 use Rattle.reading.specs.Lines.{agreeing, Opening, Opens, Unopened, on_named, on_count, on_counted, first_line}
+use Rattle.std.specs.Prelude.{Option, Some, None}
 
 -- Bytes ------------------------------------------------------------------------------------------------------------------------------------
 
@@ -77,9 +74,9 @@ module _ (s : List ℕ) (at : ℕ) where
 -- Numbers ------------------------------------------------------------------------------------------------------------------------------------
 
 -- the bytes bs are a number and what is behind it
-abbrev NumberText : (s bs : List ℕ) → (stop : ℕ) → Found → Type 0
-NumberText s bs stop (Number v) = bs ≡ digits v ++ drop stop s
-NumberText s bs stop NotANumber = Unit {0}
+abbrev NumberText : (s bs : List ℕ) → (stop : ℕ) → (Option ℕ) → Type 0
+NumberText s bs stop (Some v) = bs ≡ digits v ++ drop stop s
+NumberText s bs stop None = Unit {0}
 
 abbrev TokenText : (s bs : List ℕ) → Token → Type 0
 TokenText s bs t = NumberText s bs t.stop t.found
@@ -119,7 +116,7 @@ number_text_of s (b ∷ bs) at limit e =
     single : digit_of b < 10 → digits (digit_of b) ++ bs ≡ b ∷ bs
     single h = ap (λ (ds : List ℕ). ds ++ bs) (digits_one (digit_of b) h) ∙ ap (λ (x : ℕ). x ∷ bs) (sym (digit_byte b h))
 
-pub number_text : (s : List ℕ) (at limit start next v : ℕ) → number_at s at limit ≡ token start next (Number v) → drop at s ≡ digits v ++ drop next s
+pub number_text : (s : List ℕ) (at limit start next v : ℕ) → number_at s at limit ≡ token start next (Some v) → drop at s ≡ digits v ++ drop next s
 unfolding number_at
 number_text s at limit start next v e = subst (TokenText s (drop at s)) e (number_text_of s (drop at s) at limit refl)
 
@@ -128,7 +125,7 @@ abbrev pub Stops : List ℕ → Type 0
 Stops [] = Unit {0}
 Stops (b ∷ bs) = 10 ≤ digit_of b
 
-digits_stop : (bs : List ℕ) (start i limit v : ℕ) → Stops bs → digits_from bs start i limit v ≡ token start i (Number v)
+digits_stop : (bs : List ℕ) (start i limit v : ℕ) → Stops bs → digits_from bs start i limit v ≡ token start i (Some v)
 unfolding digits_from
 digits_stop [] start i limit v h = refl
 digits_stop (b ∷ bs) start i limit v h = rw (le-ltb (digit_of b) 10 h)
@@ -155,7 +152,7 @@ number_read at limit =
     ∙ digits_step rest at (at + length (digits v)) limit v d pos h l
     ∙ ap (λ (k : ℕ). digits_from rest at k limit (10 * v + d)) place)
 
-pub number_found : (s rest : List ℕ) (at limit v : ℕ) → drop at s ≡ digits v ++ rest → v < limit → Stops rest → number_at s at limit ≡ token at (at + length (digits v)) (Number v)
+pub number_found : (s rest : List ℕ) (at limit v : ℕ) → drop at s ≡ digits v ++ rest → v < limit → Stops rest → number_at s at limit ≡ token at (at + length (digits v)) (Some v)
 unfolding number_at
 number_found s rest at limit v e l h =
     ap (λ (z : List ℕ). number_of z at limit) e ∙ number_read at limit v rest l ∙ digits_stop rest at (at + length (digits v)) limit v h
@@ -163,19 +160,19 @@ number_found s rest at limit v e l h =
 -- Own figures --------------------------------------------------------------------------------------------------------------------------------
 
 abbrev WeightText : List ℕ → (at stop : ℕ) → FoundWeight → Type 0
-WeightText s at stop (Own w k) = drop at s ≡ own_text w.0 k.0 ++ drop stop s
-WeightText s at stop NotAWeight = Unit {0}
+WeightText s at stop (Some (w, k)) = drop at s ≡ own_text w.0 k.0 ++ drop stop s
+WeightText s at stop None = Unit {0}
 
 abbrev OwnText : List ℕ → (at : ℕ) → WeightToken → Type 0
 OwnText s at t = WeightText s at t.stop t.found
 
 -- a number behind the bytes of a mark
-marked_text : (s : List ℕ) (at from : ℕ) (k : Mark) (start stop : ℕ) (F : Found) → number_at s from (greatest + 1) ≡ token start stop F → drop at s ≡ mark_text k.0 ++ drop from s
+marked_text : (s : List ℕ) (at from : ℕ) (k : Mark) (start stop : ℕ) (F : (Option ℕ)) → number_at s from (greatest + 1) ≡ token start stop F → drop at s ≡ mark_text k.0 ++ drop from s
     → WeightText s at stop (as_weight k F)
 unfolding own_text
-marked_text s at from k start stop (Number v) e q =
+marked_text s at from k start stop (Some v) e q =
     q ∙ ap (λ (l : List ℕ). mark_text k.0 ++ l) (number_text s from (greatest + 1) start stop v e) ∙ sym (append_assoc (mark_text k.0) (digits v) (drop stop s))
-marked_text s at from k start stop NotANumber e q = tt
+marked_text s at from k start stop None e q = tt
 
 weight_text_of : (s : List ℕ) (at : ℕ) → OwnText s at (weight_at s at)
 unfolding weight_at mark_text
@@ -186,7 +183,7 @@ weight_text_of s at =
     (λ e. marked_text s at (at + 1) (record { 0 = struck_mark }) S.start S.stop S.found refl (here s at 45 (eqb-true _ _ e) (omega arith)))
     (λ e. marked_text s at at (record { 0 = standing }) N.start N.stop N.found refl refl)
 
-pub weight_text : (s : List ℕ) (at o k start next : ℕ) → weight_at s at ≡ weight_token start next (Own (record { 0 = o }) (record { 0 = k })) → drop at s ≡ own_text o k ++ drop next s
+pub weight_text : (s : List ℕ) (at o k start next : ℕ) → weight_at s at ≡ weight_token start next (Some ((record { 0 = o }), (record { 0 = k }))) → drop at s ≡ own_text o k ++ drop next s
 weight_text s at o k start next e = subst (OwnText s at) e (weight_text_of s at)
 
 -- a number begins with a digit
@@ -197,22 +194,22 @@ first_digit =
     (λ v d pos h rec rest. rw (digits_more v d pos h, append_snoc (digits v) (48 + d) rest) (rec ((48 + d) ∷ rest)))
 
 module _ (s rest : List ℕ) (at o : ℕ) (h : Stops rest) (l : o ≤ greatest) where
-  plain_found : drop at s ≡ digits o ++ rest → weight_at s at ≡ weight_token at (at + length (digits o)) (Own (record { 0 = o }) (record { 0 = standing }))
+  plain_found : drop at s ≡ digits o ++ rest → weight_at s at ≡ weight_token at (at + length (digits o)) (Some ((record { 0 = o }), (record { 0 = standing })))
   unfolding weight_at
   plain_found e =
       let b = byte_of s (digits o ++ rest) at e in
       let f = first_digit o rest in
       rw (ne_eqb (get_or s at 0) 45 (λ q. omega arith)) (ap (marked_from at (record { 0 = standing })) (number_found s rest at (greatest + 1) o e (omega arith) h))
 
-  struck_found : drop at s ≡ 45 ∷ (digits o ++ rest) → weight_at s at ≡ weight_token at (at + length (45 ∷ digits o)) (Own (record { 0 = o }) (record { 0 = struck_mark }))
+  struck_found : drop at s ≡ 45 ∷ (digits o ++ rest) → weight_at s at ≡ weight_token at (at + length (45 ∷ digits o)) (Some ((record { 0 = o }), (record { 0 = struck_mark })))
   unfolding weight_at
   struck_found e =
       let place : at + 1 + length (digits o) ≡ at + length (45 ∷ digits o) = omega arith in
       let found = number_found s rest (at + 1) (greatest + 1) o (behind s (45 ∷ []) (digits o ++ rest) at e) (omega arith) h in
       rw (byte_of s (45 ∷ (digits o ++ rest)) at e)
-      (ap (marked_from at (record { 0 = struck_mark })) found ∙ ap (λ (j : ℕ). weight_token at j (Own (record { 0 = o }) (record { 0 = struck_mark }))) place)
+      (ap (marked_from at (record { 0 = struck_mark })) found ∙ ap (λ (j : ℕ). weight_token at j (Some ((record { 0 = o }), (record { 0 = struck_mark })))) place)
 
-  pub weight_found : (k : ℕ) → k ≤ struck_mark → drop at s ≡ own_text o k ++ rest → weight_at s at ≡ weight_token at (at + length (own_text o k)) (Own (record { 0 = o }) (record { 0 = k }))
+  pub weight_found : (k : ℕ) → k ≤ struck_mark → drop at s ≡ own_text o k ++ rest → weight_at s at ≡ weight_token at (at + length (own_text o k)) (Some ((record { 0 = o }), (record { 0 = k })))
   unfolding mark_text own_text
   weight_found zero m e = plain_found e
   weight_found (suc zero) m e = struck_found e
@@ -258,8 +255,8 @@ module _ (s : List ℕ) where
       pick_by FirstText (ltb (agreeing w (drop next s)) (length w)) (λ f. tt)
       (λ f. (l, joined n next (next + length w) m a b (starts_text w (drop next s) (ltb-false _ _ f) ∙ ap (λ (t : List ℕ). w ++ t) (drop-drop (length w) next s))))
 
-  count_text : (start next : ℕ) (F : Found) → number_at s (length first_word) (most_vertices + 1) ≡ token start next F → s ≡ first_word ++ drop (length first_word) s → FirstText (on_count s next F)
-  count_text start next (Number n) e a =
+  count_text : (start next : ℕ) (F : (Option ℕ)) → number_at s (length first_word) (most_vertices + 1) ≡ token start next F → s ≡ first_word ++ drop (length first_word) s → FirstText (on_count s next F)
+  count_text start next (Some n) e a =
       let k = (number_counts s (length first_word) (most_vertices + 1) start next n e).0 in
       let l : n ≤ most_vertices = omega arith in
       let b = number_text s (length first_word) (most_vertices + 1) start next n e in
@@ -268,7 +265,7 @@ module _ (s : List ℕ) where
       (λ _. pick_by FirstText (eqb (get_or s next 0) 32)
       (λ _. pick_by FirstText (eqb (get_or s (next + 1) 0) 99) (λ _. named_text n next Cost l a b) (λ _. named_text n next Grade l a b))
       (λ _. tt))
-  count_text start next NotANumber e a = tt
+  count_text start next None e a = tt
 
   first_text_of : FirstText (first_line s)
   unfolding first_line
@@ -287,7 +284,7 @@ measure_stops Cost rest = omega arith
 measure_stops Days rest = omega arith
 measure_stops Grade rest = omega arith
 
-count_found : (s rest : List ℕ) (n next : ℕ) (m : Measure) → drop next s ≡ measure_text m ++ rest → on_count s next (Number n) ≡ Opens n m (next + length (measure_text m))
+count_found : (s rest : List ℕ) (n next : ℕ) (m : Measure) → drop next s ≡ measure_text m ++ rest → on_count s next (Some n) ≡ Opens n m (next + length (measure_text m))
 count_found s rest n next Days e = (unfold measure_text word in rw (byte_of s (10 ∷ rest) next e))
 count_found s rest n next Cost e =
     let b : get_or s next 0 ≡ 32 = byte_of s (measure_text Cost ++ rest) next e ∙ (unfold measure_text word in refl) in

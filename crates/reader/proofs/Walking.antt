@@ -64,7 +64,7 @@ module _ (s : List ℕ) (n : ℕ) where
 pub walk_text : (s : List ℕ) (t : Table) → Walks s t → Formed t × (s ≡ text_of t)
 unfolding table_text
 walk_text s t w =
-    let a = first_text s t.vertices w.start t.measure (opened _ _ _ _ (sym w.first)) in
+    let a = first_text s t.vertices w.start t.measure (opened _ _ (sym w.first)) in
     let b = lines_text s t.vertices w.lines in
     (record { vertices = a.0; each = b.0 }, a.1 ∙ ap (λ (z : List ℕ). header t.vertices t.measure ++ z) b.1)
 

@@ -1,6 +1,8 @@
 // A reader that holds the lent text and its place, for programs that walk a table's text field by
 // field. Each function takes it apart and leaves the work to one on the slice and the number; what a
 // field says of the place behind it is where the reader is moved to.
+//
+// Kept: columns and rooms are lent, or arrays of a fixed size: the library and its programs use no heap.
 
 #![tactic(auto)]
 
@@ -11,7 +13,7 @@ ghost use Rattle.reading.specs.Lines.{first_line, first_of, row_at, line_of};
 
 use cursor::{Separator, Token, WeightToken};
 use reading::{FirstLine, Line};
-use refusal::TextLine;
+use refusal::{Refusal, TextLine};
 
 #[derive(Clone, Copy)]
 pub struct Reader<'a> {
@@ -49,7 +51,7 @@ pub fn at_end<'a>(r: Reader<'a>) -> bool
 
 // The first line of the text, with its words: how many vertices there are, the measure, and the place
 // of the next line.
-pub fn first_line<'a>(r: Reader<'a>) -> FirstLine
+pub fn first_line<'a>(r: Reader<'a>) -> Result<FirstLine, Refusal>
     ensures { result ≡ first_of (first_line r.entry.text.now) }
 {
     reading::first_line(r.text)
@@ -80,7 +82,7 @@ pub fn next_separator<'a>(r: Reader<'a>) -> Separator
 // A table line of vertices below n that lists at most so many of them: its vertices go into an array
 // of its own, and their count is told. A reader knows no line's number: the line at its place is its
 // first.
-fn line_at(text: &[u8], at: usize, n: u64, most: usize) -> Line
+fn line_at(text: &[u8], at: usize, n: u64, most: usize) -> Result<Line, Refusal>
     ensures { result ≡ line_of 1 at (row_at text.now n (min most longest_tail) at) }
 {
     let mut room = [0u64; 16];
@@ -88,7 +90,7 @@ fn line_at(text: &[u8], at: usize, n: u64, most: usize) -> Line
 }
 
 // The table line at a reader's place, whole.
-pub fn next_line<'a>(r: Reader<'a>, n: u64, most: usize) -> Line
+pub fn next_line<'a>(r: Reader<'a>, n: u64, most: usize) -> Result<Line, Refusal>
     ensures { result ≡ line_of 1 r.entry.at (row_at r.entry.text.now n (min most longest_tail) r.entry.at) }
 {
     line_at(r.text, r.at, n, most)
@@ -96,7 +98,7 @@ pub fn next_line<'a>(r: Reader<'a>, n: u64, most: usize) -> Line
 
 // The table line at a place, by way of a reader: whoever calls this one, whose parameters are plain,
 // needs no walk by hand.
-pub fn line_from(text: &[u8], at: usize, n: u64, most: usize) -> Line
+pub fn line_from(text: &[u8], at: usize, n: u64, most: usize) -> Result<Line, Refusal>
     ensures { result ≡ line_of 1 at (row_at text.now n (min most longest_tail) at) }
 {
     next_line(moved(start(text), at), n, most)

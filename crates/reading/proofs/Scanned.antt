@@ -56,15 +56,12 @@ use Rattle.text.specs.Bytes.{is_failed, survived, failing_at, column_from, colum
 use Rattle.text.proofs.Sound.{Spells, begin_reached, word_spells}
 use Rattle.text.proofs.Places.{run_failed, digit_stays}
 use Rattle.text.proofs.Bytes.{survived_inside}
-use Rattle.cursor.specs.declared.Found.{Found}
-use Rattle.cursor.specs.declared.Found.TheVariants.{Number, NotANumber}
 use Rattle.cursor.specs.declared.Token.{Token}
 use Rattle.cursor.specs.declared.WeightToken.{WeightToken}
-use Rattle.cursor.specs.declared.FoundWeight.{FoundWeight}
-use Rattle.cursor.specs.declared.FoundWeight.TheVariants as weight
-use Rattle.cursor.specs.Cursor.{digits_from, number_of, number_at, as_weight, weight_at}
+use Rattle.cursor.specs.Cursor.{FoundWeight, digits_from, number_of, number_at, as_weight, weight_at}
 use Rattle.cursor.proofs.Counts.{byte_within}
 use Rattle.reading.specs.Lines.{agreeing, on_word, on_named, on_count, on_counted, Opening, Opens, Unopened, first_line, Stalk, on_own, on_owned, on_head, stem_at, Listing, Ends, Breaks, list_end, on_vertex, on_listed, listed_from, Row, Holds, Fails, on_listing, on_stem, row_at, on_row, scan_from, on_first, scan}
+use Rattle.std.specs.Prelude.{Option, Some, None}
 
 -- What becomes of a text ---------------------------------------------------------------------------------------------------------------------
 
@@ -170,17 +167,17 @@ module _ (σ : State) (s : List ℕ) (a i : ℕ) where
 -- of the text s, in the line that starts at a
 module _ (s : List ℕ) (p : Place) (a : ℕ) where
   -- from σ at place i, the number that was found is passed; or the line is wrong where it stopped
-  abbrev NumberRuns : State → (i stop : ℕ) → Found → Type 0
-  NumberRuns σ i stop (Number v) = (fate s σ a i ≡ fate s (Within p v) a stop) × (10 ≤ digit_of (get_or s stop 0))
-  NumberRuns σ i stop NotANumber = fate s σ a i ≡ Stopped (line_at p) stop a
+  abbrev NumberRuns : State → (i stop : ℕ) → (Option ℕ) → Type 0
+  NumberRuns σ i stop (Some v) = (fate s σ a i ≡ fate s (Within p v) a stop) × (10 ≤ digit_of (get_or s stop 0))
+  NumberRuns σ i stop None = fate s σ a i ≡ Stopped (line_at p) stop a
 
   abbrev TokenRuns : State → (i : ℕ) → Token → Type 0
   TokenRuns σ i t = NumberRuns σ i t.stop t.found
 
   -- the same from one byte before
-  runs_before : (σ τ : State) (i stop : ℕ) (F : Found) → fate s σ a i ≡ fate s τ a (i + 1) → NumberRuns τ (i + 1) stop F → NumberRuns σ i stop F
-  runs_before σ τ i stop (Number v) e r = (e ∙ r.0, r.1)
-  runs_before σ τ i stop NotANumber e r = e ∙ r
+  runs_before : (σ τ : State) (i stop : ℕ) (F : (Option ℕ)) → fate s σ a i ≡ fate s τ a (i + 1) → NumberRuns τ (i + 1) stop F → NumberRuns σ i stop F
+  runs_before σ τ i stop (Some v) e r = (e ∙ r.0, r.1)
+  runs_before σ τ i stop None e r = e ∙ r
 
   -- a digit b of the number is at place i
   module _ (i b : ℕ) (bs : List ℕ) (e : drop i s ≡ b ∷ bs) (σ : State) where
@@ -270,19 +267,19 @@ module _ (s : List ℕ) (t : Table) (a : ℕ) where
 
   -- from σ, behind the head h, an own figure with its mark is passed; or the line is wrong where it stopped
   abbrev OwnRuns : State → (h at stop : ℕ) → FoundWeight → Type 0
-  OwnRuns σ h at stop (weight.Own w k) =
+  OwnRuns σ h at stop (Some (w, k)) =
       (fate s σ a at ≡ fate s (Within (Own t h k.0) w.0) a stop) × Follows t h w.0 k.0 [] (Within (Own t h k.0) w.0) s stop
-  OwnRuns σ h at stop weight.NotAWeight = fate s σ a at ≡ Stopped (next_line t) stop a
+  OwnRuns σ h at stop None = fate s σ a at ≡ Stopped (next_line t) stop a
 
   -- the same from one byte before
   own_before : (σ τ : State) (h at next stop : ℕ) (F : FoundWeight) → fate s σ a at ≡ fate s τ a next → OwnRuns τ h next stop F → OwnRuns σ h at stop F
-  own_before σ τ h at next stop (weight.Own w k) e r = (e ∙ r.0, r.1)
-  own_before σ τ h at next stop weight.NotAWeight e r = e ∙ r
+  own_before σ τ h at next stop (Some (w, k)) e r = (e ∙ r.0, r.1)
+  own_before σ τ h at next stop None e r = e ∙ r
 
-  own_number : (h k at stop : ℕ) (F : Found) → NumberRuns s (Own t h k) a (First (Own t h k)) at stop F → OwnRuns (First (Own t h k)) h at stop (as_weight (record { 0 = k }) F)
+  own_number : (h k at stop : ℕ) (F : (Option ℕ)) → NumberRuns s (Own t h k) a (First (Own t h k)) at stop F → OwnRuns (First (Own t h k)) h at stop (as_weight (record { 0 = k }) F)
   unfolding finish line_at ended
-  own_number h k at stop (Number v) r = (r.0, record { stops = refl; steps = λ l. number_ended s (Own t h k) v stop r.1 })
-  own_number h k at stop NotANumber r = r
+  own_number h k at stop (Some v) r = (r.0, record { stops = refl; steps = λ l. number_ended s (Own t h k) v stop r.1 })
+  own_number h k at stop None r = r
 
   own_run : (h at : ℕ) → let t' = weight_at s at in OwnRuns (First (Own t h standing)) h at t'.stop t'.found
   unfolding weight_at
@@ -364,13 +361,13 @@ module _ (s : List ℕ) (t : Table) (a : ℕ) where
     unfolding limit finish instead line_at
     listed_number at xs = number_run s (Listed t h o k xs) a at (λ l. refl) refl
 
-    vertex_run : (at : ℕ) (xs : List ℕ) (stop : ℕ) (F : Found) (more : List ℕ → ℕ → Listing) → NumberRuns s (Listed t h o k xs) a (First (Listed t h o k xs)) at stop F
+    vertex_run : (at : ℕ) (xs : List ℕ) (stop : ℕ) (F : (Option ℕ)) (more : List ℕ → ℕ → Listing) → NumberRuns s (Listed t h o k xs) a (First (Listed t h o k xs)) at stop F
         → ((v next : ℕ) → Follows t h o k (xs ++ v ∷ []) (Within (Listed t h o k xs) v) s next → ListRuns h o k (Within (Listed t h o k xs) v) next (more (xs ++ v ∷ []) next))
         → ListRuns h o k (First (Listed t h o k xs)) at (on_vertex xs stop F more)
     unfolding line_at
-    vertex_run at xs stop (Number v) more r go =
+    vertex_run at xs stop (Some v) more r go =
         runs_on h o k (First (Listed t h o k xs)) (Within (Listed t h o k xs) v) at stop (more (xs ++ v ∷ []) stop) r.0 (go v stop (follows_listed xs v stop r.1))
-    vertex_run at xs stop NotANumber more r go = r
+    vertex_run at xs stop None more r go = r
 
     listing_run : (left at : ℕ) (xs : List ℕ) (σ : State) → Follows t h o k xs σ s at → left + length xs ≡ may_list t → ListRuns h o k σ at (listed_from left s t.vertices at xs)
     unfolding listed_from
@@ -400,15 +397,15 @@ module _ (s : List ℕ) (t : Table) (a : ℕ) where
   row_listed h o k at σ (Breaks ys place) r = r
 
   row_own : (σ : State) (h at stop : ℕ) (F : FoundWeight) → OwnRuns σ h at stop F → RowRuns σ at (on_stem s t.vertices (may_list t) (on_own h stop F))
-  row_own σ h at stop (weight.Own w k) r =
+  row_own σ h at stop (Some (w, k)) r =
       let L = listed_from (may_list t) s t.vertices stop [] in
       let τ = Within (Own t h k.0) w.0 in
       row_on σ τ at stop (on_listing (record { 0 = h }) w k L) r.0
       (row_listed h w.0 k.0 stop τ L (listing_run h w.0 k.0 (may_list t) stop [] τ r.1 (omega arith)))
-  row_own σ h at stop weight.NotAWeight r = r
+  row_own σ h at stop None r = r
 
-  row_head : (at stop : ℕ) (F : Found) → NumberRuns s (Head t) a (First (Head t)) at stop F → RowRuns (First (Head t)) at (on_stem s t.vertices (may_list t) (on_head s stop F))
-  row_head at stop (Number h) r = row_on (First (Head t)) (Within (Head t) h) at stop (on_stem s t.vertices (may_list t) (on_head s stop (Number h))) r.0 behind
+  row_head : (at stop : ℕ) (F : (Option ℕ)) → NumberRuns s (Head t) a (First (Head t)) at stop F → RowRuns (First (Head t)) at (on_stem s t.vertices (may_list t) (on_head s stop F))
+  row_head at stop (Some h) r = row_on (First (Head t)) (Within (Head t) h) at stop (on_stem s t.vertices (may_list t) (on_head s stop (Some h))) r.0 behind
     where
       space : ended (Head t) h 32 ≡ First (Own t h standing)
       space = unfold ended in refl
@@ -421,14 +418,14 @@ module _ (s : List ℕ) (t : Table) (a : ℕ) where
       unspaced : eqb (get_or s stop 0) 32 ≡ false → fate s (Within (Head t) h) a stop ≡ Stopped (next_line t) stop a
       unspaced e = wrong_both (Within (Head t) h) s a stop (next_line t) (unfold finish line_at in refl) (λ l. number_ended s (Head t) h stop r.1 ∙ (unfold ended in rw e))
 
-      behind : RowRuns (Within (Head t) h) stop (on_stem s t.vertices (may_list t) (on_head s stop (Number h)))
+      behind : RowRuns (Within (Head t) h) stop (on_stem s t.vertices (may_list t) (on_head s stop (Some h)))
       behind =
           let W = weight_at s (stop + 1) in
           pick_by (λ (S : Stalk). RowRuns (Within (Head t) h) stop (on_stem s t.vertices (may_list t) S)) (eqb (get_or s stop 0) 32)
           (λ e. row_on (Within (Head t) h) (First (Own t h standing)) stop (stop + 1) (on_stem s t.vertices (may_list t) (on_owned h W))
           (spaced_own (eqb-true _ _ e)) (row_own (First (Own t h standing)) h (stop + 1) W.stop W.found (own_run h (stop + 1))))
           unspaced
-  row_head at stop NotANumber r = unfold line_at in r
+  row_head at stop None r = unfold line_at in r
 
 module _ (s : List ℕ) (t : Table) where
   pub row_run : (at : ℕ) → at < length s → length t.edges < most_edges → RowRuns s t at (First (Head t)) at (row_at s t.vertices (may_list t) at)
@@ -613,16 +610,16 @@ module _ (s : List ℕ) where
       grade_run : eqb (get_or s (next + 1) 0) 99 ≡ false → FirstRuns (Within Vertices n) next (on_named s n Grade next)
       grade_run l = named-run Grade 103 (114 ∷ 97 ∷ 100 ∷ 101 ∷ 10 ∷ []) (unfold measure_text word in refl) (word_spells Grade n) (unfold step named in rw l)
 
-    count_run : FirstRuns (Within Vertices n) next (on_count s next (Number n))
+    count_run : FirstRuns (Within Vertices n) next (on_count s next (Some n))
     count_run =
         pick_by (FirstRuns (Within Vertices n) next) (eqb (get_or s next 0) 10) (λ e. silent_run (eqb-true _ _ e)) (λ f.
         pick_by (FirstRuns (Within Vertices n) next) (eqb (get_or s next 0) 32)
         (λ e. pick_by (FirstRuns (Within Vertices n) next) (eqb (get_or s (next + 1) 0) 99) (cost_run (eqb-true _ _ e)) (grade_run (eqb-true _ _ e)))
         (unspaced_run f))
 
-  counted_run : (at stop : ℕ) (F : Found) → NumberRuns s Vertices 0 (First Vertices) at stop F → FirstRuns (First Vertices) at (on_count s stop F)
-  counted_run at stop (Number n) r = first_on (First Vertices) (Within Vertices n) at stop (on_count s stop (Number n)) r.0 (count_run n stop r.1)
-  counted_run at stop NotANumber r = unfold line_at in r
+  counted_run : (at stop : ℕ) (F : (Option ℕ)) → NumberRuns s Vertices 0 (First Vertices) at stop F → FirstRuns (First Vertices) at (on_count s stop F)
+  counted_run at stop (Some n) r = first_on (First Vertices) (Within Vertices n) at stop (on_count s stop (Some n)) r.0 (count_run n stop r.1)
+  counted_run at stop None r = unfold line_at in r
 
   pub first_run : FirstRuns begin 0 (first_line s)
   unfolding first_line first_word

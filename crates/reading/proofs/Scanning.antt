@@ -19,15 +19,12 @@ use Rattle.text.specs.Render.{measure_text, first_word}
 use Rattle.text.specs.Machine.{Head, First, begun, with_edge, next_line, may_list, Whole, Wrong, begin}
 use Rattle.text.proofs.Digits.{pick_by}
 use Rattle.text.proofs.Rows.{total_snoc}
-use Rattle.cursor.specs.declared.Found.{Found}
-use Rattle.cursor.specs.declared.Found.TheVariants.{Number, NotANumber}
-use Rattle.cursor.specs.declared.FoundWeight.{FoundWeight}
-use Rattle.cursor.specs.declared.FoundWeight.TheVariants as weight
-use Rattle.cursor.specs.Cursor.{token, number_at, weight_token, weight_at}
+use Rattle.cursor.specs.Cursor.{FoundWeight, token, number_at, weight_token, weight_at}
 use Rattle.cursor.proofs.Counts.{byte_within, number_counts, weight_counts}
-use Rattle.reading.specs.declared.Line.TheVariants as line
+use Rattle.reading.specs.declared.Line.{Line}
 use Rattle.reading.specs.Lines.{agreeing, on_named, on_count, Opening, Opens, Unopened, first_line, Stalk, Bears, Bare, refused_at, on_own, on_head, stem_at, Listing, Ends, Breaks, list_end, on_vertex, listed_from, Row, Holds, Fails, on_listing, on_stem, row_at, line_of, on_row, scan_from, on_first, scan}
 use Rattle.reading.proofs.Scanned.{Stopped, fate, RowRuns, row_run, row_over, FirstRuns, first_run}
+use Rattle.std.specs.Prelude.{Option, Result, Ok, Err, Some, None}
 
 -- Places: the next line begins later, and within the text ------------------------------------------------------------------------------------
 
@@ -37,15 +34,15 @@ module _ (s : List ℕ) where
   StemCounts at (Bare place) = Unit {0}
 
   own_counts : (at h from start stop : ℕ) (F : FoundWeight) → at < from → weight_at s from ≡ weight_token start stop F → StemCounts at (on_own h stop F)
-  own_counts at h from start stop (weight.Own w k) l e = let r = weight_counts s from start stop w k e in let a = r.2 in (omega arith, r.3)
-  own_counts at h from start stop weight.NotAWeight l e = tt
+  own_counts at h from start stop (Some (w, k)) l e = let r = weight_counts s from start stop w k e in let a = r.2 in (omega arith, r.3)
+  own_counts at h from start stop None l e = tt
 
-  head_counts : (n at start stop : ℕ) (F : Found) → number_at s at n ≡ token start stop F → StemCounts at (on_head s stop F)
-  head_counts n at start stop (Number h) e =
+  head_counts : (n at start stop : ℕ) (F : (Option ℕ)) → number_at s at n ≡ token start stop F → StemCounts at (on_head s stop F)
+  head_counts n at start stop (Some h) e =
       let l = (number_counts s at n start stop h e).1 in
       let W = weight_at s (stop + 1) in
       pick_by (StemCounts at) (eqb (get_or s stop 0) 32) (λ _. own_counts at h (stop + 1) W.start W.stop W.found (omega arith) refl) (λ _. tt)
-  head_counts n at start stop NotANumber e = tt
+  head_counts n at start stop None e = tt
 
   abbrev ListCounts : (at most : ℕ) → Listing → Type 0
   ListCounts at most (Ends xs next) = (length xs ≤ most) × (at < next) × (next ≤ length s)
@@ -59,11 +56,11 @@ module _ (s : List ℕ) where
   later at at' most (Ends xs next) h c = let l = c.1 in (c.0, omega arith, c.2)
   later at at' most (Breaks xs place) h c = tt
 
-  vertex_counts : (at n most : ℕ) (xs : List ℕ) (start stop : ℕ) (F : Found) (more : List ℕ → ℕ → Listing) → number_at s (at + 1) n ≡ token start stop F
+  vertex_counts : (at n most : ℕ) (xs : List ℕ) (start stop : ℕ) (F : (Option ℕ)) (more : List ℕ → ℕ → Listing) → number_at s (at + 1) n ≡ token start stop F
       → ((v next : ℕ) → ListCounts next most (more (xs ++ v ∷ []) next)) → ListCounts at most (on_vertex xs stop F more)
-  vertex_counts at n most xs start stop (Number v) more e k =
+  vertex_counts at n most xs start stop (Some v) more e k =
       let l = (number_counts s (at + 1) n start stop v e).1 in later at stop most (more (xs ++ v ∷ []) stop) (omega arith) (k v stop)
-  vertex_counts at n most xs start stop NotANumber more e k = tt
+  vertex_counts at n most xs start stop None more e k = tt
 
   list_counts : (left n at most : ℕ) (xs : List ℕ) → length xs + left ≡ most → ListCounts at most (listed_from left s n at xs)
   unfolding listed_from
@@ -118,14 +115,14 @@ module _ (s : List ℕ) where
       let d = length-drop stop s in
       pick_by (FirstCounts s) (ltb k (length w)) (λ _. tt) (λ f. let g = ltb-false k (length w) f in omega arith)
 
-  count_counts : (stop : ℕ) (F : Found) → FirstCounts s (on_count s stop F)
-  count_counts stop (Number n) =
+  count_counts : (stop : ℕ) (F : (Option ℕ)) → FirstCounts s (on_count s stop F)
+  count_counts stop (Some n) =
       pick_by (FirstCounts s) (eqb (get_or s stop 0) 10) (λ e. let l = byte_within s stop 10 (eqb-true _ _ e) (omega arith) in omega arith)
       (λ _. pick_by (FirstCounts s) (eqb (get_or s stop 0) 32)
       (λ e. let l = byte_within s stop 32 (eqb-true _ _ e) (omega arith) in
       pick_by (FirstCounts s) (eqb (get_or s (stop + 1) 0) 99) (λ _. word_counts n Cost stop (omega arith)) (λ _. word_counts n Grade stop (omega arith)))
       (λ e. tt))
-  count_counts stop NotANumber = tt
+  count_counts stop None = tt
 
   first_count : FirstCounts s (first_line s)
   unfolding first_line
@@ -143,9 +140,11 @@ pub record Tells (R : Row) (k next : ℕ) : Type 0 where
   pub row : R ≡ Holds edge_is next
   pub count : k ≡ length edge_is.tail
 
-pub tells : (l start : ℕ) (R : Row) (h : Vertex) (o : Weight) (b : Mark) (k next : ℕ) → line.Edge h o b k next ≡ line_of l start R → Tells R k next
-tells l start (Holds e j) h o b k next q = let a : next ≡ j = cc in record { edge_is = e; row = ap (Holds e) (sym a); count = cc }
-tells l start (Fails xs place) h o b k next q = absurd (let z : ◌≡◌ {A = ℕ} 0 1 = cc in omega arith)
+pub tells : (l start : ℕ) (R : Row) (x : Line) → ◌≡◌ {A = Result Line Refusal} (Ok x) (line_of l start R) → Tells R x.listed x.next
+tells l start (Holds e j) x q =
+    let p : x ≡ record { head = record { 0 = e.head }; own = record { 0 = e.own }; mark = record { 0 = e.mark }; listed = length e.tail; next = j } = cc in
+    record { edge_is = e; row = ap (λ (y : Line). Holds e y.next) (sym p); count = ap (λ (y : Line). y.listed) p }
+tells l start (Fails xs place) x q = absurd (let z : ◌≡◌ {A = ℕ} 0 1 = cc in omega arith)
 
 pub record Faulty (l start : ℕ) (R : Row) (r : Refusal) : Type 0 where
   pub before : List ℕ
@@ -153,7 +152,7 @@ pub record Faulty (l start : ℕ) (R : Row) (r : Refusal) : Type 0 where
   pub row : R ≡ Fails before place
   pub refusal : r ≡ refused_at l start place
 
-pub faulty : (l start : ℕ) (R : Row) (r : Refusal) → line.Refused r ≡ line_of l start R → Faulty l start R r
+pub faulty : (l start : ℕ) (R : Row) (r : Refusal) → ◌≡◌ {A = Result Line Refusal} (Err r) (line_of l start R) → Faulty l start R r
 faulty l start (Holds e j) r q = absurd (let z : ◌≡◌ {A = ℕ} 0 1 = cc in omega arith)
 faulty l start (Fails xs k) r q = record { before = xs; place = k; row = refl; refusal = cc }
 

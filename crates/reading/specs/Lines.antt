@@ -1,6 +1,6 @@
 -- What the lines of a text hold, line by line as the code reads them; `scan` is the whole text so read, and Scanned shows that it is `parse`. The paper's
 -- "The text". Assumes nothing: these are definitions.
-use Rattle.std.specs.Prelude.{ℕ, zero, suc, ◌+◌, ◌-◌, ◌^◌, ◌≤◌, ◌<◌, ◌≡◌, List, [], ◌∷◌, ◌++◌, length, get_or, drop, ltb, eqb}
+use Rattle.std.specs.Prelude.{ℕ, zero, suc, ◌+◌, ◌-◌, ◌^◌, ◌≤◌, ◌<◌, ◌≡◌, List, [], ◌∷◌, ◌++◌, length, get_or, drop, ltb, eqb, Option, Result, Ok, Err, Some, None}
 use Rattle.weights.specs.declared.Vertex.{Vertex}
 use Rattle.weights.specs.declared.Weight.{Weight}
 use Rattle.weights.specs.declared.Mark.{Mark}
@@ -10,29 +10,20 @@ use Rattle.weights.specs.Choice.{pick}
 use Rattle.refusal.specs.declared.Refusal.{Refusal}
 use Rattle.refusal.specs.declared.Refusal.TheVariants.{Text}
 use Rattle.refusal.specs.declared.Header.{Header}
-use Rattle.refusal.specs.declared.Reading.{Reading}
-use Rattle.refusal.specs.declared.Reading.TheVariants as reading
 use Rattle.columns.specs.Acceptance.{most_vertices, most_edges}
 use Rattle.text.specs.Tables.{Edge, edge, Table, listed_in_all}
 use Rattle.text.specs.Render.{measure_text, first_word}
 use Rattle.text.specs.Machine.{begun, with_edge, next_line, may_list, Parse, Whole, Wrong}
 use Rattle.text.specs.Bytes.{column_of}
 use Rattle.columns.specs.Filled.{filled}
-use Rattle.cursor.specs.declared.Found.{Found}
-use Rattle.cursor.specs.declared.Found.TheVariants.{Number, NotANumber}
 use Rattle.cursor.specs.declared.Token.{Token}
 use Rattle.cursor.specs.declared.WeightToken.{WeightToken}
-use Rattle.cursor.specs.declared.FoundWeight.{FoundWeight}
-use Rattle.cursor.specs.declared.FoundWeight.TheVariants.{Own, NotAWeight}
-use Rattle.cursor.specs.Cursor.{number_at, weight_at}
+use Rattle.cursor.specs.Cursor.{FoundWeight, number_at, weight_at}
 use Rattle.reading.specs.declared.FirstLine.{FirstLine}
-use Rattle.reading.specs.declared.FirstLine.TheVariants as first
 use Rattle.reading.specs.declared.Stem.{Stem}
-use Rattle.reading.specs.declared.Stem.TheVariants as stem
 use Rattle.reading.specs.declared.Tail.{Tail}
-use Rattle.reading.specs.declared.Tail.TheVariants as tail
 use Rattle.reading.specs.declared.Line.{Line}
-use Rattle.reading.specs.declared.Line.TheVariants as line
+use Rattle.refusal.specs.Answers.{Reading}
 
 -- the refusal at a place of the text line that begins at `start`; no text is so long that its column wraps
 abbrev pub refused_at : (line start place : ℕ) → Refusal
@@ -55,9 +46,9 @@ pub data Opening : Type 0 where
   Opens : (n : ℕ) → Measure → (start : ℕ) → Opening
   Unopened : (place : ℕ) → Opening
 
-abbrev pub first_of : Opening → FirstLine
-first_of (Opens n m start) = first.Read n m start
-first_of (Unopened place) = first.Refused (refused_at 1 0 place)
+abbrev pub first_of : Opening → Result FirstLine Refusal
+first_of (Opens n m start) = Ok (record { vertices = n; measure = m; next = start })
+first_of (Unopened place) = Err (refused_at 1 0 place)
 
 -- k bytes of w, which names measure m, stand behind the number of parts, which stopped there
 abbrev pub on_word : (n : ℕ) → Measure → (stop : ℕ) → (w : List ℕ) (k : ℕ) → Opening
@@ -67,11 +58,11 @@ abbrev pub on_named : List ℕ → (n : ℕ) → Measure → (stop : ℕ) → Op
 on_named s n m stop = on_word n m stop (measure_text m) (agreeing (measure_text m) (drop stop s))
 
 -- behind the number of parts: LF, or a space and the letter that decides the word
-abbrev pub on_count : List ℕ → (stop : ℕ) → Found → Opening
-on_count s stop (Number n) =
+abbrev pub on_count : List ℕ → (stop : ℕ) → (Option ℕ) → Opening
+on_count s stop (Some n) =
     pick (eqb (get_or s stop 0) 10) (Opens n Days (stop + 1))
     (pick (eqb (get_or s stop 0) 32) (pick (eqb (get_or s (stop + 1) 0) 99) (on_named s n Cost stop) (on_named s n Grade stop)) (Unopened stop))
-on_count s stop NotANumber = Unopened stop
+on_count s stop None = Unopened stop
 
 abbrev pub on_counted : List ℕ → Token → Opening
 on_counted s t = on_count s t.stop t.found
@@ -87,20 +78,20 @@ pub data Stalk : Type 0 where
   Bears : Vertex → Weight → Mark → (next : ℕ) → Stalk
   Bare : (place : ℕ) → Stalk
 
-abbrev pub stem_of : (line start : ℕ) → Stalk → Stem
-stem_of l start (Bears h o k next) = stem.Read h o k next
-stem_of l start (Bare place) = stem.Refused (refused_at l start place)
+abbrev pub stem_of : (line start : ℕ) → Stalk → Result Stem Refusal
+stem_of l start (Bears h o k next) = Ok (record { head = h; own = o; mark = k; next = next })
+stem_of l start (Bare place) = Err (refused_at l start place)
 
 abbrev pub on_own : (h stop : ℕ) → FoundWeight → Stalk
-on_own h stop (Own w k) = Bears (record { 0 = h }) w k stop
-on_own h stop NotAWeight = Bare stop
+on_own h stop (Some (w, k)) = Bears (record { 0 = h }) w k stop
+on_own h stop None = Bare stop
 
 abbrev pub on_owned : ℕ → WeightToken → Stalk
 on_owned h t = on_own h t.stop t.found
 
-abbrev pub on_head : List ℕ → (stop : ℕ) → Found → Stalk
-on_head s stop (Number h) = pick (eqb (get_or s stop 0) 32) (on_owned h (weight_at s (stop + 1))) (Bare stop)
-on_head s stop NotANumber = Bare stop
+abbrev pub on_head : List ℕ → (stop : ℕ) → (Option ℕ) → Stalk
+on_head s stop (Some h) = pick (eqb (get_or s stop 0) 32) (on_owned h (weight_at s (stop + 1))) (Bare stop)
+on_head s stop None = Bare stop
 
 abbrev pub on_headed : List ℕ → Token → Stalk
 on_headed s t = on_head s t.stop t.found
@@ -117,9 +108,9 @@ pub data Listing : Type 0 where
 abbrev pub list_end : List ℕ → ℕ → List ℕ → Listing
 list_end s at xs = pick (eqb (get_or s at 0) 10) (Ends xs (at + 1)) (Breaks xs at)
 
-abbrev pub on_vertex : List ℕ → (stop : ℕ) → Found → (List ℕ → ℕ → Listing) → Listing
-on_vertex xs stop (Number v) more = more (xs ++ v ∷ []) stop
-on_vertex xs stop NotANumber more = Breaks xs stop
+abbrev pub on_vertex : List ℕ → (stop : ℕ) → (Option ℕ) → (List ℕ → ℕ → Listing) → Listing
+on_vertex xs stop (Some v) more = more (xs ++ v ∷ []) stop
+on_vertex xs stop None more = Breaks xs stop
 
 abbrev pub on_listed : List ℕ → Token → (List ℕ → ℕ → Listing) → Listing
 on_listed xs t more = on_vertex xs t.stop t.found more
@@ -135,14 +126,9 @@ abbrev pub vertices : Listing → List ℕ
 vertices (Ends xs next) = xs
 vertices (Breaks xs place) = xs
 
-abbrev pub tail_of : (line start : ℕ) → Listing → Tail
-tail_of l start (Ends xs next) = tail.Ends (length xs) next
-tail_of l start (Breaks xs place) = tail.Refused (refused_at l start place)
-
--- a line of this head, own figure and mark, by its listed parts
-abbrev pub line_with : Vertex → Weight → Mark → Tail → Line
-line_with h o k (tail.Ends c next) = line.Edge h o k c next
-line_with h o k (tail.Refused r) = line.Refused r
+abbrev pub tail_of : (line start : ℕ) → Listing → Result Tail Refusal
+tail_of l start (Ends xs next) = Ok (record { listed = length xs; next = next })
+tail_of l start (Breaks xs place) = Err (refused_at l start place)
 
 -- a hyperedge, and the place of the next line; or the parts that were listed before the first fault, and the place of the byte that fails
 pub data Row : Type 0 where
@@ -165,16 +151,16 @@ abbrev pub stored : Row → List ℕ
 stored (Holds e next) = e.tail
 stored (Fails xs place) = xs
 
-abbrev pub line_of : (line start : ℕ) → Row → Line
-line_of l start (Holds e next) = line.Edge (record { 0 = e.head }) (record { 0 = e.own }) (record { 0 = e.mark }) (length e.tail) next
-line_of l start (Fails xs place) = line.Refused (refused_at l start place)
+abbrev pub line_of : (line start : ℕ) → Row → Result Line Refusal
+line_of l start (Holds e next) = Ok (record { head = record { 0 = e.head }; own = record { 0 = e.own }; mark = record { 0 = e.mark }; listed = length e.tail; next = next })
+line_of l start (Fails xs place) = Err (refused_at l start place)
 
 -- the outcome of reading a list, and a line: the answer, and the room with the listed parts from its start
-pub record ReadsTail (line start : ℕ) (l : Listing) (old : List ℕ) (r : Tail) (new : List ℕ) : Type 0 where
+pub record ReadsTail (line start : ℕ) (l : Listing) (old : List ℕ) (r : Result Tail Refusal) (new : List ℕ) : Type 0 where
   pub answer : r ≡ tail_of line start l
   pub room : new ≡ filled (vertices l) old
 
-pub record ReadsLine (line start : ℕ) (w : Row) (old : List ℕ) (r : Line) (new : List ℕ) : Type 0 where
+pub record ReadsLine (line start : ℕ) (w : Row) (old : List ℕ) (r : Result Line Refusal) (new : List ℕ) : Type 0 where
   pub answer : r ≡ line_of line start w
   pub room : new ≡ filled (stored w) old
 
@@ -203,5 +189,5 @@ abbrev pub header_of : Table → Header
 header_of t = record { vertices = t.vertices; measure = t.measure; edges = length t.edges; listed = listed_in_all t.edges }
 
 abbrev pub reading_of : List ℕ → Parse → Reading
-reading_of s (Whole t) = reading.Table (header_of t)
-reading_of s (Wrong l) = reading.Refused (Text (record { 0 = l }) (record { 0 = column_of s }))
+reading_of s (Whole t) = Ok (header_of t)
+reading_of s (Wrong l) = Err (Text (record { 0 = l }) (record { 0 = column_of s }))

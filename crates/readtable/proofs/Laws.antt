@@ -17,8 +17,6 @@ use Rattle.weights.specs.Choice.{pick}
 use Rattle.refusal.specs.declared.Refusal.{Refusal}
 use Rattle.refusal.specs.declared.Refusal.TheVariants.{TextRoom}
 use Rattle.refusal.specs.declared.Header.{Header}
-use Rattle.refusal.specs.declared.Reading.{Reading}
-use Rattle.refusal.specs.declared.Reading.TheVariants as reading
 use Rattle.columns.specs.Acceptance.{most_edges, most_listed, longest_tail}
 use Rattle.text.specs.Tables.{Edge, edge, Table, listed_in_all, each_of, heads_of, owns_of, marks_of, spans_from, tails_of}
 use Rattle.text.specs.Machine.{with_edge, may_list, Parse, Whole, Wrong, parse}
@@ -26,11 +24,8 @@ use Rattle.text.proofs.Rows.{total_snoc, each_append, spans_append, tails_append
 use Rattle.text.proofs.Sound.{never}
 use Rattle.columns.specs.Filled.{filled}
 use Rattle.columns.proofs.Filled.{filled_none, filled-set, filled_part, length-filled, part_whole, part_back}
-use Rattle.cursor.specs.declared.Found.{Found}
-use Rattle.cursor.specs.declared.Found.TheVariants.{Number, NotANumber}
 use Rattle.cursor.specs.Cursor.{number_at}
 use Rattle.reading.specs.declared.Line.{Line}
-use Rattle.reading.specs.declared.Line.TheVariants as line
 use Rattle.reading.specs.Lines.{
   Stalk,
   Bears,
@@ -61,6 +56,8 @@ use Rattle.reading.specs.Lines.{
 use Rattle.reading.proofs.Scanned.{scan_is_parse}
 use Rattle.reading.proofs.Scanning.{row_counts, Scanning, scan_full, scan_end, scan_fails, scan-next, scan_next_edges}
 use Rattle.readtable.specs.Read.{read_outcome, room_for, read_into, read_table, edges_in, Roomy, Fills}
+use Rattle.refusal.specs.Answers.{Reading}
+use Rattle.std.specs.Prelude.{Option, Result, Ok, Err, Some, None}
 
 -- a test of a definition, from the fact that a branch gives: `search tests` at a return
 pub ruleset tests = (lt-ltb, le-ltb, le-leb, lt-leb, eq-eqb, ne_eqb)
@@ -91,10 +88,10 @@ module _ (s : List ℕ) (n : ℕ) where
       more : List ℕ → ℕ → Listing
       more us j = listed_from left s n j us
 
-      found : (stop : ℕ) (F : Found) → on_vertex xs stop F more ≡ Ends ys next
+      found : (stop : ℕ) (F : (Option ℕ)) → on_vertex xs stop F more ≡ Ends ys next
           → ((v j : ℕ) → listed_from left s n j (xs ++ v ∷ []) ≡ Ends ys next → length (xs ++ v ∷ []) ≤ length ys) → length xs ≤ length ys
-      found j (Number v) q k = let l = k v j q in let m = length-append xs (v ∷ []) in omega arith
-      found j NotANumber q k = absurd (no_ends q)
+      found j (Some v) q k = let l = k v j q in let m = length-append xs (v ∷ []) in omega arith
+      found j None q k = absurd (no_ends q)
 
       go : (c : Bool) → pick c (on_listed xs (number_at s (at + 1) n) more) (list_end s at xs) ≡ Ends ys next
           → ((v j : ℕ) → listed_from left s n j (xs ++ v ∷ []) ≡ Ends ys next → length (xs ++ v ∷ []) ≤ length ys) → length xs ≤ length ys
@@ -122,20 +119,20 @@ module _ (s : List ℕ) (n : ℕ) where
       go false q = to_end left' at xs q ∙ sym (to_end zero at xs q) ∙ e
   enough (suc left) zero at xs ys next e l = go (eqb (get_or s at 0) 32) refl
     where
-      found : (stop : ℕ) (F : Found) → on_vertex xs stop F (λ us j. listed_from left s n j us) ≡ Ends ys next → ⊥
-      found j (Number v) q = let g = grows left j (xs ++ v ∷ []) ys next q in let m = length-append xs (v ∷ []) in omega arith
-      found j NotANumber q = no_ends q
+      found : (stop : ℕ) (F : (Option ℕ)) → on_vertex xs stop F (λ us j. listed_from left s n j us) ≡ Ends ys next → ⊥
+      found j (Some v) q = let g = grows left j (xs ++ v ∷ []) ys next q in let m = length-append xs (v ∷ []) in omega arith
+      found j None q = no_ends q
 
       go : (c : Bool) → eqb (get_or s at 0) 32 ≡ c → listed_from zero s n at xs ≡ Ends ys next
       go true q = let T = number_at s (at + 1) n in absurd (found T.stop T.found (sym (to_vertex left at xs q) ∙ e))
       go false q = to_end zero at xs q ∙ sym (to_end (suc left) at xs q) ∙ e
   enough (suc left) (suc left') at xs ys next e l = go (eqb (get_or s at 0) 32) refl (λ v j q. enough left left' j (xs ++ v ∷ []) ys next q (let m = length-append xs (v ∷ []) in omega arith))
     where
-      found : (stop : ℕ) (F : Found) → on_vertex xs stop F (λ us j. listed_from left s n j us) ≡ Ends ys next
+      found : (stop : ℕ) (F : (Option ℕ)) → on_vertex xs stop F (λ us j. listed_from left s n j us) ≡ Ends ys next
           → ((v j : ℕ) → listed_from left s n j (xs ++ v ∷ []) ≡ Ends ys next → listed_from left' s n j (xs ++ v ∷ []) ≡ Ends ys next)
           → on_vertex xs stop F (λ us j. listed_from left' s n j us) ≡ Ends ys next
-      found j (Number v) q k = k v j q
-      found j NotANumber q k = q
+      found j (Some v) q k = k v j q
+      found j None q k = q
 
       go : (c : Bool) → eqb (get_or s at 0) 32 ≡ c
           → ((v j : ℕ) → listed_from left s n j (xs ++ v ∷ []) ≡ Ends ys next → listed_from left' s n j (xs ++ v ∷ []) ≡ Ends ys next)
@@ -392,14 +389,14 @@ module _ (s : List ℕ) (n : ℕ) (h₀ o₀ ms₀ s₀ t₀ h o ms sp t : List 
           let d = length-filled here.this.tail (drop k t) (omega arith) in
           omega arith
 
-  module _ (ln : ℕ) (r : Line) (new : List ℕ) (g : ReadsLine ln at (row_at s n (min longest_tail (length lent)) at) lent r new) where
+  module _ (ln : ℕ) (r : Result Line Refusal) (new : List ℕ) (g : ReadsLine ln at (row_at s n (min longest_tail (length lent)) at) lent r new) where
     this_line : r ≡ line_of ln at (Holds here.this here.next)
     this_line = g.answer ∙ ap (line_of ln at) this_row
 
-    pub never_refused : (x : Refusal) → r ≡ line.Refused x → ⊥
+    pub never_refused : (x : Refusal) → r ≡ Err x → ⊥
     never_refused x q = no_line (sym q ∙ this_line)
       where
-        no_line : line.Refused x ≡ line_of ln at (Holds here.this here.next) → ⊥
+        no_line : Err x ≡ line_of ln at (Holds here.this here.next) → ⊥
         no_line e = let z : ◌≡◌ {A = ℕ} 0 1 = cc in omega arith
 
     -- the column, with the vertices of the line
@@ -409,19 +406,37 @@ module _ (s : List ℕ) (n : ℕ) (h₀ o₀ ms₀ s₀ t₀ h o ms sp t : List 
         ∙ ap (λ (z : List ℕ). take k t ++ z) (g.room ∙ ap₂ (λ (R : Row) (z : List ℕ). filled (stored R) z) this_row (part_whole t k))
 
     -- what holds behind the line that was read
-    abbrev pub Behind : Line → Type 0
-    Behind (line.Edge v w m c next) = (at < next) × Filling s n h₀ o₀ ms₀ s₀ t₀ (set h i v.0) (set o i w.0) (set ms i m.0) (set (set sp (2 * i) k) (2 * i + 1) c)
-        (take k t ++ (new ++ drop (length t - k) (drop k t))) next (i + 1) (k + c)
-    Behind (line.Refused x) = Unit {0}
+    abbrev pub Behind : Result Line Refusal → Type 0
+    Behind (Ok y) = (at < y.next) × Filling s n h₀ o₀ ms₀ s₀ t₀ (set h i y.head.0) (set o i y.own.0) (set ms i y.mark.0) (set (set sp (2 * i) k) (2 * i + 1) y.listed)
+        (take k t ++ (new ++ drop (length t - k) (drop k t))) y.next (i + 1) (k + y.listed)
+    Behind (Err x) = Unit {0}
 
-    pub filling_next : (v : Vertex) (w : Weight) (m : Mark) (c next : ℕ) → r ≡ line.Edge v w m c next → Behind (line.Edge v w m c next)
-    filling_next v w m c next q =
+    pub filling_next : (y : Line) → r ≡ Ok y → Behind (Ok y)
+    filling_next y q =
         let e = here.this in
         let x = set (set sp (2 * i) k) (2 * i + 1) (length e.tail) in
         let columned =
         subst (λ (u : List ℕ). Filling s n h₀ o₀ ms₀ s₀ t₀ (set h i e.head) (set o i e.own) (set ms i e.mark) x u here.next (i + 1) (k + length e.tail))
         (sym tails_are) one_filled in
         subst Behind (sym this_line ∙ q) (here.later, columned)
+
+-- as long as text is left, the columns have room for another line
+pub record Rooms (s h o ms sp t : List ℕ) (at i k : ℕ) : Type 0 where
+  pub heads : at < length s → i < length h
+  pub own : at < length s → i < length o
+  pub strikes : at < length s → i < length ms
+  pub spans : at < length s → 2 * i + 1 < length sp
+  pub tails : at < length s → k ≤ length t
+
+pub rooms : {s : List ℕ} {n : ℕ} {h₀ o₀ ms₀ s₀ t₀ h o ms sp t : List ℕ} {at i k : ℕ} → Filling s n h₀ o₀ ms₀ s₀ t₀ h o ms sp t at i k
+    → Roomy s (length h₀) (length o₀) (length ms₀) (length s₀) (length t₀) → Rooms s h o ms sp t at i k
+rooms {s} {n} {h₀} {o₀} {ms₀} {s₀} {t₀} {h} {o} {ms} {sp} {t} {at} {i} {k} f y = record {
+  heads = λ l. (edge-room s n h₀ o₀ ms₀ s₀ t₀ h o ms sp t at i k f y l).0;
+  own = λ l. (edge-room s n h₀ o₀ ms₀ s₀ t₀ h o ms sp t at i k f y l).1;
+  strikes = λ l. (edge-room s n h₀ o₀ ms₀ s₀ t₀ h o ms sp t at i k f y l).2;
+  spans = λ l. (edge-room s n h₀ o₀ ms₀ s₀ t₀ h o ms sp t at i k f y l).3;
+  tails = λ l. let r = tails_room s n h₀ o₀ ms₀ s₀ t₀ h o ms sp t at i k f y l in omega arith;
+}
 
 -- all lines are in the columns
 pub filling_end : (s : List ℕ) (n : ℕ) (h₀ o₀ ms₀ s₀ t₀ h o ms sp t : List ℕ) (at i k : ℕ) → Filling s n h₀ o₀ ms₀ s₀ t₀ h o ms sp t at i k → length s ≤ at
@@ -432,11 +447,11 @@ filling_end s n h₀ o₀ ms₀ s₀ t₀ h o ms sp t at i k f l =
 
 -- The call ------------------------------------------------------------------------------------------------------------------------------------
 
-no_table : {x : Refusal} {header : Header} → reading.Refused x ≡ reading.Table header → ⊥
+no_table : {x : Refusal} {header : Header} → ◌≡◌ {A = Reading} (Err x) (Ok header) → ⊥
 no_table {x} {header} e = let z : ◌≡◌ {A = ℕ} 0 1 = cc in omega arith
 
 -- the text is refused by 14
-pub read_wrong : (s : List ℕ) (r : Reading) (x : Refusal) (h o ms sp t : List ℕ) → r ≡ reading_of s (parse s) → r ≡ reading.Refused x → read_outcome r h o ms sp t ≡ read_table s h o ms sp t
+pub read_wrong : (s : List ℕ) (r : Reading) (x : Refusal) (h o ms sp t : List ℕ) → r ≡ reading_of s (parse s) → r ≡ Err x → read_outcome r h o ms sp t ≡ read_table s h o ms sp t
 unfolding read_into
 read_wrong s r x h o ms sp t e q = go (parse s) e
   where
@@ -450,11 +465,11 @@ pub record Holding (s : List ℕ) (header : Header) : Type 0 where
   pub whole : parse s ≡ Whole table
   pub header_is : header ≡ header_of table
 
-pub holding : (s : List ℕ) (r : Reading) (header : Header) → r ≡ reading_of s (parse s) → r ≡ reading.Table header → Holding s header
+pub holding : (s : List ℕ) (r : Reading) (header : Header) → r ≡ reading_of s (parse s) → r ≡ Ok header → Holding s header
 holding s r header e q = go (parse s) refl
   where
     go : (P : Parse) → parse s ≡ P → Holding s header
-    go (Whole u) p = record { table = u; whole = p; header_is = let z : reading.Table header ≡ reading.Table (header_of u) = sym q ∙ e ∙ ap (reading_of s) p in cc }
+    go (Whole u) p = record { table = u; whole = p; header_is = let z : Ok header ≡ Ok (header_of u) = sym q ∙ e ∙ ap (reading_of s) p in cc }
     go (Wrong l) p = absurd (no_table (sym (e ∙ ap (reading_of s) p) ∙ q))
 
 both : (a b : Bool) → pick a b false ≡ true → (a ≡ true) × (b ≡ true)
@@ -466,7 +481,7 @@ module _ (s : List ℕ) (header : Header) (g : Holding s header) (h o ms sp t : 
   roomed b e = ap (λ (z : Header). room_for z (length h) (length o) (length ms) (length sp) (length t)) (sym g.header_is) ∙ sym e
 
   -- a column is too short: 15
-  pub read_short : false ≡ room_for header (length h) (length o) (length ms) (length sp) (length t) → read_outcome (reading.Refused TextRoom) h o ms sp t ≡ read_table s h o ms sp t
+  pub read_short : false ≡ room_for header (length h) (length o) (length ms) (length sp) (length t) → read_outcome (Err TextRoom) h o ms sp t ≡ read_table s h o ms sp t
   unfolding read_into
   read_short e = rw (g.whole, roomed false e)
 

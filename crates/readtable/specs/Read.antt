@@ -1,17 +1,16 @@
 -- What reading a text into lent columns returns, and what it leaves in them. The paper's "The text" ("Reading returns n, the measure and the counts, and writes
 -- that many places of each column; the rest keep theirs. Spans are written from offset 0 without gaps") and, of "What is turned away", 14, then 15.
 -- Assumes nothing: these are definitions.
-use Rattle.std.specs.Prelude.{ℕ, ◌*◌, ◌≤◌, ◌≡◌, Bool, false, List, [], length, take, leb}
+use Rattle.std.specs.Prelude.{ℕ, ◌*◌, ◌≤◌, ◌≡◌, Bool, false, List, [], length, take, leb, Err}
 use Rattle.weights.specs.Choice.{pick}
 use Rattle.refusal.specs.declared.Refusal.TheVariants.{TextRoom}
 use Rattle.refusal.specs.declared.Header.{Header}
-use Rattle.refusal.specs.declared.Reading.{Reading}
-use Rattle.refusal.specs.declared.Reading.TheVariants as reading
 use Rattle.columns.specs.Columns.{Columns, columns}
 use Rattle.text.specs.Tables.{Edge, Table, listed_in_all, heads_of, owns_of, marks_of, spans_from, tails_of}
 use Rattle.text.specs.Machine.{Parse, Whole, Wrong, parse}
 use Rattle.columns.specs.Filled.{filled}
 use Rattle.reading.specs.Lines.{header_of, reading_of}
+use Rattle.refusal.specs.Answers.{Reading}
 
 -- the answer, and the five columns at exit
 pub record ReadOutcome : Type 0 where
@@ -48,7 +47,7 @@ read_into text (Whole u) h o m s t =
     pick (room_for (header_of u) (length h) (length o) (length m) (length s) (length t))
     (read_outcome (reading_of text (Whole u)) (filled (heads_of u.edges) h) (filled (owns_of u.edges) o) (filled (marks_of u.edges) m)
     (filled (spans_from 0 u.edges) s) (filled (tails_of u.edges) t))
-    (read_outcome (reading.Refused TextRoom) h o m s t)
+    (read_outcome (Err TextRoom) h o m s t)
 
 abbrev pub read_table : (text heads own strikes spans tails : List ℕ) → ReadOutcome
 read_table text h o m s t = read_into text (parse text) h o m s t

@@ -7,10 +7,11 @@ ghost use Rattle.text.specs.Machine.{parse};
 ghost use Rattle.readtable.specs.Read.{room_for, read_outcome, read_table, edges_in, Roomy, Fills};
 
 use columns::LONGEST_TAIL;
-use reading::{FirstLine, Line, check_text, first_line, line_at};
-use refusal::{Header, Reading, Refusal, TextLine};
+use reading::{check_text, first_line, line_at};
+use refusal::{Header, Refusal, TextLine};
 
 // Whether columns of these lengths have room for the table of a header.
+#[tactic(auto, using(crate::proofs::Laws::tests), unfolding(crate::specs::Read::room_for))]
 fn room_for(
     header: Header,
     heads: usize,
@@ -21,19 +22,9 @@ fn room_for(
 ) -> bool
     ensures { result ≡ room_for header heads own strikes spans tails }
 {
-    if header.edges > heads as u64 {
-        return false;
-    }
-    if header.edges > own as u64 {
-        return false;
-    }
-    if header.edges > strikes as u64 {
-        return false;
-    }
-    if header.edges > spans as u64 / 2 {
-        return false;
-    }
-    header.listed <= tails as u64
+    let edges = header.edges;
+    let lines = edges <= heads as u64 && edges <= own as u64 && edges <= strikes as u64;
+    lines && edges <= spans as u64 / 2 && header.listed <= tails as u64
 }
 
 // The columns are filled from a text that was found correct, so every line is one.
@@ -49,28 +40,27 @@ fn fill(
     ensures { let fills = Fills (edges_in (parse text.now)) heads.old own.old strikes.old spans.old tails.old in
         fills heads.new own.new strikes.new spans.new tails.new }
 {
-    let first = first_line(text);
-    let FirstLine::Read(n, _, start) = first else {
+    let Ok(first) = first_line(text) else {
         return;
     };
-    let mut at = start;
+    let n = first.vertices;
+    let mut at = first.next;
     let mut i: usize = 0;
     let mut k: usize = 0;
+    // Kept: the text's end ends the loop. A `for` over a column would test it too, and each index.
     while at < text.len() {
-        let number = i as u64 + 2;
-        let here = TextLine(number);
-        let line = line_at(text, here, at, n, LONGEST_TAIL as usize, &mut tails[k..]);
-        let Line::Edge(head, weight, mark, listed, next) = line else {
+        let here = TextLine(i as u64 + 2);
+        let Ok(line) = line_at(text, here, at, n, LONGEST_TAIL as usize, &mut tails[k..]) else {
             return;
         };
-        heads[i] = head.0;
-        own[i] = weight.0;
-        strikes[i] = mark.0;
+        heads[i] = line.head.0;
+        own[i] = line.own.0;
+        strikes[i] = line.mark.0;
         spans[2 * i] = k as u64;
-        spans[2 * i + 1] = listed as u64;
+        spans[2 * i + 1] = line.listed as u64;
         i += 1;
-        k += listed;
-        at = next;
+        k += line.listed;
+        at = line.next;
     }
 }
 
@@ -83,12 +73,12 @@ pub fn read_table(
     strikes: &mut [u64],
     spans: &mut [u64],
     tails: &mut [u64],
-) -> Reading
+) -> Result<Header, Refusal>
     ensures { let done = read_outcome result heads.new own.new strikes.new spans.new tails.new in
         done ≡ read_table text.now heads.old own.old strikes.old spans.old tails.old }
 {
     let reading = check_text(text);
-    let Reading::Table(header) = reading else {
+    let Ok(header) = reading else {
         return reading;
     };
     if !room_for(
@@ -99,7 +89,7 @@ pub fn read_table(
         spans.len(),
         tails.len(),
     ) {
-        return Reading::Refused(Refusal::TextRoom);
+        return Err(Refusal::TextRoom);
     }
     fill(text, heads, own, strikes, spans, tails);
     reading

@@ -1,10 +1,8 @@
 -- What a refusal's number and place are, and the one number that a caller in C gets. The paper's table of refusals, and "The calls" for C.
 -- Assumes nothing: these are definitions.
-use Rattle.std.specs.Prelude.{eqb, ℕ, ◌+◌, ◌*◌, min}
+use Rattle.std.specs.Prelude.{eqb, ℕ, ◌+◌, ◌*◌, min, Bool, true, false, Result, Ok, Err}
 use Rattle.weights.specs.declared.Measure.TheVariants.{Cost, Days, Grade}
 use Rattle.weights.specs.Choice.{pick}
-use Rattle.refusal.specs.declared.MeasureChoice.{MeasureChoice}
-use Rattle.refusal.specs.declared.MeasureChoice.TheVariants as choice
 use Rattle.refusal.specs.declared.Refusal.{Refusal}
 use Rattle.refusal.specs.declared.Refusal.TheVariants.{
   TooManyVertices,
@@ -37,14 +35,7 @@ use Rattle.refusal.specs.declared.Refusal.TheVariants.{
   ByteRoom,
 }
 use Rattle.refusal.specs.declared.Code.{Code}
-use Rattle.refusal.specs.declared.Acceptance.{Acceptance}
-use Rattle.refusal.specs.declared.Acceptance.TheVariants as answer
-use Rattle.refusal.specs.declared.Verdict.{Verdict}
-use Rattle.refusal.specs.declared.Verdict.TheVariants as verdict
-use Rattle.refusal.specs.declared.Extent.{Extent}
-use Rattle.refusal.specs.declared.Extent.TheVariants as extent
-use Rattle.refusal.specs.declared.Reading.{Reading}
-use Rattle.refusal.specs.declared.Reading.TheVariants as reading
+use Rattle.refusal.specs.Answers.{MeasureChoice, Acceptance, Verdict, Extent, Reading}
 
 -- a number and a place, with no column
 abbrev pub code : (number place : ℕ) → Code
@@ -99,25 +90,30 @@ last_place = 4_294_967_295
 abbrev pub result_of : Code → ℕ
 result_of c = c.number * 4_294_967_296 + min c.place last_place
 
+-- in C: what an accepted call tells, or the refusal's number and place
+abbrev pub answer_result : {T : Type 0} → (T → ℕ) → Result T Refusal → ℕ
+answer_result told (Ok x) = told x
+answer_result told (Err r) = result_of (code_of r)
+
+-- yes is 1, no is 0
+abbrev pub truth : Bool → ℕ
+truth true = 1
+truth false = 0
+
 -- in C: 0 on acceptance; 1 for yes, 0 for no; a length as it is
 abbrev pub acceptance_result : Acceptance → ℕ
-acceptance_result answer.Accepted = 0
-acceptance_result (answer.Refused r) = result_of (code_of r)
+acceptance_result = answer_result (λ _. 0)
 
 abbrev pub verdict_result : Verdict → ℕ
-verdict_result verdict.Yes = 1
-verdict_result verdict.No = 0
-verdict_result (verdict.Refused r) = result_of (code_of r)
+verdict_result = answer_result truth
 
 abbrev pub extent_result : Extent → ℕ
-extent_result (extent.Length n) = n
-extent_result (extent.Refused r) = result_of (code_of r)
+extent_result = answer_result (λ n. n)
 
 -- what a text said of its table stands beside the number
 abbrev pub reading_result : Reading → ℕ
-reading_result (reading.Table h) = 0
-reading_result (reading.Refused r) = result_of (code_of r)
+reading_result = answer_result (λ _. 0)
 
 -- the measure's number from C: 0 is cost, 1 is days, 2 is grade, and any other is refused by 16
 abbrev pub measure_of : ℕ → MeasureChoice
-measure_of n = pick (eqb n 0) (choice.Measure Cost) (pick (eqb n 1) (choice.Measure Days) (pick (eqb n 2) (choice.Measure Grade) (choice.Refused MeasureNumber)))
+measure_of n = pick (eqb n 0) (Ok Cost) (pick (eqb n 1) (Ok Days) (pick (eqb n 2) (Ok Grade) (Err MeasureNumber)))

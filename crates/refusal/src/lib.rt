@@ -3,29 +3,29 @@
 
 #![tactic(auto)]
 
-ghost use Rattle.std.specs.Prelude.{◌≡◌};
-ghost use Rattle.refusal.specs.Refusals.{code, code_of, number_of, place_of, column_of, result_of, acceptance_result, verdict_result, extent_result, measure_of};
+ghost use Rattle.std.specs.Prelude.{◌≡◌, ℕ};
+ghost use Rattle.refusal.specs.Refusals.{code, code_of, number_of, place_of, column_of, result_of, truth, answer_result, measure_of};
 
 use weights::{Hyperedge, Measure, Vertex};
 
 // A line of a text, counted from 1.
-#[derive(Clone, Copy)]
+#[derive(Clone, Copy, PartialEq, Eq)]
 pub struct TextLine(pub u64);
 
 // A byte of its line, counted from 1: an LF is the last byte of the line that it ends.
-#[derive(Clone, Copy)]
+#[derive(Clone, Copy, PartialEq, Eq)]
 pub struct TextColumn(pub u64);
 
 // A result of a sample, counted from 0.
-#[derive(Clone, Copy)]
+#[derive(Clone, Copy, PartialEq, Eq)]
 pub struct Observation(pub u64);
 
 // An event of a stock record, counted from 0.
-#[derive(Clone, Copy)]
+#[derive(Clone, Copy, PartialEq, Eq)]
 pub struct Event(pub u64);
 
 // The paper's table of refusals, in its order.
-#[derive(Clone, Copy)]
+#[derive(Clone, Copy, PartialEq, Eq)]
 pub enum Refusal {
     // 1: more than 1,024 vertices.
     TooManyVertices,
@@ -87,7 +87,7 @@ pub enum Refusal {
 
 // A refusal's number, its place: the hyperedge, the text line, the result, the event or the vertex that
 // it names, else 0; and the column of 14, else 0.
-#[derive(Clone, Copy)]
+#[derive(Clone, Copy, PartialEq, Eq)]
 pub struct Code {
     pub number: u64,
     pub place: u64,
@@ -185,31 +185,9 @@ impl Refusal {
     }
 }
 
-// What checking a table, settling, repricing, striking and shuffling return.
-#[derive(Clone, Copy)]
-pub enum Acceptance {
-    Accepted,
-    Refused(Refusal),
-}
-
-// What checking answers returns.
-#[derive(Clone, Copy)]
-pub enum Verdict {
-    Yes,
-    No,
-    Refused(Refusal),
-}
-
-// What printing a bill, writing a text and indexing a table return: the length of what was written.
-#[derive(Clone, Copy)]
-pub enum Extent {
-    Length(u64),
-    Refused(Refusal),
-}
-
 // What a text says of its table: the vertices, the measure, and how many hyperedges and listed
 // vertices there are.
-#[derive(Clone, Copy)]
+#[derive(Clone, Copy, PartialEq, Eq)]
 pub struct Header {
     pub vertices: u64,
     pub measure: Measure,
@@ -217,80 +195,63 @@ pub struct Header {
     pub listed: u64,
 }
 
-// What reading a text returns.
-#[derive(Clone, Copy)]
-pub enum Reading {
-    Table(Header),
-    Refused(Refusal),
-}
-
 // How many hyperedges and listed vertices of lent columns are in use.
-#[derive(Clone, Copy)]
+#[derive(Clone, Copy, PartialEq, Eq)]
 pub struct Counts {
     pub edges: u64,
     pub listed: u64,
 }
 
-// What appending a line returns: the new counts.
-#[derive(Clone, Copy)]
-pub enum Appending {
-    Counts(Counts),
-    Refused(Refusal),
+// What an accepted call tells a caller in C: nothing, a yes or no, or a length.
+pub trait Told {
+    ghost told: { Self → ℕ };
+
+    fn told(self) -> u64
+        ensures { result ≡ told self };
 }
 
-impl Acceptance {
-    pub fn result(self) -> u64
-        ensures { result ≡ acceptance_result self }
-    {
-        match self {
-            Acceptance::Accepted => 0,
-            Acceptance::Refused(r) => r.result(),
-        }
+impl Told for () {
+    ghost told = { λ _. 0 };
+
+    fn told(self) -> u64 {
+        0
     }
 }
 
-impl Verdict {
-    pub fn result(self) -> u64
-        ensures { result ≡ verdict_result self }
-    {
-        match self {
-            Verdict::Yes => 1,
-            Verdict::No => 0,
-            Verdict::Refused(r) => r.result(),
-        }
+impl Told for bool {
+    ghost told = { truth };
+
+    fn told(self) -> u64 {
+        u64::from(self)
     }
 }
 
-impl Extent {
-    pub fn result(self) -> u64
-        ensures { result ≡ extent_result self }
-    {
-        match self {
-            Extent::Length(n) => n,
-            Extent::Refused(r) => r.result(),
-        }
+impl Told for u64 {
+    ghost told = { λ n. n };
+
+    fn told(self) -> u64 {
+        self
     }
 }
 
-// A measure, where a number from C is one.
-#[derive(Clone, Copy)]
-pub enum MeasureChoice {
-    Measure(Measure),
-    Refused(Refusal),
+// The one number that a caller in C gets of an answer.
+pub fn result<T: Told>(answer: Result<T, Refusal>) -> u64
+    ensures { result ≡ answer_result T.told answer }
+{
+    match answer {
+        Ok(value) => value.told(),
+        Err(refusal) => refusal.result(),
+    }
 }
 
 // The measure of a number: 0 is cost, 1 is days, 2 is grade.
-pub fn measure_numbered(number: u64) -> MeasureChoice
+pub fn measure_numbered(number: u64) -> Result<Measure, Refusal>
     ensures { result ≡ measure_of number }
 {
-    if number == 0 {
-        return MeasureChoice::Measure(Measure::Cost);
+    match number {
+        0 => Ok(Measure::Cost),
+        1 => Ok(Measure::Days),
+        2 => Ok(Measure::Grade),
+        _ => Err(Refusal::MeasureNumber),
     }
-    if number == 1 {
-        return MeasureChoice::Measure(Measure::Days);
-    }
-    if number == 2 {
-        return MeasureChoice::Measure(Measure::Grade);
-    }
-    MeasureChoice::Refused(Refusal::MeasureNumber)
 }

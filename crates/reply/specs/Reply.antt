@@ -1,15 +1,12 @@
 -- What a desk's command says: the bytes that it prints, and whether it was carried out. Assumes nothing: these are definitions.
-use Rattle.std.specs.Prelude.{ℕ, ◌≡◌, List, []}
+use Rattle.std.specs.Prelude.{ℕ, ◌≡◌, List, [], Ok, Err}
 use Rattle.refusal.specs.declared.Refusal.{Refusal}
-use Rattle.refusal.specs.declared.Acceptance.{Acceptance}
-use Rattle.refusal.specs.declared.Acceptance.TheVariants as answer
-use Rattle.refusal.specs.declared.Extent.{Extent}
-use Rattle.refusal.specs.declared.Extent.TheVariants as extent
 use Rattle.writing.specs.Written.{Written}
 use Rattle.report.specs.Report.{refused_line}
 use Rattle.reply.specs.declared.Status.{Status}
 use Rattle.reply.specs.declared.Status.TheVariants.{Answered, Refused, RefusedSecond, Misused}
 use Rattle.reply.specs.declared.Reply.{Reply}
+use Rattle.refusal.specs.Answers.{Acceptance, Extent}
 
 -- the room that every reply is put into
 abbrev pub most_reply : ℕ
@@ -36,16 +33,16 @@ misused = record { bytes = []; status = Misused }
 
 -- by what a call returned: its refusal, or what is said of its answer
 unfoldable pub on_acceptance : Acceptance → Said → Said
-on_acceptance answer.Accepted s = s
-on_acceptance (answer.Refused r) s = refused_by r
+on_acceptance (Ok _) s = s
+on_acceptance (Err r) s = refused_by r
 
 unfoldable pub on_second : Acceptance → Said → Said
-on_second answer.Accepted s = s
-on_second (answer.Refused r) s = second_refused r
+on_second (Ok _) s = s
+on_second (Err r) s = second_refused r
 
 unfoldable pub on_extent : Extent → (ℕ → Said) → Said
-on_extent (extent.Length k) f = f k
-on_extent (extent.Refused r) f = refused_by r
+on_extent (Ok k) f = f k
+on_extent (Err r) f = refused_by r
 
 -- a reply in a room says this: its bytes stand at the start of what the room held
 pub record Replied (s : Said) (old : List ℕ) (r : Reply) (room : List ℕ) : Type 0 where

@@ -1,5 +1,7 @@
 // The reply of a desk's command: bytes at the start of a room, and whether the command was
 // carried out.
+//
+// Kept: columns and rooms are lent, or arrays of a fixed size: the library and its programs use no heap.
 
 #![tactic(auto)]
 

@@ -20,7 +20,6 @@ use Rattle.weights.specs.Measures.{algebra}
 use Rattle.weights.proofs.Laws.{lawful, below_over}
 use Rattle.weights.proofs.Weighing.{weigh_within}
 use Rattle.refusal.specs.declared.Refusal.{Refusal}
-use Rattle.refusal.specs.declared.Acceptance.TheVariants.{Accepted}
 use Rattle.refusal.specs.Refusals.{number_of, place_of, column_of}
 use Rattle.refusal.proofs.Refusals.{numbered}
 use Rattle.provenance.specs.Hypergraph.{Derivation, node, weight, weights, root}
@@ -41,6 +40,7 @@ use Rattle.text.specs.Bytes.{failing_at, column_from, column_of as text_column}
 use Rattle.text.proofs.Bytes.{survived_inside}
 use Rattle.writing.proofs.Widths.{width_one, width_2, width_4, width_5, width_10, width_13, width_20}
 use Rattle.report.specs.Report.{most_output, most_refusal, names, state_word, row, rows, list, refused_word, refused_with, refused_line}
+use Rattle.std.specs.Prelude.{Ok}
 
 -- The answers of a table -----------------------------------------------------------------------------------------------------------------------
 
@@ -70,7 +70,7 @@ ranged_unmade : Ranged unmade
 ranged_unmade = record { weight = omega arith; depth = omega arith; edge = omega arith; blank = λ _. refl }
 
 -- the numbers of an accepted table's entries
-pub answers_ranged : (m : Measure) (c : Columns) → acceptance c ≡ Accepted → (v : ℕ) → RangedEntry (entries_of m c) v
+pub answers_ranged : (m : Measure) (c : Columns) → acceptance c ≡ Ok tt → (v : ℕ) → RangedEntry (entries_of m c) v
 unfolding entries_of
 answers_ranged m c p v = record { label = go (answers_means m c p v); pieces = subst (λ (x : ℕ). x ≤ most_pieces) (sym (entries_at m c p v)) (pieces_most (hypergraph c) (labels (answers_of m c)) v) }
   where

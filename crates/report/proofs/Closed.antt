@@ -10,7 +10,6 @@ use lib.ListN.{length, get_or, get_or-eq_default}
 use Rattle.weights.specs.declared.Measure.{Measure}
 use Rattle.weights.specs.Figures.{is_struck_mark}
 use Rattle.weights.specs.Measures.{algebra}
-use Rattle.refusal.specs.declared.Acceptance.TheVariants.{Accepted}
 use Rattle.provenance.specs.Hypergraph.{Hypergraph}
 use Rattle.provenance.specs.BestFirst.{labels, best_first}
 use Rattle.columns.proofs.Filled.{take-filled}
@@ -24,6 +23,7 @@ use Rattle.text.specs.Tables.{Edge, edge, edges_from, edges_of, closed}
 use Rattle.text.proofs.Rows.{length_heads, closed_edges, closed_accepted}
 use Rattle.readtable.specs.Read.{columns_read}
 use Rattle.roundtrip.specs.RoundTrip.{header_for, filled_with}
+use Rattle.std.specs.Prelude.{Ok}
 
 abbrev edge_at : Columns → ℕ → Edge
 edge_at c e = edge (head_at c e) (own_at c e) (strike_at c e) (tail_at c e)
@@ -53,7 +53,7 @@ beyond c t e h =
     let z = get_or-eq_default c.strikes 0 {n = e} (omega arith) in
     λ i. edge (x i) (y i) (z i) (part (o i) (l i) c.tails)
 
-module _ (m : Measure) (c : Columns) (p : acceptance c ≡ Accepted) where
+module _ (m : Measure) (c : Columns) (p : acceptance c ≡ Ok tt) where
   as_many : length (closed c).heads ≡ length c.heads
   as_many = length_heads (edges_of c) ∙ length_edges c (length c.heads) 0
 

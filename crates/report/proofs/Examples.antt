@@ -7,7 +7,6 @@ use lib.ListN.{length}
 use Rattle.weights.specs.declared.Measure.TheVariants.{Cost, Days, Grade}
 use Rattle.weights.specs.Measures.{fold, weigh}
 use Rattle.weights.specs.Labels.{ahead_of}
-use Rattle.refusal.specs.declared.Acceptance.TheVariants.{Accepted}
 use Rattle.provenance.specs.Labelling.{each, greatest_depth, none_zero, offer_of}
 use Rattle.provenance.specs.BestFirst.{opening, next, turn, turns, best_first}
 use Rattle.columns.specs.Worked.{worked}
@@ -25,8 +24,9 @@ use Rattle.readtable.specs.Read.{read_into}
 use Rattle.report.specs.Report.{most_input, names, state_word, row, rows, list, refused_word, refused_with, refused_line, listed_as, read_input, report}
 use Rattle.report.proofs.Reports.{report-short, report_rendered}
 use Rattle.report.specs.Examples.{cost_list, days_list, grade_list}
+use Rattle.std.specs.Prelude.{Ok}
 
-accepted : acceptance worked ≡ Accepted
+accepted : acceptance worked ≡ Ok tt
 unfolding all_below edge_acceptance edges_acceptance acceptance
 accepted = refl
 

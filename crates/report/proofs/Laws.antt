@@ -9,10 +9,6 @@ use Rattle.weights.specs.declared.Measure.{Measure}
 use Rattle.weights.specs.declared.Entry.{Entry}
 use Rattle.refusal.specs.declared.Refusal.{Refusal}
 use Rattle.refusal.specs.declared.Header.{Header}
-use Rattle.refusal.specs.declared.Acceptance.{Acceptance}
-use Rattle.refusal.specs.declared.Acceptance.TheVariants as answer
-use Rattle.refusal.specs.declared.Reading.{Reading}
-use Rattle.refusal.specs.declared.Reading.TheVariants as reading
 use Rattle.columns.specs.Columns.{Entries, Columns, entries}
 use Rattle.columns.specs.Acceptance.{most_vertices, lent_acceptance}
 use Rattle.columns.proofs.Accepted.{columns_accepted}
@@ -26,6 +22,8 @@ use Rattle.writing.proofs.Written.{lent, lent-room, within, written_part, writte
 use Rattle.report.specs.Report.{most_input, most_output, row, rows, list, refused_line, priced_as, priced, blank_entries, listed_as, listed, read_input, report}
 use Rattle.report.specs.Pieces.{Lent, lent_columns}
 use Rattle.report.proofs.Reports.{report-short, report_fits, input_lent}
+use Rattle.refusal.specs.Answers.{Acceptance, Reading}
+use Rattle.std.specs.Prelude.{Ok, Err}
 
 rows_next : (a : Entries) (i : ℕ) → rows a (i + 1) ≡ rows a i ++ row i (entry_at a i)
 unfolding rows
@@ -84,17 +82,17 @@ pub priced_blank : (m : Measure) (c : Columns) (n : ℕ) → n ≤ most_vertices
 priced_blank m c n h = ap (λ (z : List ℕ). priced n (settled m c (entries z z z z))) (take_zeros n most_vertices h)
 
 module _ (m : Measure) (c : Columns) (a : Entries) (x : Acceptance) (b : Entries) (q : record { result = x; left = b } ≡ settled m c a) where
-  pub priced_refused : (r : Refusal) → x ≡ answer.Refused r → priced c.vertices (settled m c a) ≡ refused_line r
+  pub priced_refused : (r : Refusal) → x ≡ Err r → priced c.vertices (settled m c a) ≡ refused_line r
   priced_refused r e = ap (priced c.vertices) (sym q) ∙ ap (λ (z : Acceptance). priced_as c.vertices z b) e
 
   -- the columns left are as long as there are vertices
-  left_sized : x ≡ answer.Accepted → length b.labels.depths ≡ c.vertices
+  left_sized : x ≡ Ok tt → length b.labels.depths ≡ c.vertices
   left_sized e =
-      let p : lent_acceptance c a ≡ answer.Accepted = sym (settled_result_lem m c a) ∙ sym (ap (λ (o : Outcome Acceptance Entries). o.result) q) ∙ e in
+      let p : lent_acceptance c a ≡ (Ok tt) = sym (settled_result_lem m c a) ∙ sym (ap (λ (o : Outcome Acceptance Entries). o.result) q) ∙ e in
       ap (λ (o : Outcome Acceptance Entries). length o.left.labels.depths) q
       ∙ ap (λ (z : Entries). length z.labels.depths) (settled_left m c a p) ∙ (entries_sized m c (columns_accepted c a p).table).labels.depths
 
-  pub priced_accepted : x ≡ answer.Accepted → priced c.vertices (settled m c a) ≡ list b (length b.labels.depths)
+  pub priced_accepted : x ≡ Ok tt → priced c.vertices (settled m c a) ≡ list b (length b.labels.depths)
   priced_accepted e = ap (priced c.vertices) (sym q) ∙ ap (λ (z : Acceptance). priced_as c.vertices z b) e ∙ ap (list b) (sym (left_sized e))
 
 -- The whole ------------------------------------------------------------------------------------------------------------------------------------
@@ -104,15 +102,15 @@ pub reported : (input bytes old : List ℕ) (r : ℕ) (room : List ℕ) → repo
 reported input bytes old r room e w = (w.count ∙ ap length (sym e), w.room_is ∙ ap (λ (z : List ℕ). filled z old) (sym e))
 
 module _ (input : List ℕ) (short : length input ≤ most_input) (a : Reading) (h o ms s t : List ℕ) (q : read_outcome a h o ms s t ≡ read_input input) where
-  pub report_refused : (r : Refusal) → a ≡ reading.Refused r → report input ≡ refused_line r
+  pub report_refused : (r : Refusal) → a ≡ Err r → report input ≡ refused_line r
   unfolding listed_as
   report_refused r e = report-short input short ∙ ap listed (sym q) ∙ ap (λ (z : Reading). listed_as z (read_outcome a h o ms s t)) e
 
-  pub report-table : (g : Header) → a ≡ reading.Table g → report input ≡ priced g.vertices (settled g.measure (lent_columns g h o ms s t) (blank_entries g.vertices))
+  pub report-table : (g : Header) → a ≡ Ok g → report input ≡ priced g.vertices (settled g.measure (lent_columns g h o ms s t) (blank_entries g.vertices))
   unfolding listed_as
   report-table g e = report-short input short ∙ ap listed (sym q) ∙ ap (λ (z : Reading). listed_as z (read_outcome a h o ms s t)) e
 
-  pub table-lent : (g : Header) (room : ℕ) → room ≡ most_output → a ≡ reading.Table g → Lent g h o ms s t room
+  pub table-lent : (g : Header) (room : ℕ) → room ≡ most_output → a ≡ Ok g → Lent g h o ms s t room
   table-lent g room l e =
       subst (λ (x : ReadOutcome). Lent g x.heads x.own x.strikes x.spans x.tails room) (sym q) (input_lent input g room short l (sym (ap (λ (x : ReadOutcome). x.answer) q) ∙ e))
 

@@ -1,7 +1,8 @@
 -- What the functions below `report` ask of their caller, and the pieces in which a row and the line of a refusal are written. Assumes nothing.
-use Prim.Native.Nat.{ℕ}
+use Prim.Native.Nat.{ℕ, ◌≤◌}
 use mathlib.Core.Path.{◌≡◌, sym, ◌∙◌, ap, ap₂}
 use mathlib.Core.List.{List, [], ◌∷◌, ◌++◌, append_assoc, append-nil}
+use lib.ListN.{length}
 use borrow.Author.Tests.{eq-eqb, ne_eqb}
 use Rattle.weights.specs.declared.Entry.{Entry}
 use Rattle.refusal.specs.declared.Refusal.{Refusal}
@@ -33,6 +34,11 @@ row_split v e =
     let q : (((s ++ a) ++ b) ++ d) ++ g ≡ s ++ (((a ++ b) ++ d) ++ g) = ap (λ (z : List ℕ). z ++ g) p ∙ append_assoc s ((a ++ b) ++ d) g in
     ap (λ (z : List ℕ). z ++ 10 ∷ []) (q ∙ ap (λ (z : List ℕ). s ++ z) (sym (four e.weight.0 e.depth e.edge.0 e.pieces)))
     ∙ append_assoc s (tail_text (e.weight.0 ∷ e.depth ∷ e.edge.0 ∷ e.pieces ∷ [])) (10 ∷ [])
+
+-- room for a row is room for its two pieces
+pub row_fits : (v : ℕ) (e : Entry) (old : List ℕ) → length (row v e) ≤ length old
+    → length ((digits v ++ (32 ∷ state_word e.state)) ++ (tail_text (e.weight.0 ∷ e.depth ∷ e.edge.0 ∷ e.pieces ∷ []) ++ 10 ∷ [])) ≤ length old
+row_fits v e old h = rw (← row_split v e) h
 
 -- the line of a refusal: without a column two numbers, with one three
 module _ (r : Refusal) (n p c : ℕ) (a : n ≡ number_of r) (b : p ≡ place_of r) (d : c ≡ column_of r) where

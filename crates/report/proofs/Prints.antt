@@ -6,7 +6,6 @@ use native.Mathlib.Omega.{arith}
 use native.Mathlib.Decide.{dec_le}
 use lib.ListN.{length, take}
 use Rattle.weights.specs.declared.Measure.{Measure}
-use Rattle.refusal.specs.declared.Extent.TheVariants as extent
 use Rattle.columns.specs.Columns.{Columns}
 use Rattle.settle.specs.Settling.{entries_of}
 use Rattle.text.specs.Tables.{closed}
@@ -20,6 +19,7 @@ use Rattle.report.specs.Report.{most_input, report}
 use Rattle.report.proofs.Closed.{entries_closed, filled_back}
 use Rattle.report.proofs.Reports.{report_long, report_rendered, report_unpermitted}
 use Rattle.report.specs.Prints.{Prints, ReadsBack}
+use Rattle.std.specs.Prelude.{Ok}
 
 short_prints : (input : List ℕ) → length input ≤ most_input → (P : Parse) → parse input ≡ P → Prints input (report input)
 short_prints input h (Whole u) e =
@@ -41,7 +41,7 @@ prints input = go (dec_le (length input) most_input)
     go (no h) = let l : suc most_input ≤ length input = omega arith in subst (Prints input) (sym (report_long input l)) (Prints.long l)
 
 -- "Read after write gives the table with its gaps closed", which has the same answers
-pub reads_back : (m : Measure) (c : Columns) (room : List ℕ) (k : ℕ) (h o ms s t : List ℕ) → (write_table m c room).answer ≡ extent.Length k → Room (closed c) h o ms s t
+pub reads_back : (m : Measure) (c : Columns) (room : List ℕ) (k : ℕ) (h o ms s t : List ℕ) → (write_table m c room).answer ≡ Ok k → Room (closed c) h o ms s t
     → ReadsBack m c (read_table (take k (write_table m c room).room) h o ms s t)
 reads_back m c room k h o ms s t e r =
     let a = (written m c room k e).0 in

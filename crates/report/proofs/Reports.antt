@@ -10,9 +10,6 @@ use borrow.Author.Tests.{lt-ltb, le-ltb, ltb-false}
 use Rattle.weights.specs.declared.Measure.{Measure}
 use Rattle.refusal.specs.declared.Refusal.TheVariants.{Text, InputLength}
 use Rattle.refusal.specs.declared.Header.{Header}
-use Rattle.refusal.specs.declared.Acceptance.TheVariants.{Accepted}
-use Rattle.refusal.specs.declared.Reading.{Reading}
-use Rattle.refusal.specs.declared.Reading.TheVariants as reading
 use Rattle.refusal.specs.Refusals.{place_of, column_of}
 use Rattle.columns.specs.Columns.{Entries, Columns}
 use Rattle.columns.specs.Acceptance.{most_edges, most_listed, acceptance, lent_acceptance}
@@ -38,18 +35,20 @@ use Rattle.report.specs.Report.{most_input, most_output, list, refused_line, pri
 use Rattle.report.specs.Pieces.{Lent}
 use Rattle.report.proofs.Closed.{entries_closed, filled_back}
 use Rattle.report.proofs.Bounds.{answers_ranged, list_most, refused_most, column_most}
+use Rattle.refusal.specs.Answers.{Reading}
+use Rattle.std.specs.Prelude.{Ok, Err}
 
 -- A table that was read ------------------------------------------------------------------------------------------------------------------------
 
-module _ (input : List ℕ) (g : Header) (e : (read_input input).answer ≡ reading.Table g) where
+module _ (input : List ℕ) (g : Header) (e : (read_input input).answer ≡ Ok g) where
   abbrev table : Columns
   table = columns_read g (read_input input)
 
-  pub input_accepted : acceptance table ≡ Accepted
+  pub input_accepted : acceptance table ≡ Ok tt
   unfolding read_input
   input_accepted = read_accepted input _ _ _ _ _ g e
 
-  lent : lent_acceptance table (blank_entries g.vertices) ≡ Accepted
+  lent : lent_acceptance table (blank_entries g.vertices) ≡ Ok tt
   lent =
       columns_accept table (blank_entries g.vertices) input_accepted
       (record {
@@ -58,7 +57,7 @@ module _ (input : List ℕ) (g : Header) (e : (read_input input).answer ≡ read
       })
 
   -- settling it is never refused
-  pub read_settles : (settled g.measure table (blank_entries g.vertices)).result ≡ Accepted
+  pub read_settles : (settled g.measure table (blank_entries g.vertices)).result ≡ Ok tt
   read_settles = settled_result_lem g.measure table (blank_entries g.vertices) ∙ lent
 
   -- so its list is printed
@@ -81,8 +80,8 @@ report-short input h = rw (le-ltb most_input (length input) h)
 
 -- the place that a reading tells, line and column
 abbrev Low : Reading → Type 0
-Low (reading.Table g) = Unit {0}
-Low (reading.Refused r) = (place_of r < 10_000) × (column_of r < 100_000)
+Low (Ok g) = Unit {0}
+Low (Err r) = (place_of r < 10_000) × (column_of r < 100_000)
 
 place_low : (text h o ms s t : List ℕ) (P : Parse) → length text ≤ most_input → ((l : ℕ) → P ≡ Wrong l → l ≤ most_edges + 2) → Low (read_into text P h o ms s t).answer
 unfolding read_into
@@ -98,11 +97,11 @@ listed_fits : (input : List ℕ) → length input ≤ most_input → length (lis
 listed_fits input short = go (read_input input).answer refl
   where
     go : (a : Reading) → (read_input input).answer ≡ a → length (listed (read_input input)) ≤ most_output
-    go (reading.Refused r) e =
+    go (Err r) e =
         let q : listed (read_input input) ≡ refused_line r = unfold listed_as in ap (λ (a : Reading). listed_as a (read_input input)) e in
         let p = subst Low e (read_low input short) in
         subst (λ (z : List ℕ). length z ≤ most_output) (sym q) (refused_most r p.0 p.1)
-    go (reading.Table g) e =
+    go (Ok g) e =
         let a = input_accepted input g e in
         let m =
         list_most (entries_of g.measure (columns_read g (read_input input))) (answers_ranged g.measure (columns_read g (read_input input)) a)
@@ -116,7 +115,7 @@ report_fits input = pick_by (λ (z : List ℕ). length z ≤ most_output) (ltb m
 
 -- The output of a text -------------------------------------------------------------------------------------------------------------------------
 
-module _ (m : Measure) (c : Columns) (a : acceptance c ≡ Accepted) where
+module _ (m : Measure) (c : Columns) (a : acceptance c ≡ Ok tt) where
   abbrev zeros : ℕ → List ℕ
   zeros n = replicate n 0
 
@@ -160,7 +159,7 @@ report_unpermitted input h n =
 -- What the code asks ---------------------------------------------------------------------------------------------------------------------------
 
 -- the table that was read stands at the start of the columns, and its output fits the room
-pub input_lent : (input : List ℕ) (g : Header) (room : ℕ) → length input ≤ most_input → room ≡ most_output → (read_input input).answer ≡ reading.Table g
+pub input_lent : (input : List ℕ) (g : Header) (room : ℕ) → length input ≤ most_input → room ≡ most_output → (read_input input).answer ≡ Ok g
     → Lent g (read_input input).heads (read_input input).own (read_input input).strikes (read_input input).spans (read_input input).tails room
 unfolding read_input
 input_lent input g room short large e =

@@ -1,7 +1,6 @@
 -- What the functions below `report` ask of their caller, and the pieces in which a row and the line of a refusal are written. Assumes nothing: these are definitions.
-use Rattle.std.specs.Prelude.{ℕ, ◌*◌, ◌≤◌, List, length}
+use Rattle.std.specs.Prelude.{ℕ, ◌*◌, ◌≤◌, List, length, Ok}
 use Rattle.refusal.specs.declared.Header.{Header}
-use Rattle.refusal.specs.declared.Reading.TheVariants as reading
 use Rattle.columns.specs.Columns.{Columns}
 use Rattle.columns.specs.Acceptance.{most_vertices}
 use Rattle.settle.specs.Settling.{settled}
@@ -10,7 +9,7 @@ use Rattle.report.specs.Report.{most_refusal, priced, blank_entries}
 
 -- the table that a header tells of, at the start of five columns
 abbrev pub lent_columns : Header → (heads own strikes spans tails : List ℕ) → Columns
-lent_columns g h o ms s t = columns_read g (read_outcome (reading.Table g) h o ms s t)
+lent_columns g h o ms s t = columns_read g (read_outcome (Ok g) h o ms s t)
 
 -- the columns are so long, and the room holds the output
 pub record Lent (g : Header) (h o ms s t : List ℕ) (room : ℕ) : Type 0 where

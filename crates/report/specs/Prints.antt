@@ -1,9 +1,8 @@
 -- What the listing program prints of an input, in three cases; and a table that was written and read back. The paper's "A table priced whole" and, of "What is turned
 -- away", "The program: 17 first"; demand 2's "The table's text is read and written back with the same meaning". Assumes nothing: these are definitions.
-use Rattle.std.specs.Prelude.{◌≡◌, List, ℕ, ◌≤◌, ◌<◌, length}
+use Rattle.std.specs.Prelude.{◌≡◌, List, ℕ, ◌≤◌, ◌<◌, length, Ok}
 use Rattle.weights.specs.declared.Measure.{Measure}
 use Rattle.refusal.specs.declared.Refusal.TheVariants.{Text, InputLength}
-use Rattle.refusal.specs.declared.Reading.TheVariants as reading
 use Rattle.columns.specs.Columns.{Columns}
 use Rattle.settle.specs.Settling.{entries_of}
 use Rattle.text.specs.Tables.{closed}
@@ -24,6 +23,6 @@ pub data Prints (input : List ℕ) : List ℕ → Type 0 where
 
 -- what was read is the table with its gaps closed, with the same measure, and has the same answers
 pub record ReadsBack (m : Measure) (c : Columns) (back : ReadOutcome) : Type 0 where
-  pub told : back.answer ≡ reading.Table (header_for m (closed c))
+  pub told : back.answer ≡ Ok (header_for m (closed c))
   pub table : columns_read (header_for m (closed c)) back ≡ closed c
   pub answers : entries_of m (columns_read (header_for m (closed c)) back) ≡ entries_of m c

@@ -1,16 +1,12 @@
 -- What the listing program prints of an input: the list of a table's entries, or the line of a refusal. The paper's "A table priced whole", and 17 of "What is
 -- turned away", which comes first. Assumes nothing: these are definitions.
-use Rattle.std.specs.Prelude.{ℕ, zero, suc, ◌*◌, List, [], ◌∷◌, ◌++◌, length, replicate, ltb, eqb}
+use Rattle.std.specs.Prelude.{ℕ, zero, suc, ◌*◌, List, [], ◌∷◌, ◌++◌, length, replicate, ltb, eqb, Ok, Err}
 use Rattle.weights.specs.declared.State.{State}
 use Rattle.weights.specs.declared.State.TheVariants.{Made, Over, Unmade}
 use Rattle.weights.specs.declared.Entry.{Entry}
 use Rattle.weights.specs.Choice.{pick}
 use Rattle.refusal.specs.declared.Refusal.{Refusal}
 use Rattle.refusal.specs.declared.Refusal.TheVariants.{InputLength}
-use Rattle.refusal.specs.declared.Acceptance.{Acceptance}
-use Rattle.refusal.specs.declared.Acceptance.TheVariants as answer
-use Rattle.refusal.specs.declared.Reading.{Reading}
-use Rattle.refusal.specs.declared.Reading.TheVariants as reading
 use Rattle.refusal.specs.Refusals.{number_of, place_of, column_of}
 use Rattle.columns.specs.Columns.{Entries}
 use Rattle.provenance.specs.BestFirst.{blank}
@@ -19,6 +15,7 @@ use Rattle.columns.specs.Owed.{Outcome}
 use Rattle.settle.specs.Settling.{entry_at, settled}
 use Rattle.text.specs.Render.{digits, tail_text}
 use Rattle.readtable.specs.Read.{ReadOutcome, columns_read, read_table}
+use Rattle.refusal.specs.Answers.{Acceptance, Reading}
 
 -- the most bytes of an input; one more is refused by 17
 abbrev pub most_input : ℕ
@@ -78,8 +75,8 @@ refused_line r = refused_with (numbers_of r)
 
 -- by what settling a table of n parts returned
 abbrev pub priced_as : (n : ℕ) → Acceptance → Entries → List ℕ
-priced_as n answer.Accepted a = list a n
-priced_as n (answer.Refused r) a = refused_line r
+priced_as n (Ok _) a = list a n
+priced_as n (Err r) a = refused_line r
 
 abbrev pub priced : (n : ℕ) → Outcome Acceptance Entries → List ℕ
 priced n o = priced_as n o.result o.left
@@ -90,8 +87,8 @@ blank_entries n = record { labels = blank n; pieces = replicate n 0 }
 
 -- by what reading a text returned: the table that was read is settled from answer columns of zeros
 unfoldable pub listed_as : Reading → ReadOutcome → List ℕ
-listed_as (reading.Refused r) x = refused_line r
-listed_as (reading.Table g) x = priced g.vertices (settled g.measure (columns_read g x) (blank_entries g.vertices))
+listed_as (Err r) x = refused_line r
+listed_as (Ok g) x = priced g.vertices (settled g.measure (columns_read g x) (blank_entries g.vertices))
 
 abbrev pub listed : ReadOutcome → List ℕ
 listed x = listed_as x.answer x

@@ -1,19 +1,24 @@
 // What the listing program prints of an input: the list of a table's entries, or the line of a
 // refusal.
+//
+// Kept: columns and rooms are lent, or arrays of a fixed size: the library and its programs use no heap.
 
 #![tactic(auto)]
 
 ghost use Rattle.std.specs.Prelude.{◌≡◌, ◌∷◌, ◌++◌, ◌≤◌, length};
-ghost use Rattle.columns.specs.Columns.{columns, entries};
 ghost use Rattle.settle.specs.Settling.{settled};
 ghost use Rattle.text.specs.Render.{digits};
+ghost use Rattle.columns.specs.Columns.{entries};
 ghost use Rattle.columns.specs.Filled.{filled};
+ghost use Rattle.columns.specs.Columns.{entries};
+ghost use Rattle.columns.specs.Given.{columns_of, entries_in};
 ghost use Rattle.writing.specs.Written.{Written};
 ghost use Rattle.report.specs.Report.{most_refusal, state_word, row, rows, list, refused_with, refused_line, priced, blank_entries, report};
 ghost use Rattle.report.specs.Pieces.{Lent, lent_columns};
 
+use columns::{Entries, Table};
 use readtable::read_table;
-use refusal::{Acceptance, Header, Reading, Refusal};
+use refusal::{Header, Refusal};
 use weights::{Entry, Measure, State, Vertex};
 use writing::{put_bytes, put_number, put_tail};
 
@@ -25,15 +30,22 @@ pub const MOST_INPUT: usize = 65535;
 pub const MOST_OUTPUT: usize = 46116;
 
 // A state's word behind a space.
+#[tactic(auto, unfolding(crate::specs::Report::state_word))]
+fn word(state: State) -> &'static [u8]
+    ensures { result.now ≡ 32 ∷ state_word state }
+{
+    match state {
+        State::Made => b" made",
+        State::Over => b" over",
+        State::Unmade => b" unmade",
+    }
+}
+
 pub fn put_state(room: &mut [u8], state: State) -> usize
     requires { length (32 ∷ state_word state) ≤ length room.old }
     ensures { Written (32 ∷ state_word state) room.old result room.new }
 {
-    match state {
-        State::Made => return put_bytes(room, b" made"),
-        State::Over => return put_bytes(room, b" over"),
-        State::Unmade => return put_bytes(room, b" unmade"),
-    }
+    put_bytes(room, word(state))
 }
 
 // A part and its state.
@@ -51,52 +63,37 @@ fn put_row(room: &mut [u8], v: Vertex, entry: Entry) -> usize
     requires { length (row v.0 entry) ≤ length room.old }
     ensures { Written (row v.0 entry) room.old result room.new }
 {
-    let state = entry.state;
-    let weight = entry.weight;
-    let edge = entry.edge;
-    let numbers = [weight.0, entry.depth, edge.0, entry.pieces];
-    let at = put_stem(room, v, state);
+    let numbers = [entry.weight.0, entry.depth, entry.edge.0, entry.pieces];
+    let at = put_stem(room, v, entry.state);
     let width = put_tail(&mut room[at..], &numbers);
     at + width
 }
 
 // The lines of all parts.
-fn put_rows(
-    room: &mut [u8],
-    weights: &[u64],
-    depths: &[u64],
-    edges: &[u64],
-    pieces: &[u64],
-) -> usize
-    requires { length (rows (entries weights.now depths.now edges.now pieces.now) (length depths.now)) ≤ length room.old }
-    ensures { let a = entries weights.now depths.now edges.now pieces.now in
-        Written (rows a (length depths.now)) room.old result room.new }
+fn put_rows(room: &mut [u8], entries: &Entries) -> usize
+    requires { length (rows (entries_in entries.now) (length entries.now.depths.now)) ≤ length room.old }
+    ensures { let a = entries_in entries.now in
+        Written (rows a (length entries.now.depths.now)) room.old result room.new }
 {
+    let Entries { depths, .. } = *entries;
     let mut at: usize = 0;
-    let mut i = 0;
-    while i < depths.len() {
+    for i in 0..depths.len() {
         let v = Vertex(i as u64);
-        let entry = settle::entry(weights, depths, edges, pieces, v);
+        let entry = settle::entry(entries, v);
         at += put_row(&mut room[at..], v, entry);
-        i += 1;
     }
     at
 }
 
 // The lines of all parts under the line of names.
-pub fn put_list(
-    room: &mut [u8],
-    weights: &[u64],
-    depths: &[u64],
-    edges: &[u64],
-    pieces: &[u64],
-) -> usize
-    requires { length (list (entries weights.now depths.now edges.now pieces.now) (length depths.now)) ≤ length room.old }
-    ensures { let a = entries weights.now depths.now edges.now pieces.now in
-        Written (list a (length depths.now)) room.old result room.new }
+pub fn put_list(room: &mut [u8], entries: &Entries) -> usize
+    requires { length (list (entries_in entries.now) (length entries.now.depths.now)) ≤ length room.old }
+    ensures { let a = entries_in entries.now in
+        Written (list a (length entries.now.depths.now)) room.old result room.new }
 {
+    let Entries { pieces, .. } = *entries;
     let at = put_bytes(room, b"part state figure depth line pieces\n");
-    let width = put_rows(&mut room[at..], weights, depths, edges, pieces);
+    let width = put_rows(&mut room[at..], entries);
     at + width
 }
 
@@ -119,60 +116,59 @@ pub fn put_refused(room: &mut [u8], refusal: Refusal) -> usize
     let place = refusal.place();
     let column = refusal.column();
     if column == 0 {
-        let numbers = [number, place];
-        return put_numbers(room, &numbers);
+        put_numbers(room, &[number, place])
+    } else {
+        put_numbers(room, &[number, place, column])
     }
-    let numbers = [number, place, column];
-    put_numbers(room, &numbers)
 }
 
 // A table is settled into the answer columns and listed.
 fn put_priced(
     room: &mut [u8],
     measure: Measure,
-    n: u64,
-    heads: &[u64],
-    own: &[u64],
-    strikes: &[u64],
-    spans: &[u64],
-    tails: &[u64],
+    table: &Table,
     weights: &mut [u64],
     depths: &mut [u64],
     edges: &mut [u64],
     pieces: &mut [u64],
 ) -> usize
-    requires a_in_bounds { let c = columns n heads.now own.now strikes.now spans.now tails.now in
+    requires a_in_bounds { let c = columns_of table.now in
         let a = entries weights.old depths.old edges.old pieces.old in
-        length (priced n (settled measure c a)) ≤ length room.old }
+        length (priced table.now.vertices (settled measure c a)) ≤ length room.old }
     requires most_refusal_in_bounds { most_refusal ≤ length room.old }
-    ensures { let c = columns n heads.now own.now strikes.now spans.now tails.now in
+    ensures { let c = columns_of table.now in
         let a = entries weights.old depths.old edges.old pieces.old in
-        Written (priced n (settled measure c a)) room.old result room.new }
+        Written (priced table.now.vertices (settled measure c a)) room.old result room.new }
 {
-    let answer = settle::settle(
-        measure, n, heads, own, strikes, spans, tails, weights, depths, edges, pieces,
-    );
+    let answer = settle::settle(measure, table, weights, depths, edges, pieces);
     match answer {
-        Acceptance::Refused(r) => return put_refused(room, r),
-        Acceptance::Accepted => {}
+        Err(r) => put_refused(room, r),
+        Ok(()) => put_list(
+            room,
+            &Entries {
+                weights,
+                depths,
+                edges,
+                pieces,
+            },
+        ),
     }
-    put_list(room, weights, depths, edges, pieces)
 }
 
 // The table that was read is priced from answer columns of zeros.
-fn put_read(
-    room: &mut [u8],
-    header: Header,
-    heads: &[u64],
-    own: &[u64],
-    strikes: &[u64],
-    spans: &[u64],
-    tails: &[u64],
-) -> usize
-    requires { Lent header heads.now own.now strikes.now spans.now tails.now (length room.old) }
-    ensures { let c = lent_columns header heads.now own.now strikes.now spans.now tails.now in
+fn put_read(room: &mut [u8], header: Header, table: &Table) -> usize
+    requires { Lent header table.now.heads.now table.now.own.now table.now.strikes.now table.now.spans.now table.now.tails.now (length room.old) }
+    ensures { let c = lent_columns header table.now.heads.now table.now.own.now table.now.strikes.now table.now.spans.now table.now.tails.now in
         Written (priced header.vertices (settled header.measure c (blank_entries header.vertices))) room.old result room.new }
 {
+    let Table {
+        heads,
+        own,
+        strikes,
+        spans,
+        tails,
+        ..
+    } = *table;
     let measure = header.measure;
     let n = header.vertices;
     let parts = n as usize;
@@ -186,12 +182,14 @@ fn put_read(
     put_priced(
         room,
         measure,
-        n,
-        &heads[..lines],
-        &own[..lines],
-        &strikes[..lines],
-        &spans[..places],
-        &tails[..listed],
+        &Table {
+            vertices: n,
+            heads: &heads[..lines],
+            own: &own[..lines],
+            strikes: &strikes[..lines],
+            spans: &spans[..places],
+            tails: &tails[..listed],
+        },
         &mut weights[..parts],
         &mut depths[..parts],
         &mut edges[..parts],
@@ -221,9 +219,18 @@ pub fn report(input: &[u8], room: &mut [u8; MOST_OUTPUT]) -> usize
         &mut tails,
     );
     match reading {
-        Reading::Refused(r) => return put_refused(room, r),
-        Reading::Table(header) => {
-            return put_read(room, header, &heads, &own, &strikes, &spans, &tails);
-        }
+        Err(r) => put_refused(room, r),
+        Ok(header) => put_read(
+            room,
+            header,
+            &Table {
+                vertices: header.vertices,
+                heads: &heads,
+                own: &own,
+                strikes: &strikes,
+                spans: &spans,
+                tails: &tails,
+            },
+        ),
     }
 }

@@ -11,7 +11,6 @@ use Rattle.weights.specs.declared.Measure.TheVariants.{Cost, Days, Grade}
 use Rattle.weights.specs.declared.Label.{Label}
 use Rattle.weights.specs.Figures.{greatest, is_struck_mark}
 use Rattle.weights.specs.Measures.{algebra}
-use Rattle.refusal.specs.declared.Acceptance.TheVariants.{Accepted}
 use Rattle.provenance.specs.Hypergraph.{Hypergraph, Derivation, listing}
 use Rattle.provenance.specs.Labelling.{Fixpoint}
 use Rattle.provenance.specs.Means.{Follows}
@@ -28,19 +27,20 @@ use Rattle.settle.proofs.Demands.{entries_sized, entries_mean, settled_left, set
 use Rattle.reprice.specs.Demand3.{labels_of, Pair, Rise, Carries, Demand3}
 use Rattle.reprice.proofs.Revision.{made_within, old_fixpoint, new_fixpoint, unmade_both, raised_here, line_raised}
 use Rattle.reprice.specs.Repricing.{line_acceptance, reprice_acceptance, repriced}
+use Rattle.std.specs.Prelude.{Ok}
 
 -- repricing a settled table
-module _ (m : Measure) (c : Columns) (e w : ℕ) (p : acceptance c ≡ Accepted) (n : e < length c.heads) (u : is_struck_mark (strike_at c e) ≡ false) (h : w ≤ greatest) where
-  accepted-reprice : reprice_acceptance m c (entries_of m c) e w ≡ Accepted
+module _ (m : Measure) (c : Columns) (e w : ℕ) (p : acceptance c ≡ Ok tt) (n : e < length c.heads) (u : is_struck_mark (strike_at c e) ≡ false) (h : w ≤ greatest) where
+  accepted-reprice : reprice_acceptance m c (entries_of m c) e w ≡ Ok tt
   unfolding reprice_acceptance line_acceptance
   accepted-reprice = rw (columns_accept c (entries_of m c) p (entries_sized m c p), lt-ltb _ _ n, u, le-leb _ _ h, entries_refl (entries_of m c))
 
-  reprice-settled : repriced m c (entries_of m c) e w ≡ record { result = Accepted; own = set c.own e w; left = entries_of m (with_own c e w) }
+  reprice-settled : repriced m c (entries_of m c) e w ≡ record { result = Ok tt; own = set c.own e w; left = entries_of m (with_own c e w) }
   unfolding repriced
   reprice-settled = rw accepted-reprice
 
 -- what settling left
-left_is : (m : Measure) (c : Columns) (a : Entries) → (settled m c a).result ≡ Accepted → (settled m c a).left ≡ entries_of m c
+left_is : (m : Measure) (c : Columns) (a : Entries) → (settled m c a).result ≡ Ok tt → (settled m c a).left ≡ entries_of m c
 left_is m c a q = settled_left m c a (sym (settled_result_lem m c a) ∙ q)
 
 -- the rise of one part, over one hypergraph
@@ -72,23 +72,23 @@ module _ (m : Measure) (c : Columns) (e d : ℕ) (p : Pair c (with_own c e (own_
   fix' = new_fixpoint m c new.own p.accepted p.accepted'
 
   -- an own figure of an accepted table
-  own_low : (c : Columns) → acceptance c ≡ Accepted → (x : ℕ) → x < length c.heads → own_at c x ≤ greatest
+  own_low : (c : Columns) → acceptance c ≡ Ok tt → (x : ℕ) → x < length c.heads → own_at c x ≤ greatest
   own_low c q x h = ((table_accepted c q).each x h).1.own
 
-  upward : (a a' : Entries) → (settled m c a).result ≡ Accepted → (settled m new a').result ≡ Accepted
-      → repriced m c (settled m c a).left e (own_at new e) ≡ record { result = Accepted; own = new.own; left = (settled m new a').left }
+  upward : (a a' : Entries) → (settled m c a).result ≡ Ok tt → (settled m new a').result ≡ Ok tt
+      → repriced m c (settled m c a).left e (own_at new e) ≡ record { result = Ok tt; own = new.own; left = (settled m new a').left }
   upward a a' q q' =
       ap (λ (b : Entries). repriced m c b e (own_at new e)) (left_is m c a q)
       ∙ ap (repriced m c (entries_of m c) e) here
       ∙ reprice-settled m c e (own_at c e + d) p.accepted p.numbered p.unstruck (subst (λ (x : ℕ). x ≤ greatest) here (own_low new p.accepted' e p.numbered))
-      ∙ ap (λ (b : Entries). record { result = Accepted; own = new.own; left = b }) (sym (left_is m new a' q'))
+      ∙ ap (λ (b : Entries). record { result = Ok tt; own = new.own; left = b }) (sym (left_is m new a' q'))
 
-  downward : (a a' : Entries) → (settled m c a).result ≡ Accepted → (settled m new a').result ≡ Accepted
-      → repriced m new (settled m new a').left e (own_at c e) ≡ record { result = Accepted; own = c.own; left = (settled m c a).left }
+  downward : (a a' : Entries) → (settled m c a).result ≡ Ok tt → (settled m new a').result ≡ Ok tt
+      → repriced m new (settled m new a').left e (own_at c e) ≡ record { result = Ok tt; own = c.own; left = (settled m c a).left }
   downward a a' q q' =
       ap (λ (b : Entries). repriced m new b e (own_at c e)) (left_is m new a' q')
       ∙ reprice-settled m new e (own_at c e) p.accepted' p.numbered p.unstruck (own_low c p.accepted e p.numbered)
-      ∙ (λ i. record { result = Accepted; own = back i; left = (ap (entries_of m) old_again ∙ sym (left_is m c a q)) i })
+      ∙ (λ i. record { result = Ok tt; own = back i; left = (ap (entries_of m) old_again ∙ sym (left_is m c a q)) i })
 
   carries : Carries m c new e
   carries = record {

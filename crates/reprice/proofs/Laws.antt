@@ -11,8 +11,6 @@ use Rattle.weights.specs.Choice.{pick}
 use Rattle.weights.specs.Figures.{greatest, standing, struck_mark, is_struck_mark}
 use Rattle.refusal.specs.declared.Refusal.{Refusal}
 use Rattle.refusal.specs.declared.Refusal.TheVariants.{WrongAnswers, NoSuchEdge, NewWeight, NotStruck}
-use Rattle.refusal.specs.declared.Acceptance.{Acceptance}
-use Rattle.refusal.specs.declared.Acceptance.TheVariants.{Accepted, Refused}
 use Rattle.columns.specs.Columns.{Entries, Columns, strike_at, with_own, with_strike}
 use Rattle.columns.specs.Acceptance.{test, and_then, lent_acceptance}
 use Rattle.columns.proofs.Accepted.{AcceptedColumns, test_passed, both_accepted, columns_accepted, table_accepted}
@@ -26,59 +24,61 @@ use Rattle.settle.specs.Resting.{OnlyAt}
 use Rattle.settle.proofs.Resting.{rests_asks, rests_stay}
 use Rattle.reprice.specs.Repricing.{line_acceptance, reprice_acceptance, strike_acceptance, numbered_acceptance, struck_acceptance, restore_acceptance}
 use Rattle.reprice.specs.Repricing.{ChangeOutcome, changed, MarkOutcome, marked, Changeable, Markable, Renewable, repriced, stricken, restored}
+use Rattle.refusal.specs.Answers.{Acceptance}
+use Rattle.std.specs.Prelude.{Ok, Err}
 
 -- two tests of one refusal
-two_tests : (x : Acceptance) (a b : Bool) (r : Refusal) → and_then x (test (pick a b false) r Accepted) ≡ and_then (and_then x (test a r Accepted)) (test b r Accepted)
-two_tests Accepted true b r = refl
-two_tests Accepted false b r = refl
-two_tests (Refused s) a b r = refl
+two_tests : (x : Acceptance) (a b : Bool) (r : Refusal) → and_then x (test (pick a b false) r (Ok tt)) ≡ and_then (and_then x (test a r (Ok tt))) (test b r (Ok tt))
+two_tests (Ok _) true b r = refl
+two_tests (Ok _) false b r = refl
+two_tests (Err s) a b r = refl
 
 module _ (c : Columns) (a : Entries) (e : ℕ) where
   -- a line that stands is one that exists, and has no strike mark
-  line_is : and_then (numbered_acceptance c a e) (test (not (is_struck_mark (strike_at c e))) NoSuchEdge Accepted) ≡ line_acceptance c a e
+  line_is : and_then (numbered_acceptance c a e) (test (not (is_struck_mark (strike_at c e))) NoSuchEdge (Ok tt)) ≡ line_acceptance c a e
   unfolding numbered_acceptance line_acceptance
   line_is = sym (two_tests (lent_acceptance c a) (ltb e (length c.heads)) (not (is_struck_mark (strike_at c e))) NoSuchEdge)
 
   -- a line that does not exist is refused by both
-  pub line_refused : (r : Refusal) → numbered_acceptance c a e ≡ Refused r → Refused r ≡ line_acceptance c a e
+  pub line_refused : (r : Refusal) → numbered_acceptance c a e ≡ Err r → Err r ≡ line_acceptance c a e
   line_refused r p = (rw p) ∙ line_is
 
-  pub struck_refused : (r : Refusal) → numbered_acceptance c a e ≡ Refused r → Refused r ≡ struck_acceptance c a e
+  pub struck_refused : (r : Refusal) → numbered_acceptance c a e ≡ Err r → Err r ≡ struck_acceptance c a e
   unfolding struck_acceptance
   struck_refused r p = rw p
 
   -- one that exists is refused by its mark
-  module _ (p : numbered_acceptance c a e ≡ Accepted) where
-    pub line_struck : is_struck_mark (strike_at c e) ≡ true → Refused NoSuchEdge ≡ line_acceptance c a e
+  module _ (p : numbered_acceptance c a e ≡ Ok tt) where
+    pub line_struck : is_struck_mark (strike_at c e) ≡ true → Err NoSuchEdge ≡ line_acceptance c a e
     line_struck q = (rw (p, q)) ∙ line_is
 
-    pub line_standing : is_struck_mark (strike_at c e) ≡ false → Accepted ≡ line_acceptance c a e
+    pub line_standing : is_struck_mark (strike_at c e) ≡ false → (Ok tt) ≡ line_acceptance c a e
     line_standing q = (rw (p, q)) ∙ line_is
 
-    pub struck_standing : is_struck_mark (strike_at c e) ≡ false → Refused NotStruck ≡ struck_acceptance c a e
+    pub struck_standing : is_struck_mark (strike_at c e) ≡ false → Err NotStruck ≡ struck_acceptance c a e
     unfolding struck_acceptance
     struck_standing q = rw (p, q)
 
-    pub struck_struck : is_struck_mark (strike_at c e) ≡ true → Accepted ≡ struck_acceptance c a e
+    pub struck_struck : is_struck_mark (strike_at c e) ≡ true → (Ok tt) ≡ struck_acceptance c a e
     unfolding struck_acceptance
     struck_struck q = rw (p, q)
 
-  pub line_numbered : line_acceptance c a e ≡ Accepted → numbered_acceptance c a e ≡ Accepted
+  pub line_numbered : line_acceptance c a e ≡ Ok tt → numbered_acceptance c a e ≡ Ok tt
   line_numbered p = (both_accepted (numbered_acceptance c a e) _ (line_is ∙ p)).0
 
-  pub struck_numbered : struck_acceptance c a e ≡ Accepted → numbered_acceptance c a e ≡ Accepted
+  pub struck_numbered : struck_acceptance c a e ≡ Ok tt → numbered_acceptance c a e ≡ Ok tt
   unfolding struck_acceptance
   struck_numbered p = (both_accepted (numbered_acceptance c a e) _ p).0
 
   -- a line that exists
-  module _ (p : numbered_acceptance c a e ≡ Accepted) where
+  module _ (p : numbered_acceptance c a e ≡ Ok tt) where
     numbered_lent : AcceptedColumns c a
     unfolding numbered_acceptance
     numbered_lent = columns_accepted c a (both_accepted (lent_acceptance c a) _ p).0
 
     numbered_told : e < length c.heads
     unfolding numbered_acceptance
-    numbered_told = ltb-true _ _ (test_passed (ltb e (length c.heads)) NoSuchEdge Accepted (both_accepted (lent_acceptance c a) _ p).1).0
+    numbered_told = ltb-true _ _ (test_passed (ltb e (length c.heads)) NoSuchEdge (Ok tt) (both_accepted (lent_acceptance c a) _ p).1).0
 
     -- it has a strike mark
     pub numbered_placed : e < length c.strikes
@@ -98,10 +98,10 @@ module _ (c : Columns) (a : Entries) (e w : ℕ) (h : Changeable c a e w) where
 
   module _ (m : Measure) where
     pub change_made : {b : Entries} → same_entries a (entries_of m c) ≡ true → b ≡ entries_of m (same_table (with_own c e w) (length a.labels.depths))
-        → record { result = Accepted; own = set c.own e w; left = b } ≡ changed m c a e w (answers_acceptance m c a)
+        → record { result = Ok tt; own = set c.own e w; left = b } ≡ changed m c a e w (answers_acceptance m c a)
     change_made q r = rw (q, told_answers (with_own c e w) a changed_kept m r)
 
-    pub change_refused : same_entries a (entries_of m c) ≡ false → record { result = Refused WrongAnswers; own = c.own; left = a } ≡ changed m c a e w (answers_acceptance m c a)
+    pub change_refused : same_entries a (entries_of m c) ≡ false → record { result = Err WrongAnswers; own = c.own; left = a } ≡ changed m c a e w (answers_acceptance m c a)
     change_refused q = rw q
 
     -- where the answers are right, they can be renewed
@@ -123,10 +123,10 @@ module _ (c : Columns) (a : Entries) (e s : ℕ) (h : Markable c a e s) where
 
   module _ (m : Measure) where
     pub mark_made : {b : Entries} → same_entries a (entries_of m c) ≡ true → b ≡ entries_of m (same_table (with_strike c e s) (length a.labels.depths))
-        → record { result = Accepted; strikes = set c.strikes e s; left = b } ≡ marked m c a e s (answers_acceptance m c a)
+        → record { result = Ok tt; strikes = set c.strikes e s; left = b } ≡ marked m c a e s (answers_acceptance m c a)
     mark_made q r = rw (q, told_answers (with_strike c e s) a marked_kept m r)
 
-    pub mark_refused : same_entries a (entries_of m c) ≡ false → record { result = Refused WrongAnswers; strikes = c.strikes; left = a } ≡ marked m c a e s (answers_acceptance m c a)
+    pub mark_refused : same_entries a (entries_of m c) ≡ false → record { result = Err WrongAnswers; strikes = c.strikes; left = a } ≡ marked m c a e s (answers_acceptance m c a)
     mark_refused q = rw q
 
     pub mark_renewable : same_entries a (entries_of m c) ≡ true → Renewable m (same_table (with_strike c e s) (length a.labels.depths)) a e
@@ -155,21 +155,21 @@ module _ (m : Measure) (c : Columns) (a : Entries) (e : ℕ) where
   restore_by q p = q ∙ ap (marked m c a e standing) p
 
   -- refused by the line
-  pub reprice_line : (w : ℕ) (r : Refusal) → line_acceptance c a e ≡ Refused r → Refused r ≡ reprice_acceptance m c a e w
+  pub reprice_line : (w : ℕ) (r : Refusal) → line_acceptance c a e ≡ Err r → Err r ≡ reprice_acceptance m c a e w
   unfolding reprice_acceptance
   reprice_line w r p = rw p
 
-  pub strike_line : (r : Refusal) → line_acceptance c a e ≡ Refused r → Refused r ≡ strike_acceptance m c a e
+  pub strike_line : (r : Refusal) → line_acceptance c a e ≡ Err r → Err r ≡ strike_acceptance m c a e
   unfolding strike_acceptance
   strike_line r p = rw p
 
-  pub restore_line : (r : Refusal) → struck_acceptance c a e ≡ Refused r → Refused r ≡ restore_acceptance m c a e
+  pub restore_line : (r : Refusal) → struck_acceptance c a e ≡ Err r → Err r ≡ restore_acceptance m c a e
   unfolding restore_acceptance
   restore_line r p = rw p
 
-  module _ (p : line_acceptance c a e ≡ Accepted) where
+  module _ (p : line_acceptance c a e ≡ Ok tt) where
     -- refused by the figure
-    pub reprice_figure : (w : ℕ) → greatest < w → Refused NewWeight ≡ reprice_acceptance m c a e w
+    pub reprice_figure : (w : ℕ) → greatest < w → Err NewWeight ≡ reprice_acceptance m c a e w
     unfolding reprice_acceptance
     reprice_figure w h = rw (p, lt-leb _ _ h)
 
@@ -182,6 +182,6 @@ module _ (m : Measure) (c : Columns) (a : Entries) (e : ℕ) where
     unfolding strike_acceptance
     strike_answers = rw p
 
-  pub restore_answers : struck_acceptance c a e ≡ Accepted → answers_acceptance m c a ≡ restore_acceptance m c a e
+  pub restore_answers : struck_acceptance c a e ≡ Ok tt → answers_acceptance m c a ≡ restore_acceptance m c a e
   unfolding restore_acceptance
   restore_answers p = rw p

@@ -7,8 +7,6 @@ use lib.ListN.{length, set}
 use Rattle.weights.specs.declared.Measure.{Measure}
 use Rattle.weights.specs.Figures.{standing, struck_mark}
 use Rattle.refusal.specs.declared.Refusal.TheVariants.{NoSuchEdge}
-use Rattle.refusal.specs.declared.Acceptance.{Acceptance}
-use Rattle.refusal.specs.declared.Acceptance.TheVariants.{Accepted, Refused}
 use Rattle.columns.specs.Columns.{Entries, Columns, strike_at, with_own, with_strike}
 use Rattle.columns.specs.Acceptance.{lent_acceptance}
 use Rattle.columns.proofs.Accepted.{columns_accepted, table_accepted}
@@ -22,6 +20,8 @@ use Rattle.reprice.specs.Repricing.{reprice_acceptance, strike_acceptance, resto
 use Rattle.reprice.specs.Changes.{Named, Struck, WrongChange, Leaves}
 use Rattle.reprice.specs.Restoring.{with_strikes, StrikeRestore, RestoreStrike, RestoredThen}
 use Rattle.reprice.proofs.Changes.{repriced_result_lem, stricken_result, restored_result, reprice_refused_exactly, strike_exactly, strike_leaves, restore_exactly, restore_leaves}
+use Rattle.refusal.specs.Answers.{Acceptance}
+use Rattle.std.specs.Prelude.{Ok, Err}
 
 -- what an accepted change leaves are the answers of the table, so the next call does not refuse them by 8
 pub leaves_defined : {m : Measure} {c : Columns} {new column : List ℕ} {left : Entries} → Leaves m c new column left → Defined m c left
@@ -33,33 +33,33 @@ module _ (m : Measure) (c : Columns) (a : Entries) where
   defined_is d = entries_true a (entries_of m c) ((same_exactly m c a d.accepted).1 d.means)
 
   -- a struck line is not repriced
-  pub reprice-struck : lent_acceptance c a ≡ Accepted → (e w : ℕ) → strike_at c e ≡ struck_mark → (repriced m c a e w).result ≡ Refused NoSuchEdge
+  pub reprice-struck : lent_acceptance c a ≡ Ok tt → (e w : ℕ) → strike_at c e ≡ struck_mark → (repriced m c a e w).result ≡ Err NoSuchEdge
   reprice-struck p e w s = repriced_result_lem m c a e w ∙ (reprice_refused_exactly m c a e w NoSuchEdge).1 (WrongChange.line ((lent_exactly c a).0 p) (λ n. n.unstruck s))
 
   module _ (e : ℕ) where
     -- outcomes of accepted changes
-    pub repriced_is : (w : ℕ) → reprice_acceptance m c a e w ≡ Accepted → repriced m c a e w ≡ record { result = Accepted; own = set c.own e w; left = entries_of m (with_own c e w) }
+    pub repriced_is : (w : ℕ) → reprice_acceptance m c a e w ≡ Ok tt → repriced m c a e w ≡ record { result = Ok tt; own = set c.own e w; left = entries_of m (with_own c e w) }
     unfolding repriced
     repriced_is w p = rw p
 
-    pub stricken_is : strike_acceptance m c a e ≡ Accepted
-        → stricken m c a e ≡ record { result = Accepted; strikes = set c.strikes e struck_mark; left = entries_of m (with_strike c e struck_mark) }
+    pub stricken_is : strike_acceptance m c a e ≡ Ok tt
+        → stricken m c a e ≡ record { result = Ok tt; strikes = set c.strikes e struck_mark; left = entries_of m (with_strike c e struck_mark) }
     unfolding stricken
     stricken_is p = rw p
 
-    pub restored_is : restore_acceptance m c a e ≡ Accepted
-        → restored m c a e ≡ record { result = Accepted; strikes = set c.strikes e standing; left = entries_of m (with_strike c e standing) }
+    pub restored_is : restore_acceptance m c a e ≡ Ok tt
+        → restored m c a e ≡ record { result = Ok tt; strikes = set c.strikes e standing; left = entries_of m (with_strike c e standing) }
     unfolding restored
     restored_is p = rw p
 
     -- the mark that was, put back
     mark_back : (s s' : ℕ) → Defined m c a → strike_at c e ≡ s'
         → ◌≡◌ {A = MarkOutcome Acceptance}
-        (record { result = Accepted; strikes = set (set c.strikes e s) e s'; left = entries_of m (with_strike (with_strike c e s) e s') })
-        (record { result = Accepted; strikes = c.strikes; left = a })
+        (record { result = Ok tt; strikes = set (set c.strikes e s) e s'; left = entries_of m (with_strike (with_strike c e s) e s') })
+        (record { result = Ok tt; strikes = c.strikes; left = a })
     mark_back s s' d p =
         let q : with_strike (with_strike c e s) e s' ≡ c = subst (λ (x : ℕ). with_strike (with_strike c e s) e x ≡ c) p (strike_back c e s) in
-        λ i. record { result = Accepted; strikes = (q i).strikes; left = (ap (entries_of m) q ∙ sym (defined_is d)) i }
+        λ i. record { result = Ok tt; strikes = (q i).strikes; left = (ap (entries_of m) q ∙ sym (defined_is d)) i }
 
     -- right answers of an accepted table
     module _ (d : Defined m c a) where
@@ -74,10 +74,10 @@ module _ (m : Measure) (c : Columns) (a : Entries) where
         stands_named : Named (with_strike c e standing) e
         stands_named = record { numbered = n; unstruck = λ q. omega (arith, marked_here standing) }
 
-      named_accepted : Named c e → strike_acceptance m c a e ≡ Accepted
+      named_accepted : Named c e → strike_acceptance m c a e ≡ Ok tt
       named_accepted n = (strike_exactly m c a e).1 (record { lent = (lent_exactly c a).0 d.accepted; line = n; further = tt; answers = d.means })
 
-      struck-accepted : Struck c e → restore_acceptance m c a e ≡ Accepted
+      struck-accepted : Struck c e → restore_acceptance m c a e ≡ Ok tt
       struck-accepted n = (restore_exactly m c a e).1 (record { lent = (lent_exactly c a).0 d.accepted; line = n.numbered; further = n.struck; answers = d.means })
 
       stricken_defined : Named c e → Defined m (with_strike c e struck_mark) (entries_of m (with_strike c e struck_mark))

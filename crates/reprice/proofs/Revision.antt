@@ -17,7 +17,6 @@ use Rattle.weights.specs.Measures.{algebra}
 use Rattle.weights.specs.Labels.{label_state}
 use Rattle.weights.proofs.Laws.{lawful, below_over}
 use Rattle.weights.proofs.States.{unmade_state, made_state}
-use Rattle.refusal.specs.declared.Acceptance.TheVariants.{Accepted}
 use Rattle.provenance.specs.Hypergraph.{Hypergraph, Derivation, listing}
 use Rattle.provenance.specs.Labelling.{Made, Fixpoint}
 use Rattle.provenance.specs.Counting.{count, Raised, bill_change}
@@ -33,6 +32,7 @@ use Rattle.tables.specs.Table.{hypergraph}
 use Rattle.settle.proofs.Demands.{answers_fixpoint}
 use Rattle.reprice.specs.Demand3.{labels_of, state_in, Pair}
 use Rattle.reprice.specs.Revision.{Revised, Revision}
+use Rattle.std.specs.Prelude.{Ok}
 
 -- a part that is unmade by one labelling is by another that makes no more
 zero_kept : (ls ls' : ℕ → Label) (v : ℕ) → (Made (ls' v) → Made (ls v)) → (ls v).depth ≡ 0 → (ls' v).depth ≡ 0
@@ -57,7 +57,7 @@ made_within m {ls = ls} fix v p =
 abbrev pub with_figures : Columns → List ℕ → Columns
 with_figures c own' = columns c.vertices c.heads own' c.strikes c.spans c.tails
 
-module _ (m : Measure) (c : Columns) (own' : List ℕ) (p : acceptance c ≡ Accepted) (p' : acceptance (with_figures c own') ≡ Accepted) where
+module _ (m : Measure) (c : Columns) (own' : List ℕ) (p : acceptance c ≡ Ok tt) (p' : acceptance (with_figures c own') ≡ Ok tt) where
   pub old_fixpoint : Fixpoint (algebra m) (hypergraph c) (own_at c) (labels_of m c)
   old_fixpoint = answers_fixpoint m c p
 
@@ -70,7 +70,7 @@ module _ (m : Measure) (c : Columns) (own' : List ℕ) (p : acceptance c ≡ Acc
     unmade_in (labels_of m (with_figures c own')) (labels_of m c) v (same_made (lawful m) old_fixpoint new_fixpoint v),
   )
 
-revision : (c : Columns) (own' : List ℕ) → acceptance c ≡ Accepted → acceptance (with_figures c own') ≡ Accepted → Revision c (with_figures c own')
+revision : (c : Columns) (own' : List ℕ) → acceptance c ≡ Ok tt → acceptance (with_figures c own') ≡ Ok tt → Revision c (with_figures c own')
 revision c own' p p' =
     let fix = old_fixpoint Cost c own' p p' in
     let fix' = new_fixpoint Cost c own' p p' in
@@ -86,11 +86,11 @@ other_figures c c' r = λ i. columns (r.vertices i) (r.heads i) c'.own (r.strike
 pub cost_revision : (c c' : Columns) → Revised c c' → Revision c c'
 cost_revision c c' r =
     let e = other_figures c c' r in
-    subst (λ (x : Columns). Revision c x) (sym e) (revision c c'.own r.accepted (subst (λ (x : Columns). acceptance x ≡ Accepted) e r.accepted'))
+    subst (λ (x : Columns). Revision c x) (sym e) (revision c c'.own r.accepted (subst (λ (x : Columns). acceptance x ≡ Ok tt) e r.accepted'))
 
 -- one line raised by d ------------------------------------------------------------------------------------------------------------------------------------------------
 
-module _ (c : Columns) (e d : ℕ) (p : acceptance c ≡ Accepted) (n : e < length c.heads) where
+module _ (c : Columns) (e d : ℕ) (p : acceptance c ≡ Ok tt) (n : e < length c.heads) where
   pub raised_here : own_at (with_own c e (own_at c e + d)) e ≡ own_at c e + d
   raised_here = own_here c e (own_at c e + d) (omega (arith, (table_accepted c p).own, n))
 

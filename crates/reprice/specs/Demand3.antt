@@ -2,7 +2,7 @@
 -- unstruck in both: repricing that line carries the answers of either table to the other's; the same parts are unmade; and in cost every part that is made in both
 -- rises by at least d × (how often the line stands in its new bill) and at most d × (how often in its old bill), in days and in grade by 0 to d. Assumes nothing:
 -- these are definitions.
-use Rattle.std.specs.Prelude.{◌≡◌, false, ◌↔◌, ℕ, ◌+◌, ◌<◌, length}
+use Rattle.std.specs.Prelude.{◌≡◌, false, ◌↔◌, ℕ, ◌+◌, ◌<◌, length, Ok}
 use Rattle.weights.specs.declared.Measure.{Measure}
 use Rattle.weights.specs.declared.Measure.TheVariants.{Cost, Days, Grade}
 use Rattle.weights.specs.declared.State.{State}
@@ -10,7 +10,6 @@ use Rattle.weights.specs.declared.State.TheVariants.{Made, Unmade}
 use Rattle.weights.specs.declared.Label.{Label}
 use Rattle.weights.specs.Figures.{is_struck_mark}
 use Rattle.weights.specs.Labels.{label_state}
-use Rattle.refusal.specs.declared.Acceptance.TheVariants.{Accepted}
 use Rattle.provenance.specs.Hypergraph.{Derivation, listing}
 use Rattle.provenance.specs.Means.{Follows}
 use Rattle.columns.specs.Columns.{Entries, Columns, own_at, strike_at, with_own}
@@ -32,8 +31,8 @@ state_in m c v = label_state (labels_of m c v)
 
 -- the two tables: the new one is the old with line e raised by d
 pub record Pair (c c' : Columns) (e d : ℕ) : Type 0 where
-  pub accepted : acceptance c ≡ Accepted
-  pub accepted' : acceptance c' ≡ Accepted
+  pub accepted : acceptance c ≡ Ok tt
+  pub accepted' : acceptance c' ≡ Ok tt
   pub raised : c' ≡ with_own c e (own_at c e + d)
   pub numbered : e < length c.heads
   pub unstruck : is_struck_mark (strike_at c e) ≡ false
@@ -46,10 +45,10 @@ Rise Grade d w w' old new = DaysRise d w w'
 
 -- no tree in it: settling either table and then repricing the line to the other's figure leaves what settling the other gives, and the same parts are unmade
 pub record Carries (m : Measure) (c c' : Columns) (e : ℕ) : Type 0 where
-  pub up : (a a' : Entries) → (settled m c a).result ≡ Accepted → (settled m c' a').result ≡ Accepted
-      → repriced m c (settled m c a).left e (own_at c' e) ≡ record { result = Accepted; own = c'.own; left = (settled m c' a').left }
-  pub down : (a a' : Entries) → (settled m c a).result ≡ Accepted → (settled m c' a').result ≡ Accepted
-      → repriced m c' (settled m c' a').left e (own_at c e) ≡ record { result = Accepted; own = c.own; left = (settled m c a).left }
+  pub up : (a a' : Entries) → (settled m c a).result ≡ Ok tt → (settled m c' a').result ≡ Ok tt
+      → repriced m c (settled m c a).left e (own_at c' e) ≡ record { result = Ok tt; own = c'.own; left = (settled m c' a').left }
+  pub down : (a a' : Entries) → (settled m c a).result ≡ Ok tt → (settled m c' a').result ≡ Ok tt
+      → repriced m c' (settled m c' a').left e (own_at c e) ≡ record { result = Ok tt; own = c.own; left = (settled m c a).left }
   pub unmade : (v : ℕ) → (state_in m c v ≡ Unmade) ↔ (state_in m c' v ≡ Unmade)
 
 pub record Demand3 (m : Measure) (c c' : Columns) (e d : ℕ) : Type 0 where

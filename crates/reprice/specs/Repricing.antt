@@ -1,12 +1,10 @@
 -- Repricing, striking and restoring a line: their refusals, and what they leave. The paper's "The calls" and "What is turned away"; document 02, 2026-02. Assumes
 -- nothing: these are definitions.
-use Rattle.std.specs.Prelude.{ℕ, ◌≤◌, ◌<◌, ◌≡◌, Bool, true, false, not, List, length, set, ltb, leb}
+use Rattle.std.specs.Prelude.{ℕ, ◌≤◌, ◌<◌, ◌≡◌, Bool, true, false, not, List, length, set, ltb, leb, Ok, Err}
 use Rattle.weights.specs.declared.Measure.{Measure}
 use Rattle.weights.specs.Choice.{pick}
 use Rattle.weights.specs.Figures.{greatest, standing, struck_mark, is_struck_mark}
 use Rattle.refusal.specs.declared.Refusal.TheVariants.{NoSuchEdge, NewWeight, NotStruck}
-use Rattle.refusal.specs.declared.Acceptance.{Acceptance}
-use Rattle.refusal.specs.declared.Acceptance.TheVariants.{Accepted, Refused}
 use Rattle.columns.specs.Columns.{Entries, Columns, strike_at, with_own, with_strike}
 use Rattle.columns.specs.Acceptance.{test, and_then, lent_acceptance}
 use Rattle.columns.specs.Lent.{Turning}
@@ -14,6 +12,7 @@ use Rattle.columns.proofs.Accepted.{AcceptedColumns}
 use Rattle.settle.specs.Settling.{entries_of}
 use Rattle.settle.specs.Checking.{answers_acceptance}
 use Rattle.settle.specs.Resting.{rests}
+use Rattle.refusal.specs.Answers.{Acceptance}
 
 -- line e exists and is not struck
 abbrev pub stands : Columns → ℕ → Bool
@@ -21,7 +20,7 @@ stands c e = pick (ltb e (length c.heads)) (not (is_struck_mark (strike_at c e))
 
 -- 1 to 6 and 21, 7, then 9
 unfoldable pub line_acceptance : Columns → Entries → ℕ → Acceptance
-line_acceptance c a e = and_then (lent_acceptance c a) (test (stands c e) NoSuchEdge Accepted)
+line_acceptance c a e = and_then (lent_acceptance c a) (test (stands c e) NoSuchEdge (Ok tt))
 
 -- repricing line e to w: 1 to 6 and 21, 7, 9, 10, 8
 unfoldable pub reprice_acceptance : Measure → Columns → Entries → (e w : ℕ) → Acceptance
@@ -33,11 +32,11 @@ strike_acceptance m c a e = and_then (line_acceptance c a e) (answers_acceptance
 
 -- 1 to 6 and 21, 7, then 9 only where the line does not exist
 unfoldable pub numbered_acceptance : Columns → Entries → ℕ → Acceptance
-numbered_acceptance c a e = and_then (lent_acceptance c a) (test (ltb e (length c.heads)) NoSuchEdge Accepted)
+numbered_acceptance c a e = and_then (lent_acceptance c a) (test (ltb e (length c.heads)) NoSuchEdge (Ok tt))
 
 -- "20 for restoring a line that isn't struck, tried directly after 9 (for this call 9 means only that the line does not exist)"
 unfoldable pub struck_acceptance : Columns → Entries → ℕ → Acceptance
-struck_acceptance c a e = and_then (numbered_acceptance c a e) (test (is_struck_mark (strike_at c e)) NotStruck Accepted)
+struck_acceptance c a e = and_then (numbered_acceptance c a e) (test (is_struck_mark (strike_at c e)) NotStruck (Ok tt))
 
 -- restoring line e: 1 to 6 and 21, 7, 9, 20, 8
 unfoldable pub restore_acceptance : Measure → Columns → Entries → ℕ → Acceptance
@@ -51,8 +50,8 @@ pub record ChangeOutcome (R : Type 0) : Type 0 where
 
 -- on acceptance the own figure of line e is w, and the answers are those of the table as it then is; on a refusal nothing has changed
 abbrev pub changed : Measure → Columns → Entries → (e w : ℕ) → Acceptance → ChangeOutcome Acceptance
-changed m c a e w Accepted = record { result = Accepted; own = set c.own e w; left = entries_of m (with_own c e w) }
-changed m c a e w (Refused r) = record { result = Refused r; own = c.own; left = a }
+changed m c a e w (Ok _) = record { result = Ok tt; own = set c.own e w; left = entries_of m (with_own c e w) }
+changed m c a e w (Err r) = record { result = Err r; own = c.own; left = a }
 
 -- the same of a change of the strike mark: the own figures too are lent to be read alone
 pub record MarkOutcome (R : Type 0) : Type 0 where
@@ -62,8 +61,8 @@ pub record MarkOutcome (R : Type 0) : Type 0 where
 
 -- on acceptance the strike mark of line e is s, and the answers are those of the table as it then is; on a refusal nothing has changed
 abbrev pub marked : Measure → Columns → Entries → (e s : ℕ) → Acceptance → MarkOutcome Acceptance
-marked m c a e s Accepted = record { result = Accepted; strikes = set c.strikes e s; left = entries_of m (with_strike c e s) }
-marked m c a e s (Refused r) = record { result = Refused r; strikes = c.strikes; left = a }
+marked m c a e s (Ok _) = record { result = Ok tt; strikes = set c.strikes e s; left = entries_of m (with_strike c e s) }
+marked m c a e s (Err r) = record { result = Err r; strikes = c.strikes; left = a }
 
 -- what a change asks: table and answer columns that were accepted, a line that has its own figure, and a figure that is allowed
 pub record Changeable (c : Columns) (a : Entries) (e w : ℕ) : Type 0 where

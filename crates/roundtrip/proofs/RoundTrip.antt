@@ -13,10 +13,6 @@ use Rattle.weights.specs.Choice.{pick}
 use Rattle.refusal.specs.declared.Refusal.{Refusal}
 use Rattle.refusal.specs.declared.Refusal.TheVariants.{TextRoom}
 use Rattle.refusal.specs.declared.Header.{Header}
-use Rattle.refusal.specs.declared.Reading.TheVariants as reading
-use Rattle.refusal.specs.declared.Acceptance.{Acceptance}
-use Rattle.refusal.specs.declared.Acceptance.TheVariants.{Accepted, Refused}
-use Rattle.refusal.specs.declared.Extent.TheVariants as extent
 use Rattle.columns.specs.Columns.{Columns}
 use Rattle.columns.specs.Acceptance.{acceptance}
 use Rattle.text.specs.Tables.{Edge, Table, table_of, listed_in_all, heads_of, owns_of, marks_of, spans_from, tails_of, columns_of, closed}
@@ -31,6 +27,10 @@ use Rattle.reading.specs.Lines.{header_of}
 use Rattle.readtable.specs.Read.{read_outcome, columns_read, room_for, read_into, read_table}
 use Rattle.writetable.specs.Write.{write_outcome, write_text, write_as, write_table}
 use Rattle.roundtrip.specs.RoundTrip.{Room, header_for, filled_with}
+use Rattle.refusal.specs.Answers.{Acceptance}
+use Rattle.std.specs.Prelude.{Ok, Err}
+use Rattle.refusal.specs.Answers.{Extent}
+use Rattle.refusal.specs.Answers.{Reading}
 
 -- The text of an accepted table is read as the table with its gaps closed --------------------------------------------------------------------
 
@@ -65,41 +65,41 @@ unfolding read_into
 read_table_lem text u h o ms s t e r =
     rw (e, roomy u h o ms s t r)
     (ap
-    (λ (z : Header). read_outcome (reading.Table z) (filled (heads_of u.edges) h) (filled (owns_of u.edges) o) (filled (marks_of u.edges) ms)
+    (λ (z : Header). read_outcome (Ok z) (filled (heads_of u.edges) h) (filled (owns_of u.edges) o) (filled (marks_of u.edges) ms)
     (filled (spans_from 0 u.edges) s) (filled (tails_of u.edges) t))
     (header_is u.measure u.vertices u.edges))
 
-pub read_rendered : (m : Measure) (c : Columns) (h o ms s t : List ℕ) → acceptance c ≡ Accepted → Room (closed c) h o ms s t → read_table (render m c) h o ms s t ≡ filled_with (closed c) m h o ms s t
+pub read_rendered : (m : Measure) (c : Columns) (h o ms s t : List ℕ) → acceptance c ≡ Ok tt → Room (closed c) h o ms s t → read_table (render m c) h o ms s t ≡ filled_with (closed c) m h o ms s t
 read_rendered m c h o ms s t a r = read_table_lem (render m c) (table_of m c) h o ms s t (complete (table_of m c) (accepted_fits m c a)) r
 
 -- Read after write ----------------------------------------------------------------------------------------------------------------------------
 
-no_length : {x : Refusal} {k : ℕ} → extent.Refused x ≡ extent.Length k → ⊥
+no_length : {x : Refusal} {k : ℕ} → ◌≡◌ {A = Extent} (Err x) (Ok k) → ⊥
 no_length {x} {k} e = let z : ◌≡◌ {A = ℕ} 0 1 = cc in omega arith
 
-no_table : {x : Refusal} {g : Header} → reading.Refused x ≡ reading.Table g → ⊥
+no_table : {x : Refusal} {g : Header} → ◌≡◌ {A = Reading} (Err x) (Ok g) → ⊥
 no_table {x} {g} e = let z : ◌≡◌ {A = ℕ} 0 1 = cc in omega arith
 
 -- a text that was written stands at the room's start
-text_there : (text room : List ℕ) (k : ℕ) → (write_text text room).answer ≡ extent.Length k → take k (write_text text room).room ≡ text
+text_there : (text room : List ℕ) (k : ℕ) → (write_text text room).answer ≡ Ok k → take k (write_text text room).room ≡ text
 unfolding write_text
 text_there text room k e = go (leb (length text) (length room)) e
   where
-    go : (b : Bool) → (pick b (write_outcome (extent.Length (length text)) (filled text room)) (write_outcome (extent.Refused TextRoom) room)).answer ≡ extent.Length k
-        → take k (pick b (write_outcome (extent.Length (length text)) (filled text room)) (write_outcome (extent.Refused TextRoom) room)).room ≡ text
+    go : (b : Bool) → (pick b (write_outcome (Ok (length text)) (filled text room)) (write_outcome (Err TextRoom) room)).answer ≡ Ok k
+        → take k (pick b (write_outcome (Ok (length text)) (filled text room)) (write_outcome (Err TextRoom) room)).room ≡ text
     go true q = let z : length text ≡ k = cc in take-filled text room k z
     go false q = absurd (no_length q)
 
 -- a table that was written was accepted, and its text stands at the room's start
-pub written : (m : Measure) (c : Columns) (room : List ℕ) (k : ℕ) → (write_table m c room).answer ≡ extent.Length k → (acceptance c ≡ Accepted) × (take k (write_table m c room).room ≡ render m c)
+pub written : (m : Measure) (c : Columns) (room : List ℕ) (k : ℕ) → (write_table m c room).answer ≡ Ok k → (acceptance c ≡ Ok tt) × (take k (write_table m c room).room ≡ render m c)
 written m c room k e = go (acceptance c) refl e
   where
-    go : (a : Acceptance) → acceptance c ≡ a → (write_as a (render m c) room).answer ≡ extent.Length k → (acceptance c ≡ Accepted) × (take k (write_as a (render m c) room).room ≡ render m c)
-    go Accepted p q = (p, text_there (render m c) room k q)
-    go (Refused r) p q = absurd (no_length q)
+    go : (a : Acceptance) → acceptance c ≡ a → (write_as a (render m c) room).answer ≡ Ok k → (acceptance c ≡ Ok tt) × (take k (write_as a (render m c) room).room ≡ render m c)
+    go (Ok _) p q = (p, text_there (render m c) room k q)
+    go (Err r) p q = absurd (no_length q)
 
 -- what was written, read into columns with room for it, is the table with its gaps closed
-pub read_after_write : (m : Measure) (c : Columns) (room : List ℕ) (k : ℕ) (h o ms s t : List ℕ) → (write_table m c room).answer ≡ extent.Length k → Room (closed c) h o ms s t
+pub read_after_write : (m : Measure) (c : Columns) (room : List ℕ) (k : ℕ) (h o ms s t : List ℕ) → (write_table m c room).answer ≡ Ok k → Room (closed c) h o ms s t
     → read_table (take k (write_table m c room).room) h o ms s t ≡ filled_with (closed c) m h o ms s t
 read_after_write m c room k h o ms s t e r =
     let w = written m c room k e in
@@ -112,23 +112,23 @@ pub record Held (text h o ms s t : List ℕ) (g : Header) : Type 0 where
   pub table : Table
   pub whole : parse text ≡ Whole table
   pub header_same : g ≡ header_of table
-  pub outcome : read_table text h o ms s t ≡ read_outcome (reading.Table (header_of table)) (filled (heads_of table.edges) h)
+  pub outcome : read_table text h o ms s t ≡ read_outcome (Ok (header_of table)) (filled (heads_of table.edges) h)
       (filled (owns_of table.edges) o) (filled (marks_of table.edges) ms) (filled (spans_from 0 table.edges) s) (filled (tails_of table.edges) t)
 
-pub held : (text h o ms s t : List ℕ) (g : Header) → (read_table text h o ms s t).answer ≡ reading.Table g → Held text h o ms s t g
+pub held : (text h o ms s t : List ℕ) (g : Header) → (read_table text h o ms s t).answer ≡ Ok g → Held text h o ms s t g
 unfolding read_into
 held text h o ms s t g e = go (parse text) refl e
   where
     whole : (u : Table) → parse text ≡ Whole u → (b : Bool) → room_for (header_of u) (length h) (length o) (length ms) (length s) (length t) ≡ b
         → (pick b
-        (read_outcome (reading.Table (header_of u)) (filled (heads_of u.edges) h) (filled (owns_of u.edges) o) (filled (marks_of u.edges) ms)
+        (read_outcome (Ok (header_of u)) (filled (heads_of u.edges) h) (filled (owns_of u.edges) o) (filled (marks_of u.edges) ms)
         (filled (spans_from 0 u.edges) s) (filled (tails_of u.edges) t))
-        (read_outcome (reading.Refused TextRoom) h o ms s t)).answer ≡ reading.Table g
+        (read_outcome (Err TextRoom) h o ms s t)).answer ≡ Ok g
         → Held text h o ms s t g
     whole u p true b q = record { table = u; whole = p; header_same = let z : header_of u ≡ g = cc in sym z; outcome = unfold read_into in rw (p, b) }
     whole u p false b q = absurd (no_table q)
 
-    go : (P : Parse) → parse text ≡ P → (read_into text P h o ms s t).answer ≡ reading.Table g → Held text h o ms s t g
+    go : (P : Parse) → parse text ≡ P → (read_into text P h o ms s t).answer ≡ Ok g → Held text h o ms s t g
     go (Whole u) p q = whole u p (room_for (header_of u) (length h) (length o) (length ms) (length s) (length t)) refl (unfold read_into in q)
     go (Wrong l) p q = absurd (no_table (unfold read_into in q))
 
@@ -145,7 +145,7 @@ module _ (text h o ms s t : List ℕ) (g : Header) (k : Held text h o ms s t g) 
       let tails = take-filled (tails_of es) t (listed_in_all es) (length_tails es) in
       ap₂ columns_read k.header_same k.outcome ∙ rw (heads, own, strikes, spans, tails)
 
-  accepted_again : acceptance (columns_read g (read_table text h o ms s t)) ≡ Accepted
+  accepted_again : acceptance (columns_read g (read_table text h o ms s t)) ≡ Ok tt
   accepted_again = ap acceptance columns_are ∙ fits_accepted k.table (sound text k.table k.whole).0
 
   text_again : render g.measure (columns_read g (read_table text h o ms s t)) ≡ text
@@ -155,8 +155,8 @@ module _ (text h o ms s t : List ℕ) (g : Header) (k : Held text h o ms s t g) 
       ∙ sym (sound text k.table k.whole).1
 
 -- what was read, written into room that holds the text, is the text again, byte for byte; and the room behind it is as it was
-pub write_after_read : (text h o ms s t room : List ℕ) (g : Header) → (read_table text h o ms s t).answer ≡ reading.Table g → length text ≤ length room
-    → write_table g.measure (columns_read g (read_table text h o ms s t)) room ≡ write_outcome (extent.Length (length text)) (filled text room)
+pub write_after_read : (text h o ms s t room : List ℕ) (g : Header) → (read_table text h o ms s t).answer ≡ Ok g → length text ≤ length room
+    → write_table g.measure (columns_read g (read_table text h o ms s t)) room ≡ write_outcome (Ok (length text)) (filled text room)
 unfolding write_text
 write_after_read text h o ms s t room g e l =
     let k = held text h o ms s t g e in
@@ -165,5 +165,5 @@ write_after_read text h o ms s t room g e l =
     ∙ rw (le-leb (length text) (length room) l)
 
 -- what was read is accepted
-pub read_accepted : (text h o ms s t : List ℕ) (g : Header) → (read_table text h o ms s t).answer ≡ reading.Table g → acceptance (columns_read g (read_table text h o ms s t)) ≡ Accepted
+pub read_accepted : (text h o ms s t : List ℕ) (g : Header) → (read_table text h o ms s t).answer ≡ Ok g → acceptance (columns_read g (read_table text h o ms s t)) ≡ Ok tt
 read_accepted text h o ms s t g e = accepted_again text h o ms s t g (held text h o ms s t g e)

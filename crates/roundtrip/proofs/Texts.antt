@@ -11,7 +11,6 @@ use borrow.Author.Tests.{leb-true}
 use Rattle.weights.proofs.Choice.{apart, both_true}
 use Rattle.refusal.specs.declared.Refusal.{Refusal}
 use Rattle.refusal.specs.declared.Refusal.TheVariants.{Text, TextRoom}
-use Rattle.refusal.specs.declared.Reading.TheVariants as reading
 use Rattle.columns.specs.Columns.{Columns}
 use Rattle.columns.specs.Owed.{Owed}
 use Rattle.text.specs.Tables.{Table, listed_in_all, table_of, columns_of, closed}
@@ -28,6 +27,7 @@ use Rattle.roundtrip.proofs.RoundTrip.{roomy}
 use Rattle.roundtrip.proofs.Refused.{permitted_is_read}
 use Rattle.roundtrip.specs.Refused.{refused_at}
 use Rattle.roundtrip.specs.Reads.{RightRead, WrongRead, ReadOwes}
+use Rattle.std.specs.Prelude.{Err}
 
 roomed : (u : Table) (h o ms s t : List ℕ) → room_for (header_of u) (length h) (length o) (length ms) (length s) (length t) ≡ true → Room (columns_of u.vertices u.edges) h o ms s t
 unfolding room_for
@@ -57,7 +57,7 @@ module _ (text h o ms s t : List ℕ) where
       subst (ReadOwes text h o ms s t) (sym (permitted_is_read text h o ms s t p r)) (Owed.accepted (record { permitted = p; room = r }))
   of_table p false e =
       let n : ¬ Room (closed p.table) h o ms s t = λ r. apart (sym e ∙ roomy (table_of p.measure p.table) h o ms s t r) in
-      let q : read_table text h o ms s t ≡ read_outcome (reading.Refused TextRoom) h o ms s t = unfold read_into in rw (permitted_read text p, e) in
+      let q : read_table text h o ms s t ≡ read_outcome (Err TextRoom) h o ms s t = unfold read_into in rw (permitted_read text p, e) in
       subst (ReadOwes text h o ms s t) (sym q) (Owed.refused (WrongRead.room p n))
 
   pub reads : ReadOwes text h o ms s t (read_table text h o ms s t)

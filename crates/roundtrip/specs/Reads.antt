@@ -1,9 +1,8 @@
 -- Which texts are read into five lent columns, and by what a text is refused. The paper's "Reading text: 14 at the first text line that breaks a rule …, then 15".
 -- Assumes nothing: these are definitions.
-use Rattle.std.specs.Prelude.{List, ℕ}
+use Rattle.std.specs.Prelude.{List, ℕ, Ok, Err}
 use Rattle.refusal.specs.declared.Refusal.{Refusal}
 use Rattle.refusal.specs.declared.Refusal.TheVariants.{Text, TextRoom}
-use Rattle.refusal.specs.declared.Reading.TheVariants.{Table, Refused}
 use Rattle.columns.specs.Filled.{filled}
 use Rattle.columns.specs.Owed.{Owed}
 use Rattle.text.specs.Tables.{closed}
@@ -26,7 +25,7 @@ pub data WrongRead (text h o ms s t : List ℕ) : Refusal → Type 0 where
 -- demand 1 of reading: "Reading returns n, the measure and the counts, and writes that many places of each column; the rest keep theirs"
 abbrev pub ReadOwes : (text h o ms s t : List ℕ) → ReadOutcome → Type 0
 ReadOwes text h o ms s t x =
-    Owed {L = List ℕ × List ℕ × List ℕ × List ℕ × List ℕ} Refused (h, o, ms, s, t) (RightRead text h o ms s t) (λ p. Table (header_for p.permitted.measure (closed p.permitted.table)))
+    Owed {L = List ℕ × List ℕ × List ℕ × List ℕ × List ℕ} Err (h, o, ms, s, t) (RightRead text h o ms s t) (λ p. Ok (header_for p.permitted.measure (closed p.permitted.table)))
     (λ p. let c = closed p.permitted.table in
     (filled c.heads h, filled c.own o, filled c.strikes ms, filled c.spans s, filled c.tails t))
     (WrongRead text h o ms s t) x.answer (x.heads, x.own, x.strikes, x.spans, x.tails)

@@ -1,9 +1,8 @@
 -- "Read after write gives the table with its gaps closed; write after read gives the text back": the paper's "The text", of what the contracts of
 -- `read_table` and `write_table` say. Assumes nothing: these are definitions.
-use Rattle.std.specs.Prelude.{ℕ, ◌≤◌, List, length}
+use Rattle.std.specs.Prelude.{ℕ, ◌≤◌, List, length, Ok}
 use Rattle.weights.specs.declared.Measure.{Measure}
 use Rattle.refusal.specs.declared.Header.{Header}
-use Rattle.refusal.specs.declared.Reading.TheVariants as reading
 use Rattle.columns.specs.Columns.{Columns}
 use Rattle.columns.specs.Filled.{filled}
 use Rattle.readtable.specs.Read.{ReadOutcome, read_outcome}
@@ -23,4 +22,4 @@ header_for m c = record { vertices = c.vertices; measure = m; edges = length c.h
 -- the columns filled from their start with those of a table
 abbrev pub filled_with : Columns → Measure → (h o ms s t : List ℕ) → ReadOutcome
 filled_with c m h o ms s t =
-    read_outcome (reading.Table (header_for m c)) (filled c.heads h) (filled c.own o) (filled c.strikes ms) (filled c.spans s) (filled c.tails t)
+    read_outcome (Ok (header_for m c)) (filled c.heads h) (filled c.own o) (filled c.strikes ms) (filled c.spans s) (filled c.tails t)

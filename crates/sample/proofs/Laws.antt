@@ -8,15 +8,13 @@ use lib.Dec.{leb, eqb}
 use borrow.Author.Tests.{leb-false}
 use Rattle.text.specs.Render.{digits, tail_text}
 use Rattle.text.proofs.Digits.{pick_by}
-use Rattle.cursor.specs.declared.Found.{Found}
-use Rattle.cursor.specs.declared.Found.TheVariants as found
 use Rattle.cursor.specs.Cursor.{number_at}
 use Rattle.cursor.proofs.Counts.{token_within}
 use Rattle.writing.proofs.Widths.{width_20}
 use Rattle.sample.specs.declared.Next.{Next}
 use Rattle.sample.specs.declared.Next.TheVariants.{Number, Wrong, End}
-use Rattle.sample.specs.declared.Sample.{Sample}
-use Rattle.sample.specs.declared.Sample.TheVariants.{Count, Refused}
+use Rattle.std.specs.Prelude.{Result, Ok, Err, Option, Some, None}
+use Rattle.refusal.specs.declared.Refusal.{Refusal}
 use Rattle.sample.specs.Sample.{number_limit, wrong_at, on_found, result_at, Read, read, on_next, sample_from, most_fraction, fraction_line}
 
 -- A line -----------------------------------------------------------------------------------------------------------------------------------------
@@ -27,9 +25,9 @@ Placed s at (Wrong p) = (at ≤ p) × (p ≤ length s)
 Placed s at (Number v next) = Unit {0}
 Placed s at End = Unit {0}
 
-found-placed : (s : List ℕ) (at stop : ℕ) (f : Found) → at ≤ stop → stop ≤ length s → Placed s at (on_found s stop f)
-found-placed s at stop (found.Number v) h g = pick_by (Placed s at) (eqb (get_or s stop 0) 10) (λ _. tt) (λ _. (h, g))
-found-placed s at stop found.NotANumber h g = (h, g)
+found-placed : (s : List ℕ) (at stop : ℕ) (f : (Option ℕ)) → at ≤ stop → stop ≤ length s → Placed s at (on_found s stop f)
+found-placed s at stop (Some v) h g = pick_by (Placed s at) (eqb (get_or s stop 0) 10) (λ _. tt) (λ _. (h, g))
+found-placed s at stop None h g = (h, g)
 
 placed : (s : List ℕ) (at : ℕ) → Placed s at (result_at s at)
 unfolding result_at
@@ -51,10 +49,10 @@ module _ (s : List ℕ) (at i : ℕ) (c : List ℕ) where
   next_is left rest x q e =
       ap (λ (k : ℕ). sample_from k s at i c) q ∙ ap (λ (z : Next). on_next z at i c (λ v next. sample_from rest s next (i + 1) (set c i v))) e
 
-  pub at_end : i < length c → result_at s at ≡ End → sample_from (length c - i) s at i c ≡ read (Count i) c
+  pub at_end : i < length c → result_at s at ≡ End → sample_from (length c - i) s at i c ≡ read (Ok i) c
   at_end h e = next_is (length c - i) (length c - (i + 1)) End (omega arith) e
 
-  pub at_wrong : (p : ℕ) → i < length c → result_at s at ≡ Wrong p → sample_from (length c - i) s at i c ≡ read (Refused (wrong_at i at p)) c
+  pub at_wrong : (p : ℕ) → i < length c → result_at s at ≡ Wrong p → sample_from (length c - i) s at i c ≡ read (Err (wrong_at i at p)) c
   at_wrong p h e = next_is (length c - i) (length c - (i + 1)) (Wrong p) (omega arith) e
 
   pub at_number : (v next : ℕ) → i < length c → result_at s at ≡ Number v next
@@ -63,14 +61,14 @@ module _ (s : List ℕ) (at i : ℕ) (c : List ℕ) where
       ap (λ (k : ℕ). sample_from (k - (i + 1)) s next (i + 1) (set c i v)) (length-set c i v)
       ∙ sym (next_is (length c - i) (length c - (i + 1)) (Number v next) (omega arith) e)
 
-  pub at_full : (left : ℕ) → left ≡ 0 → sample_from left s at i c ≡ read (Count i) c
+  pub at_full : (left : ℕ) → left ≡ 0 → sample_from left s at i c ≡ read (Ok i) c
   unfolding sample_from
   at_full left q = ap (λ (k : ℕ). sample_from k s at i c) q
 
 -- no more results than there are places, and as many places as there were
-abbrev Most : ℕ → Sample → Type 0
-Most n (Count k) = k ≤ n
-Most n (Refused r) = Unit {0}
+abbrev Most : ℕ → Result ℕ Refusal → Type 0
+Most n (Ok k) = k ≤ n
+Most n (Err r) = Unit {0}
 
 abbrev Kept : ℕ → Read → Type 0
 Kept n x = Most n x.sample × (length x.column ≡ n)
@@ -87,7 +85,7 @@ sample_kept (suc left) s at i c n h e =
     next_kept n (result_at s at) at i c (λ v next. sample_from left s next (i + 1) (set c i v)) (omega arith) e
     (λ v next. sample_kept left s next (i + 1) (set c i v) n (omega arith) (length-set c i v ∙ e))
 
-pub count_most : (n : ℕ) (x : Sample) (k : ℕ) → Most n x → x ≡ Count k → k ≤ n
+pub count_most : (n : ℕ) (x : Result ℕ Refusal) (k : ℕ) → Most n x → x ≡ Ok k → k ≤ n
 count_most n x k m e = subst (Most n) e m
 
 -- A fraction ---------------------------------------------------------------------------------------------------------------------------------------

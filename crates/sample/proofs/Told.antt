@@ -8,13 +8,12 @@ use lib.ListN.{length, get_or, set, take, drop, replicate, length-append, length
 use lib.Seq.{take_all, take_at, drop_at, drop-drop, get_or-drop, get_or_at, sets, sets-eq}
 use Rattle.text.specs.Render.{digits}
 use Rattle.text.specs.Machine.{digit_of}
-use Rattle.cursor.specs.declared.Found.TheVariants as found
 use Rattle.cursor.specs.Cursor.{token}
 use Rattle.reader.proofs.Fields.{number_found}
 use Rattle.statistics.specs.Summaries.{summary_of}
 use Rattle.sample.specs.declared.Next.{Next}
 use Rattle.sample.specs.declared.Next.TheVariants.{Number}
-use Rattle.sample.specs.declared.Sample.TheVariants.{Count}
+use Rattle.std.specs.Prelude.{Ok, Some}
 use Rattle.sample.specs.Sample.{most_read, number_limit, result_at, Read, read, on_next, sample_from, summary_said, read_said, mean_said}
 use Rattle.sample.specs.Told.{sample_text, Readable, none, also, MeanTold}
 use Rattle.sample.proofs.Results.{result_end, result_number}
@@ -29,14 +28,14 @@ line_read s rest at x e l =
     let stop = at + length (digits x) in
     let width = length (digits x) in
     let behind : get_or s stop 0 ≡ 10 = sym (get_or-drop at s width 0) ∙ ap (λ (z : List ℕ). get_or z width 0) e ∙ get_or_at (digits x) 10 rest 0 width refl in
-    sym (result_number s at (token at stop (found.Number x)) x (omega arith) (sym (number_found s (10 ∷ rest) at number_limit x e l (omega arith))) refl behind)
+    sym (result_number s at (token at stop (Some x)) x (omega arith) (sym (number_found s (10 ∷ rest) at number_limit x e l (omega arith))) refl behind)
 
-no_more : (i : ℕ) (c : List ℕ) → read (Count i) c ≡ read (Count (i + 0)) c
-no_more i c = let e : i ≡ i + 0 = omega arith in ap (λ (k : ℕ). read (Count k) c) e
+no_more : (i : ℕ) (c : List ℕ) → read (Ok i) c ≡ read (Ok (i + 0)) c
+no_more i c = let e : i ≡ i + 0 = omega arith in ap (λ (k : ℕ). read (Ok k) c) e
 
 -- the lines from a place on
 lines_read : (s : List ℕ) {xs : List ℕ} → Readable xs → (left at i : ℕ) (c : List ℕ) → drop at s ≡ sample_text xs
-    → sample_from left s at i c ≡ read (Count (i + length (take left xs))) (sets c i (take left xs))
+    → sample_from left s at i c ≡ read (Ok (i + length (take left xs))) (sets c i (take left xs))
 unfolding sample_from sample_text
 lines_read s none zero at i c e = no_more i c
 lines_read s (also l r) zero at i c e = no_more i c
@@ -56,8 +55,8 @@ lines_read s (also {x} {xs} l r) (suc left) at i c e =
     let count : i + 1 + length ys ≡ i + suc (length ys) = omega arith in
     ap (λ (z : Next). on_next z at i c (λ v next. sample_from left s next (i + 1) (set c i v))) (line_read s (sample_text xs) at x e l)
     ∙ lines_read s r left next (i + 1) (set c i x) on
-    ∙ ap (λ (k : ℕ). read (Count k) (sets (set c i x) (i + 1) ys)) count
-    ∙ ap (λ (k : ℕ). read (Count (i + suc (length ys))) (sets (set c i x) k ys)) (add-one i)
+    ∙ ap (λ (k : ℕ). read (Ok k) (sets (set c i x) (i + 1) ys)) count
+    ∙ ap (λ (k : ℕ). read (Ok (i + suc (length ys))) (sets (set c i x) k ys)) (add-one i)
 
 pub mean_told : (xs : List ℕ) → MeanTold xs
 unfolding mean_said

@@ -1,4 +1,6 @@
 // The mean and the variance of a sample that is written as a text: a result on each line.
+//
+// Kept: columns and rooms are lent, or arrays of a fixed size: the library and its programs use no heap.
 
 #![tactic(auto)]
 
@@ -7,10 +9,10 @@ ghost use Rattle.writing.specs.Written.{Written};
 ghost use Rattle.reply.specs.Reply.{most_reply, Replied};
 ghost use Rattle.sample.specs.Sample.{wrong_at, result_at, sample_from, most_fraction, fraction_line, summary_said, mean_said};
 
-use cursor::{Found, byte_at, number_at};
+use cursor::{byte_at, number_at};
 use refusal::{Refusal, TextColumn, TextLine};
 use reply::{Reply, Status, put_refusal};
-use statistics::Summary;
+use statistics::Moments;
 use writing::{put_number, put_tail};
 
 // One more than the results that a sample may have: one too many is read, and refused as too many.
@@ -21,18 +23,12 @@ const LIMIT: u64 = 1000000000000000000;
 
 // What stands at the start of a line: a number and the place of the next line, a byte that can't stand
 // where it stands, or nothing more.
+// Kept: an end is neither a number nor a mistake; an `Option` within a `Result` would hide which is which.
 #[derive(Clone, Copy)]
 pub enum Next {
     Number(u64, usize),
     Wrong(usize),
     End,
-}
-
-// How many results a text has, or its refusal.
-#[derive(Clone, Copy)]
-pub enum Sample {
-    Count(usize),
-    Refused(Refusal),
 }
 
 // The refusal of line i, from 0, that starts at `at`.
@@ -54,7 +50,7 @@ fn result_at(text: &[u8], at: usize) -> Next
     let token = number_at(text, at, LIMIT);
     let stop = token.stop;
     let found = token.found;
-    let Found::Number(v) = found else {
+    let Some(v) = found else {
         return Next::Wrong(stop);
     };
     let behind = byte_at(text, stop);
@@ -65,28 +61,26 @@ fn result_at(text: &[u8], at: usize) -> Next
     Next::Wrong(stop)
 }
 
-// The results of a text, put into a column until it is full.
-fn read_sample(text: &[u8], column: &mut [u64]) -> Sample
+// The results of a text, put into a column until it is full: how many there are, or the refusal.
+fn read_sample(text: &[u8], column: &mut [u64]) -> Result<usize, Refusal>
     ensures { record { sample = result; column = column.new } ≡ sample_from (length column.old) text.now 0 0 column.old }
 {
     let mut at: usize = 0;
-    let mut i: usize = 0;
-    while i < column.len() {
+    for i in 0..column.len() {
         let next = result_at(text, at);
         match next {
-            Next::End => return Sample::Count(i),
+            Next::End => return Ok(i),
             Next::Wrong(place) => {
                 let refusal = wrong_at(i, at, place);
-                return Sample::Refused(refusal);
+                return Err(refusal);
             }
             Next::Number(v, stop) => {
                 column[i] = v;
                 at = stop;
             }
         }
-        i += 1;
     }
-    Sample::Count(i)
+    Ok(column.len())
 }
 
 // A fraction's line: numerator and denominator.
@@ -111,13 +105,13 @@ fn put_fractions(room: &mut [u8], a: u64, b: u64, c: u64, d: u64) -> usize
     at + width
 }
 
-fn put_summary(room: &mut [u8], summary: Summary) -> Reply
+fn put_summary(room: &mut [u8], summary: Result<Moments, Refusal>) -> Reply
     requires { most_reply ≤ length room.old }
     ensures { Replied (summary_said summary) room.old result room.new }
 {
     match summary {
-        Summary::Refused(r) => put_refusal(room, r),
-        Summary::Moments(m) => {
+        Err(r) => put_refusal(room, r),
+        Ok(m) => {
             let mean = m.mean;
             let variance = m.variance;
             let a = mean.numerator;
@@ -141,8 +135,8 @@ pub fn put_mean(room: &mut [u8], text: &[u8]) -> Reply
     let mut column = [0u64; MOST_READ];
     let sample = read_sample(text, &mut column);
     match sample {
-        Sample::Refused(r) => put_refusal(room, r),
-        Sample::Count(k) => {
+        Err(r) => put_refusal(room, r),
+        Ok(k) => {
             let summary = statistics::summarize(&column[..k]);
             put_summary(room, summary)
         }

@@ -11,8 +11,6 @@ use Rattle.weights.proofs.Choice.{apart}
 use Rattle.weights.specs.Measures.{algebra}
 use Rattle.weights.proofs.Laws.{lawful}
 use Rattle.refusal.specs.declared.Refusal.{Refusal}
-use Rattle.refusal.specs.declared.Acceptance.TheVariants.{Accepted, Refused}
-use Rattle.refusal.specs.declared.Verdict.TheVariants as verdict
 use Rattle.provenance.specs.Labelling.{Fixpoint}
 use Rattle.columns.specs.Columns.{Answers, Entries, Columns, own_at}
 use Rattle.provenance.specs.BestFirst.{labels}
@@ -32,13 +30,14 @@ use Rattle.settle.specs.Comparing.{all_right}
 use Rattle.pieces.specs.Counting.{Countable, counted}
 use Rattle.settle.proofs.Settled.{answers_countable, answers-counted}
 use Rattle.columns.proofs.Usable.{same_table, turning_columns}
+use Rattle.std.specs.Prelude.{Ok, Err}
 
 module _ (m : Measure) (c : Columns) (a : Entries) where
-  pub checked_refused : (r : Refusal) → lent_acceptance c a ≡ Refused r → verdict.Refused r ≡ checked m c a
+  pub checked_refused : (r : Refusal) → lent_acceptance c a ≡ Err r → Err r ≡ checked m c a
   unfolding checked
   checked_refused r p = rw p
 
-  pub checked_told : (b : Bool) → lent_acceptance c a ≡ Accepted → same_entries a (entries_of m c) ≡ b → judged Accepted b ≡ checked m c a
+  pub checked_told : (b : Bool) → lent_acceptance c a ≡ Ok tt → same_entries a (entries_of m c) ≡ b → judged (Ok tt) b ≡ checked m c a
   unfolding checked
   checked_told b p q = rw (p, q)
 

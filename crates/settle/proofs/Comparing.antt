@@ -35,6 +35,22 @@ lines {c} t = (table_accepted c t.usable.accepted).own
 pub own_most : {c : Columns} {a : Answers} → Turning c a → (e : ℕ) → e < length c.heads → own_at c e ≤ greatest
 own_most {c} t e h = ((table_accepted c t.usable.accepted).each e h).1.own
 
+-- the head of line e has its place in each answer column
+pub record HeadIn (heads : List ℕ) (a : Answers) (e : ℕ) : Type 0 where
+  pub weights : cell heads e < length a.weights
+  pub depths : cell heads e < length a.depths
+  pub edges : cell heads e < length a.edges
+
+pub head_inside : {heads vs hs : List ℕ} {a : Answers} → Comparable heads vs hs a → (e : ℕ) → e < length heads → HeadIn heads a e
+head_inside p e h =
+    let d = p.inside e h in
+    record { weights = omega (arith, d, p.weights); depths = d; edges = omega (arith, d, p.edges) }
+
+pub head_within : {c : Columns} {a : Answers} → Turning c a → (e : ℕ) → e < length c.heads → HeadIn c.heads a e
+head_within t e h =
+    let d = head_in t.usable e h in
+    record { weights = omega (arith, d, t.usable.level); depths = d; edges = omega (arith, d, t.edges) }
+
 -- what filling the columns asks
 pub valuable : {c : Columns} {a : Answers} {vs hs : List ℕ} → Weighable c a vs hs → Valuable c.own c.strikes c.spans c.tails a.weights a.depths vs hs
 valuable w =

@@ -9,10 +9,7 @@ use Rattle.weights.specs.declared.Measure.TheVariants.{Cost, Days, Grade}
 use Rattle.weights.specs.Measures.{algebra}
 use Rattle.weights.proofs.Laws.{lawful, cost_lawful, days_lawful, grade_lawful}
 use Rattle.weights.specs.declared.Label.{Label}
-use Rattle.refusal.specs.declared.Acceptance.{Acceptance}
-use Rattle.refusal.specs.declared.Acceptance.TheVariants.{Accepted, Refused}
 use Rattle.refusal.specs.declared.Refusal.{Refusal}
-use Rattle.refusal.specs.declared.Verdict.TheVariants as verdict
 use Rattle.provenance.specs.Labelling.{Fixpoint}
 use Rattle.provenance.specs.Means.{Means}
 use Rattle.provenance.specs.Pieces.{pieces_at, HasPieces}
@@ -35,8 +32,10 @@ use Rattle.settle.specs.Settling.{answers_of, entries_of, outcome, settled}
 use Rattle.settle.specs.Checking.{verdict, checked}
 use Rattle.settle.specs.Demands.{Demand2}
 use Rattle.settle.specs.Worth.{Worth}
+use Rattle.refusal.specs.Answers.{Acceptance}
+use Rattle.std.specs.Prelude.{Ok, Err}
 
-module _ (m : Measure) (c : Columns) (p : acceptance c ≡ Accepted) where
+module _ (m : Measure) (c : Columns) (p : acceptance c ≡ Ok tt) where
   pub answers_fixpoint : Fixpoint (algebra m) (hypergraph c) (own_at c) (labels (answers_of m c))
   unfolding answers_of
   answers_fixpoint = exists (lawful m) (own_at c) (well_formed c p)
@@ -87,7 +86,7 @@ module _ (m : Measure) (c : Columns) (p : acceptance c ≡ Accepted) where
       }
 
 module _ (m : Measure) (c : Columns) (a : Entries) where
-  pub settled_left : lent_acceptance c a ≡ Accepted → (settled m c a).left ≡ entries_of m c
+  pub settled_left : lent_acceptance c a ≡ Ok tt → (settled m c a).left ≡ entries_of m c
   unfolding settled
   settled_left p = rw p
 
@@ -97,34 +96,34 @@ module _ (m : Measure) (c : Columns) (a : Entries) where
   settled_result_lem = go (lent_acceptance c a)
     where
       go : (r : Acceptance) → (outcome r (entries_of m c) a).result ≡ r
-      go Accepted = refl
-      go (Refused r) = refl
+      go (Ok _) = refl
+      go (Err r) = refl
 
-  pub settled_keeps : (r : Refusal) → lent_acceptance c a ≡ Refused r → (settled m c a).left ≡ a
+  pub settled_keeps : (r : Refusal) → lent_acceptance c a ≡ Err r → (settled m c a).left ≡ a
   unfolding settled
   settled_keeps r p = rw p
 
   -- demand 2: of what settling leaves, for every part
-  pub demand_2 : (settled m c a).result ≡ Accepted → (v : ℕ) → Demand2 m c (settled m c a).left v
+  pub demand_2 : (settled m c a).result ≡ Ok tt → (v : ℕ) → Demand2 m c (settled m c a).left v
   demand_2 p v =
       let q = sym settled_result_lem ∙ p in
       subst (λ (b : Entries). Demand2 m c b v) (sym (settled_left q)) (entries_mean m c (columns_accepted c a q).table v)
 
   -- the answer check says yes to the table's answers, and to nothing else
-  pub yes_only : checked m c a ≡ verdict.Yes → a ≡ entries_of m c
+  pub yes_only : checked m c a ≡ Ok true → a ≡ entries_of m c
   unfolding checked
   yes_only e = go (lent_acceptance c a) (same_entries a (entries_of m c)) refl e
     where
-      go : (x : Acceptance) (b : Bool) → same_entries a (entries_of m c) ≡ b → verdict x b ≡ verdict.Yes → a ≡ entries_of m c
-      go (Refused r) b q k = let z : ◌≡◌ {A = ℕ} 0 1 = cc in absurd (omega arith)
-      go Accepted true q k = entries_true a (entries_of m c) q
-      go Accepted false q k = let z : ◌≡◌ {A = ℕ} 0 1 = cc in absurd (omega arith)
+      go : (x : Acceptance) (b : Bool) → same_entries a (entries_of m c) ≡ b → verdict x b ≡ Ok true → a ≡ entries_of m c
+      go (Err r) b q k = let z : ◌≡◌ {A = ℕ} 0 1 = cc in absurd (omega arith)
+      go (Ok _) true q k = entries_true a (entries_of m c) q
+      go (Ok _) false q k = let z : ◌≡◌ {A = ℕ} 0 1 = cc in absurd (omega arith)
 
-pub yes_settled : (m : Measure) (c : Columns) (a : Entries) → (settled m c a).result ≡ Accepted → checked m c (settled m c a).left ≡ verdict.Yes
+pub yes_settled : (m : Measure) (c : Columns) (a : Entries) → (settled m c a).result ≡ Ok tt → checked m c (settled m c a).left ≡ Ok true
 unfolding checked
 yes_settled m c a p =
     let q = sym (settled_result_lem m c a) ∙ p in
     let t = (columns_accepted c a q).table in
     let e = settled_left m c a q in
-    subst (λ (b : Entries). verdict (lent_acceptance c b) (same_entries b (entries_of m c)) ≡ verdict.Yes) (sym e)
+    subst (λ (b : Entries). verdict (lent_acceptance c b) (same_entries b (entries_of m c)) ≡ Ok true) (sym e)
     (rw (columns_accept c (entries_of m c) t (entries_sized m c t), entries_refl (entries_of m c)))

@@ -10,9 +10,6 @@ use Rattle.weights.specs.declared.Label.{Label}
 use Rattle.weights.proofs.Choice.{apart}
 use Rattle.weights.proofs.Laws.{lawful}
 use Rattle.refusal.specs.declared.Refusal.{Refusal}
-use Rattle.refusal.specs.declared.Acceptance.{Acceptance}
-use Rattle.refusal.specs.declared.Acceptance.TheVariants.{Accepted, Refused}
-use Rattle.refusal.specs.declared.Verdict.TheVariants as verdict
 use Rattle.provenance.specs.Pieces.{HasPieces}
 use Rattle.provenance.proofs.Pieces.{pieces_only}
 use Rattle.provenance.proofs.Meaning.{means_unique}
@@ -28,14 +25,17 @@ use Rattle.settle.specs.Checking.{verdict as told, checked}
 use Rattle.settle.proofs.Demands.{answers_fixpoint, answers_sized, answers_means, entries_at, entries_sized, entries_mean}
 use Rattle.settle.specs.Demands.{Demand2}
 use Rattle.settle.specs.Defined.{EntryMeans, AllMean, Defined}
+use Rattle.refusal.specs.Answers.{Acceptance}
+use Rattle.std.specs.Prelude.{Ok, Err}
+use Rattle.refusal.specs.Answers.{Verdict}
 
-yes_not_no : {A : Type 0} → verdict.No ≡ verdict.Yes → A
+yes_not_no : {A : Type 0} → ◌≡◌ {A = Verdict} (Ok false) (Ok true) → A
 yes_not_no e = let z : ◌≡◌ {A = ℕ} 0 1 = cc in absurd (omega arith)
 
-no_refusal : {A : Type 0} {r : Refusal} → verdict.Refused r ≡ verdict.No → A
+no_refusal : {A : Type 0} {r : Refusal} → ◌≡◌ {A = Verdict} (Err r) (Ok false) → A
 no_refusal e = let z : ◌≡◌ {A = ℕ} 0 1 = cc in absurd (omega arith)
 
-yes_refusal : {A : Type 0} {r : Refusal} → verdict.Refused r ≡ verdict.Yes → A
+yes_refusal : {A : Type 0} {r : Refusal} → ◌≡◌ {A = Verdict} (Err r) (Ok true) → A
 yes_refusal e = let z : ◌≡◌ {A = ℕ} 0 1 = cc in absurd (omega arith)
 
 -- an entry that meets demand 2 is the one that the paper defines
@@ -69,7 +69,7 @@ module _ (m : Measure) (c : Columns) (a : Entries) where
       λ i. record { labels = labels_are i; pieces = pieces_are i }
 
   -- the test of 8, where the columns are accepted
-  pub same_exactly : lent_acceptance c a ≡ Accepted → (same_entries a (entries_of m c) ≡ true) ↔ AllMean m c a
+  pub same_exactly : lent_acceptance c a ≡ Ok tt → (same_entries a (entries_of m c) ≡ true) ↔ AllMean m c a
   same_exactly p = (
     λ q v h.
         let e = sym (entries_true a (entries_of m c) q) in
@@ -77,29 +77,29 @@ module _ (m : Measure) (c : Columns) (a : Entries) where
     λ f. subst (λ (b : Entries). same_entries a b ≡ true) (defined_answers (record { accepted = p; means = f })) (entries_refl a),
   )
 
-  pub same_fails : lent_acceptance c a ≡ Accepted → (same_entries a (entries_of m c) ≡ false) ↔ (¬ AllMean m c a)
+  pub same_fails : lent_acceptance c a ≡ Ok tt → (same_entries a (entries_of m c) ≡ false) ↔ (¬ AllMean m c a)
   same_fails p = (λ q f. apart (sym q ∙ (same_exactly p).1 f), λ n. go (same_entries a (entries_of m c)) refl n)
     where
       go : (b : Bool) → same_entries a (entries_of m c) ≡ b → ¬ AllMean m c a → b ≡ false
       go true q n = absurd (n ((same_exactly p).0 q))
       go false q n = refl
 
-  yes_defined : (x : Acceptance) (b : Bool) → lent_acceptance c a ≡ x → same_entries a (entries_of m c) ≡ b → told x b ≡ verdict.Yes → Defined m c a
-  yes_defined (Refused r) b p q e = yes_refusal e
-  yes_defined Accepted false p q e = yes_not_no e
-  yes_defined Accepted true p q e = record { accepted = p; means = (same_exactly p).0 q }
+  yes_defined : (x : Acceptance) (b : Bool) → lent_acceptance c a ≡ x → same_entries a (entries_of m c) ≡ b → told x b ≡ Ok true → Defined m c a
+  yes_defined (Err r) b p q e = yes_refusal e
+  yes_defined (Ok _) false p q e = yes_not_no e
+  yes_defined (Ok _) true p q e = record { accepted = p; means = (same_exactly p).0 q }
 
-  no_defined : (x : Acceptance) (b : Bool) → lent_acceptance c a ≡ x → same_entries a (entries_of m c) ≡ b → told x b ≡ verdict.No → (lent_acceptance c a ≡ Accepted) × ¬ AllMean m c a
-  no_defined (Refused r) b p q e = no_refusal e
-  no_defined Accepted true p q e = yes_not_no (sym e)
-  no_defined Accepted false p q e = (p, (same_fails p).0 q)
+  no_defined : (x : Acceptance) (b : Bool) → lent_acceptance c a ≡ x → same_entries a (entries_of m c) ≡ b → told x b ≡ Ok false → (lent_acceptance c a ≡ Ok tt) × ¬ AllMean m c a
+  no_defined (Err r) b p q e = no_refusal e
+  no_defined (Ok _) true p q e = yes_not_no (sym e)
+  no_defined (Ok _) false p q e = (p, (same_fails p).0 q)
 
   -- "yes exactly if they are the ones defined above, whoever wrote them"
-  pub yes_exactly : (checked m c a ≡ verdict.Yes) ↔ Defined m c a
+  pub yes_exactly : (checked m c a ≡ Ok true) ↔ Defined m c a
   unfolding checked
   yes_exactly = (yes_defined (lent_acceptance c a) (same_entries a (entries_of m c)) refl refl, λ d. rw (d.accepted, (same_exactly d.accepted).1 d.means))
 
   -- "Checking answers returns no, and not 8, for wrong ones"
-  pub no_exactly : (checked m c a ≡ verdict.No) ↔ ((lent_acceptance c a ≡ Accepted) × ¬ AllMean m c a)
+  pub no_exactly : (checked m c a ≡ Ok false) ↔ ((lent_acceptance c a ≡ Ok tt) × ¬ AllMean m c a)
   unfolding checked
   no_exactly = (no_defined (lent_acceptance c a) (same_entries a (entries_of m c)) refl refl, λ d. rw (d.0, (same_fails d.0).1 d.1))

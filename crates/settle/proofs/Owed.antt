@@ -7,9 +7,6 @@ use native.Mathlib.Omega.{arith}
 use lib.ListN.{get_or-eq_default}
 use Rattle.weights.specs.declared.Measure.{Measure}
 use Rattle.weights.specs.Labels.{label, unmade, entry_of}
-use Rattle.refusal.specs.declared.Acceptance.{Acceptance}
-use Rattle.refusal.specs.declared.Acceptance.TheVariants.{Accepted, Refused}
-use Rattle.refusal.specs.declared.Verdict.TheVariants as verdict
 use Rattle.columns.specs.Columns.{Entries, SizedEntries, Columns}
 use Rattle.columns.specs.Acceptance.{lent_acceptance}
 use Rattle.columns.specs.Owed.{Owed}
@@ -20,30 +17,32 @@ use Rattle.settle.specs.Settling.{entries_of, entry_at, outcome, settled}
 use Rattle.settle.specs.Checking.{verdict as told, checked}
 use Rattle.settle.specs.Defined.{AllMean}
 use Rattle.settle.proofs.Exactly.{same_exactly, same_fails}
+use Rattle.refusal.specs.Answers.{Acceptance}
+use Rattle.std.specs.Prelude.{Ok, Err}
 
 module _ (m : Measure) (c : Columns) (a : Entries) where
   -- settle: "Settle a table into the answer columns"
-  pub settle_owes : Owed Refused a (RightLent c a) (λ _. Accepted) (λ _. entries_of m c) (WrongLent c a) (settled m c a).result (settled m c a).left
+  pub settle_owes : Owed Err a (RightLent c a) (λ _. (Ok tt)) (λ _. entries_of m c) (WrongLent c a) (settled m c a).result (settled m c a).left
   unfolding settled
   settle_owes = go (lent_acceptance c a) refl
     where
       go : (x : Acceptance) → lent_acceptance c a ≡ x
-          → Owed Refused a (RightLent c a) (λ _. Accepted) (λ _. entries_of m c) (WrongLent c a) (outcome x (entries_of m c) a).result (outcome x (entries_of m c) a).left
-      go Accepted p = Owed.accepted ((lent_exactly c a).0 p)
-      go (Refused r) p = Owed.refused ((lent_refused_exactly c a r).0 p)
+          → Owed Err a (RightLent c a) (λ _. (Ok tt)) (λ _. entries_of m c) (WrongLent c a) (outcome x (entries_of m c) a).result (outcome x (entries_of m c) a).left
+      go (Ok _) p = Owed.accepted ((lent_exactly c a).0 p)
+      go (Err r) p = Owed.refused ((lent_refused_exactly c a r).0 p)
 
   -- check answers, which writes nothing: yes where every entry means what the paper says, and no where one does not
-  pub check_answers_owes : Owed verdict.Refused (tt {0}) ((RightLent c a × AllMean m c a) ⊎ (RightLent c a × ¬ AllMean m c a)) (elim [ inl _ ↦ verdict.Yes | inr _ ↦ verdict.No ])
+  pub check_answers_owes : Owed Err (tt {0}) ((RightLent c a × AllMean m c a) ⊎ (RightLent c a × ¬ AllMean m c a)) (elim [ inl _ ↦ Ok true | inr _ ↦ Ok false ])
       (λ _. tt {0}) (WrongLent c a) (checked m c a) (tt {0})
   unfolding checked
   check_answers_owes = go (lent_acceptance c a) (same_entries a (entries_of m c)) refl refl
     where
       go : (x : Acceptance) (b : Bool) → lent_acceptance c a ≡ x → same_entries a (entries_of m c) ≡ b
-          → Owed verdict.Refused (tt {0}) ((RightLent c a × AllMean m c a) ⊎ (RightLent c a × ¬ AllMean m c a)) (elim [ inl _ ↦ verdict.Yes | inr _ ↦ verdict.No ])
+          → Owed Err (tt {0}) ((RightLent c a × AllMean m c a) ⊎ (RightLent c a × ¬ AllMean m c a)) (elim [ inl _ ↦ Ok true | inr _ ↦ Ok false ])
           (λ _. tt {0}) (WrongLent c a) (told x b) (tt {0})
-      go (Refused r) b p q = Owed.refused ((lent_refused_exactly c a r).0 p)
-      go Accepted true p q = Owed.accepted (inl ((lent_exactly c a).0 p, (same_exactly m c a p).0 q))
-      go Accepted false p q = Owed.accepted (inr ((lent_exactly c a).0 p, (same_fails m c a p).0 q))
+      go (Err r) b p q = Owed.refused ((lent_refused_exactly c a r).0 p)
+      go (Ok _) true p q = Owed.accepted (inl ((lent_exactly c a).0 p, (same_exactly m c a p).0 q))
+      go (Ok _) false p q = Owed.accepted (inr ((lent_exactly c a).0 p, (same_fails m c a p).0 q))
 
 -- an entry is the label's at v with its state and its piece count, and no lent columns are refused
 pub entry_owes : (a : Entries) (v : ℕ) → Owed (λ _. entry_of unmade 0) (tt {0}) (Unit {0}) (λ _. entry_at a v) (λ _. tt {0}) (λ _. ⊥) (entry_at a v) (tt {0})

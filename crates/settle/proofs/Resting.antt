@@ -16,7 +16,6 @@ use Rattle.weights.specs.Measures.{algebra}
 use Rattle.weights.proofs.Choice.{apart}
 use Rattle.weights.proofs.Laws.{lawful}
 use Rattle.weights.proofs.Lists.{true-or-false}
-use Rattle.refusal.specs.declared.Acceptance.TheVariants.{Accepted}
 use Rattle.columns.specs.Acceptance.{most_vertices, acceptance}
 use Rattle.columns.specs.Columns.{Answers, Entries, Columns, cell, head_at, own_at, part, tail_of, tail_at}
 use Rattle.columns.specs.Filled.{filled}
@@ -39,6 +38,7 @@ use Rattle.settle.specs.Resting.{rests, with_lines, OnlyAt}
 use Rattle.settle.proofs.Comparing.{own_most, edge_told}
 use Rattle.settle.proofs.Demands.{answers_fixpoint, answers_sized, entries_mean}
 use Rattle.settle.proofs.Settled.{answers-counted, entered}
+use Rattle.std.specs.Prelude.{Ok}
 
 -- the line that its head's label names does not rest
 pub rests-not : (m : Measure) (c : Columns) (a : Answers) (e : ℕ) → cell a.edges (head_at c e) ≡ e → false ≡ rests m c a e
@@ -145,7 +145,7 @@ module _ {c : Columns} {a : Answers} (t : Turning c a) (e : ℕ) (h : e < length
 
 -- a changed line --------------------------------------------------------------------------------------------------------------------------------------
 
-module _ (m : Measure) (c : Columns) (e : ℕ) (own strikes : List ℕ) (o : OnlyAt c e own strikes) (p : acceptance c ≡ Accepted) where
+module _ (m : Measure) (c : Columns) (e : ℕ) (own strikes : List ℕ) (o : OnlyAt c e own strikes) (p : acceptance c ≡ Ok tt) where
   abbrev c' : Columns
   c' = with_lines c own strikes
 
@@ -223,21 +223,21 @@ module _ (m : Measure) (c : Columns) (e : ℕ) (own strikes : List ℕ) (o : Onl
         go (no n) = ap (keeps_up (algebra m) (ls (head_at c x))) (offer_kept x n)
 
     -- the labels are those of the table as it is now, and so are the piece counts, which depend on no figure and no mark
-    answers_stay : acceptance c' ≡ Accepted → answers_of m c ≡ answers_of m c'
+    answers_stay : acceptance c' ≡ Ok tt → answers_of m c ≡ answers_of m c'
     unfolding answers_of
     answers_stay p' =
         all_right_lem (lawful m) (hypergraph c') (own_at c') (answers_of m c) (answers_sized m c p) (well_formed c' p')
         (every_same vertex_is vertex_was c.vertices vertex_kept ∙ vertices_were)
         (every_same edge_is edge_was (length c.heads) edge_kept ∙ edges_were)
 
-    pub entries_stay : acceptance c' ≡ Accepted → entries_of m c ≡ entries_of m c'
+    pub entries_stay : acceptance c' ≡ Ok tt → entries_of m c ≡ entries_of m c'
     unfolding entries_of
     entries_stay p' = entered m c' p' (answers_stay p') (sym (answers-counted m c p refl))
 
 -- right answers of a table, beside the table with other own figures and strike marks, whose number of parts is told by the answer columns
 module _
     (m : Measure) (c : Columns) (a : Entries) (own strikes : List ℕ)
-    (h : AcceptedColumns c a) (p' : acceptance (with_lines c own strikes) ≡ Accepted) (right : same_entries a (entries_of m c) ≡ true) where
+    (h : AcceptedColumns c a) (p' : acceptance (with_lines c own strikes) ≡ Ok tt) (right : same_entries a (entries_of m c) ≡ true) where
   is : a ≡ entries_of m c
   is = entries_true a (entries_of m c) right
 

@@ -8,7 +8,6 @@ use Rattle.weights.specs.declared.Measure.{Measure}
 use Rattle.weights.specs.Measures.{algebra}
 use Rattle.weights.proofs.Laws.{lawful}
 use Rattle.refusal.specs.declared.Refusal.{Refusal}
-use Rattle.refusal.specs.declared.Acceptance.TheVariants.{Accepted, Refused}
 use Rattle.columns.specs.Columns.{Answers, Sized, Entries, Columns, answers, own_at}
 use Rattle.provenance.specs.BestFirst.{labels, turns, best_first}
 use Rattle.provenance.specs.Labelling.{Fixpoint}
@@ -23,13 +22,14 @@ use Rattle.pieces.proofs.Accepted.{countable, counted_is}
 use Rattle.bestfirst.specs.Turns.{Blank}
 use Rattle.settle.specs.Settling.{answers_of, entries_of, settled}
 use Rattle.settle.proofs.Demands.{answers_fixpoint, answers_sized}
+use Rattle.std.specs.Prelude.{Ok, Err}
 
 module _ (m : Measure) (c : Columns) (a : Entries) where
-  pub settled_refused : (r : Refusal) → lent_acceptance c a ≡ Refused r → record { result = Refused r; left = a } ≡ settled m c a
+  pub settled_refused : (r : Refusal) → lent_acceptance c a ≡ Err r → record { result = Err r; left = a } ≡ settled m c a
   unfolding settled
   settled_refused r p = rw p
 
-  pub settled-all : (b : Entries) → lent_acceptance c a ≡ Accepted → b ≡ entries_of m c → record { result = Accepted; left = b } ≡ settled m c a
+  pub settled-all : (b : Entries) → lent_acceptance c a ≡ Ok tt → b ≡ entries_of m c → record { result = Ok tt; left = b } ≡ settled m c a
   unfolding settled
   settled-all b p q = rw (p, q)
 
@@ -63,7 +63,7 @@ module _ (m : Measure) (c : Columns) (a : Answers) where
     labelled {b} e = subst (λ (n : ℕ). b ≡ best_first (algebra m) (hypergraph (same_table c n)) (own_at c)) depths_long e
 
 -- answers of an accepted table can be counted, and what counting leaves is its fourth column
-module _ (m : Measure) (c : Columns) (p : acceptance c ≡ Accepted) {b : Answers} (right : b ≡ answers_of m c) where
+module _ (m : Measure) (c : Columns) (p : acceptance c ≡ Ok tt) {b : Answers} (right : b ≡ answers_of m c) where
   sized : Sized c.vertices b
   sized = subst (λ (z : Answers). Sized c.vertices z) (sym right) (answers_sized m c p)
 

@@ -15,7 +15,6 @@ use Rattle.weights.proofs.Laws.{at_most, below_greatest, grade_lawful}
 use Rattle.weights.proofs.Weighing.{weigh_within}
 use Rattle.weights.specs.Measures.{Algebra, grade, algebra}
 use Rattle.weights.proofs.States.{unmade_state, over_state, made_state}
-use Rattle.refusal.specs.declared.Acceptance.TheVariants.{Accepted}
 use Rattle.provenance.specs.Hypergraph.{Hypergraph, Derivation, node, weight, weights, depth}
 use Rattle.provenance.specs.Means.{Means, Derivable, underivable, derivable}
 use Rattle.columns.specs.Columns.{Entries, Columns, own_at}
@@ -26,6 +25,7 @@ use Rattle.columns.specs.Acceptance.{acceptance}
 use Rattle.settle.specs.Settling.{entries_of, settled}
 use Rattle.settle.proofs.Demands.{entries_mean, demand_2}
 use Rattle.settle.specs.States.{uncapped, Dear, Affordable, StateMeans}
+use Rattle.std.specs.Prelude.{Ok}
 
 deep : {H : Hypergraph} {v : ℕ} (d : Derivation H v) → 0 < depth d
 unfolding depth
@@ -110,9 +110,9 @@ module _ (m : Measure) (c : Columns) (l : Label) (v : ℕ) where
   means_state k = record { made = (made_means k, means_made k); over = (over_means k, means_over k); unmade = unmade_means k }
 
 -- of the answers of an accepted table
-pub answers_state : (m : Measure) (c : Columns) → acceptance c ≡ Accepted → (v : ℕ) → StateMeans m c (labels (entries_of m c).labels v) v
+pub answers_state : (m : Measure) (c : Columns) → acceptance c ≡ Ok tt → (v : ℕ) → StateMeans m c (labels (entries_of m c).labels v) v
 answers_state m c p v = means_state m c (labels (entries_of m c).labels v) v (entries_mean m c p v).means
 
 -- of what settling leaves
-pub settled_state : (m : Measure) (c : Columns) (a : Entries) → (settled m c a).result ≡ Accepted → (v : ℕ) → StateMeans m c (labels (settled m c a).left.labels v) v
+pub settled_state : (m : Measure) (c : Columns) (a : Entries) → (settled m c a).result ≡ Ok tt → (v : ℕ) → StateMeans m c (labels (settled m c a).left.labels v) v
 settled_state m c a q v = means_state m c (labels (settled m c a).left.labels v) v (demand_2 m c a q v).means

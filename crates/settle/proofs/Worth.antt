@@ -11,7 +11,6 @@ use Rattle.weights.specs.Figures.{greatest}
 use Rattle.weights.specs.Measures.{grade}
 use Rattle.weights.proofs.Laws.{at_most, unturn}
 use Rattle.weights.proofs.States.{over_state}
-use Rattle.refusal.specs.declared.Acceptance.TheVariants.{Accepted}
 use Rattle.columns.specs.Columns.{Entries, Columns, own_at}
 use Rattle.provenance.specs.BestFirst.{labels}
 use Rattle.provenance.specs.Labelling.{Made}
@@ -23,6 +22,7 @@ use Rattle.settle.specs.Settling.{settled}
 use Rattle.settle.proofs.Demands.{demand_2}
 use Rattle.settle.proofs.States.{grade_most}
 use Rattle.settle.specs.Worth.{Worth, GreatestGrade, NeverOver}
+use Rattle.std.specs.Prelude.{Ok}
 
 module _ (c : Columns) (l : Label) (v : ℕ) where
   abbrev Graded : Type 0
@@ -48,7 +48,7 @@ module _ (c : Columns) (l : Label) (v : ℕ) where
   means_low : Graded → NeverOver l
   means_low k = record { low = graded_low k; state = λ e. omega (arith, graded_low k, ((over_state l.weight.0 l.depth).0 e).1) }
 
-module _ (c : Columns) (a : Entries) (q : (settled Grade c a).result ≡ Accepted) (v : ℕ) where
+module _ (c : Columns) (a : Entries) (q : (settled Grade c a).result ≡ Ok tt) (v : ℕ) where
   pub grade_provenance : let l = labels (settled Grade c a).left.labels v in Made l
       → Provenance (program (valuation Grade) (hypergraph c) (own_at c)) (part v) (present (finite l.weight.0))
   grade_provenance = let d = demand_2 Grade c a q v in grade_means c (labels (settled Grade c a).left.labels v) v d.means d.worth

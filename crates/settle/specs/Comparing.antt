@@ -46,7 +46,3 @@ all_right m c a =
     pick (every (vertex_right (algebra m) (hypergraph c) (own_at c) (labels a)) (length a.depths))
     (every (edge_right (algebra m) (hypergraph c) (own_at c) (labels a)) (length c.heads))
     false
-
--- how many lines a table of few has: it is given as few places, as every place has to be cleared
-abbrev pub few_lines : ℕ
-few_lines = 256

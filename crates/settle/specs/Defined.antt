@@ -1,9 +1,8 @@
 -- The answers that the paper defines, with no word of how they are found. The paper's "Check answers: yes exactly if they are the ones defined above, whoever wrote
 -- them". Assumes nothing: these are definitions.
-use Rattle.std.specs.Prelude.{◌≡◌, ℕ, ◌<◌, get_or}
+use Rattle.std.specs.Prelude.{◌≡◌, ℕ, ◌<◌, get_or, Ok}
 use Rattle.weights.specs.declared.Measure.{Measure}
 use Rattle.weights.specs.Measures.{algebra}
-use Rattle.refusal.specs.declared.Acceptance.TheVariants.{Accepted}
 use Rattle.provenance.specs.Means.{Means}
 use Rattle.columns.specs.Columns.{Entries, Columns, own_at}
 use Rattle.provenance.specs.BestFirst.{labels}
@@ -22,5 +21,5 @@ AllMean m c a = (v : ℕ) → v < c.vertices → EntryMeans m c a v
 
 -- and the columns are accepted
 pub record Defined (m : Measure) (c : Columns) (a : Entries) : Type 0 where
-  pub accepted : lent_acceptance c a ≡ Accepted
+  pub accepted : lent_acceptance c a ≡ Ok tt
   pub means : AllMean m c a

@@ -3,15 +3,14 @@ use Rattle.weights.specs.declared.Measure.{Measure}
 use Rattle.weights.specs.declared.Entry.{Entry}
 use Rattle.weights.specs.Labels.{entry_of}
 use Rattle.weights.specs.Measures.{algebra}
-use Rattle.std.specs.Prelude.{ℕ}
-use Rattle.refusal.specs.declared.Acceptance.{Acceptance}
-use Rattle.refusal.specs.declared.Acceptance.TheVariants.{Accepted, Refused}
+use Rattle.std.specs.Prelude.{ℕ, Ok, Err}
 use Rattle.columns.specs.Columns.{Answers, Entries, Columns, cell, own_at}
 use Rattle.provenance.specs.BestFirst.{labels, best_first}
 use Rattle.provenance.specs.Pieces.{piece_column}
 use Rattle.tables.specs.Table.{hypergraph}
 use Rattle.columns.specs.Acceptance.{lent_acceptance}
 use Rattle.columns.specs.Owed.{Outcome}
+use Rattle.refusal.specs.Answers.{Acceptance}
 
 -- the answers of a table: the labels that best-first gives its vertices
 unfoldable pub answers_of : Measure → Columns → Answers
@@ -27,8 +26,8 @@ entry_at a v = entry_of (labels a.labels v) (cell a.pieces v)
 
 -- on acceptance the columns are b, on a refusal as they came
 abbrev pub outcome : Acceptance → (b a : Entries) → Outcome Acceptance Entries
-outcome Accepted b a = record { result = Accepted; left = b }
-outcome (Refused r) b a = record { result = Refused r; left = a }
+outcome (Ok _) b a = record { result = Ok tt; left = b }
+outcome (Err r) b a = record { result = Err r; left = a }
 
 -- settling, from the columns and answers at entry
 unfoldable pub settled : Measure → Columns → Entries → Outcome Acceptance Entries

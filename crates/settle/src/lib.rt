@@ -1,5 +1,7 @@
 // Settling a table that is lent as columns: every vertex gets the label of its chosen derivation,
 // found best first, and its piece count. And the check that lent answers are those.
+//
+// Kept: columns and rooms are lent, or arrays of a fixed size: the library and its programs use no heap.
 
 #![tactic(auto)]
 
@@ -8,102 +10,89 @@ ghost use Rattle.weights.specs.Measures.{algebra};
 ghost use Rattle.provenance.specs.BestFirst.{labels};
 ghost use Rattle.provenance.specs.Local.{every};
 ghost use Rattle.provenance.specs.Values.{keeps_up_at};
-ghost use Rattle.columns.specs.Columns.{columns, answers, entries, cell};
+ghost use Rattle.columns.specs.Columns.{answers, entries, cell};
 ghost use Rattle.columns.proofs.Accepted.{AcceptedLabels, AcceptedColumns};
 ghost use Rattle.columns.specs.Same.{same_answers, same_entries};
-ghost use Rattle.columns.specs.Lent.{lent, Turning};
+ghost use Rattle.columns.specs.Acceptance.{most_edges};
+ghost use Rattle.columns.specs.Lent.{Turning};
+ghost use Rattle.columns.specs.Given.{columns_of, lent_of, entries_in};
 ghost use Rattle.settle.specs.Settling.{answers_of, entries_of, entry_at, settled};
 ghost use Rattle.settle.specs.Checking.{checked};
 ghost use Rattle.settle.specs.Resting.{rests};
-ghost use Rattle.settle.specs.Comparing.{vertex_fits, edge_fits, Comparable, Weighable, all_right, few_lines};
+ghost use Rattle.settle.specs.Comparing.{vertex_fits, edge_fits, Comparable, Weighable, all_right};
 
-use refusal::{Acceptance, Verdict};
+use columns::{Entries, Table};
+use refusal::Refusal;
 use weights::{Entry, Hyperedge, Label, Measure, Vertex, Weight};
 
 // The labels of an accepted table go into three of the answer columns, whatever they held.
 fn label_vertices(
     measure: Measure,
-    heads: &[u64],
-    own: &[u64],
-    strikes: &[u64],
-    spans: &[u64],
-    tails: &[u64],
+    table: &Table,
     weights: &mut [u64],
     depths: &mut [u64],
     edges: &mut [u64],
 )
-    requires { let c = lent heads.now own.now strikes.now spans.now tails.now depths.old in
+    requires { let c = lent_of table.now depths.old in
         let a = answers weights.old depths.old edges.old in
         AcceptedLabels c a }
-    ensures { let c = lent heads.now own.now strikes.now spans.now tails.now depths.old in
+    ensures { let c = lent_of table.now depths.old in
         let a' = answers weights.new depths.new edges.new in
         a' ≡ answers_of measure c }
 {
     columns::set_all(weights, 0);
     columns::set_all(depths, 0);
     columns::set_all(edges, 0);
-    bestfirst::label_all(
-        measure, heads, own, strikes, spans, tails, weights, depths, edges,
-    );
+    bestfirst::label_all(measure, table, weights, depths, edges);
 }
 
 // The entries of an accepted table go into the four answer columns, whatever they held: the labels,
 // and then the piece counts, which the labels tell.
 pub fn label(
     measure: Measure,
-    heads: &[u64],
-    own: &[u64],
-    strikes: &[u64],
-    spans: &[u64],
-    tails: &[u64],
+    table: &Table,
     weights: &mut [u64],
     depths: &mut [u64],
     edges: &mut [u64],
     pieces: &mut [u64],
 )
-    requires { let c = lent heads.now own.now strikes.now spans.now tails.now depths.old in
+    requires { let c = lent_of table.now depths.old in
         let a = entries weights.old depths.old edges.old pieces.old in
         AcceptedColumns c a }
-    ensures { let c = lent heads.now own.now strikes.now spans.now tails.now depths.old in
+    ensures { let c = lent_of table.now depths.old in
         let a' = entries weights.new depths.new edges.new pieces.new in
         a' ≡ entries_of measure c }
 {
-    label_vertices(
-        measure, heads, own, strikes, spans, tails, weights, depths, edges,
-    );
+    let Table { spans, tails, .. } = *table;
+    label_vertices(measure, table, weights, depths, edges);
     pieces::count_pieces(spans, tails, depths, edges, pieces);
 }
 
 // Leaves the table's entries in the four answer columns, or refuses and leaves them as they are.
 pub fn settle(
     measure: Measure,
-    n: u64,
-    heads: &[u64],
-    own: &[u64],
-    strikes: &[u64],
-    spans: &[u64],
-    tails: &[u64],
+    table: &Table,
     weights: &mut [u64],
     depths: &mut [u64],
     edges: &mut [u64],
     pieces: &mut [u64],
-) -> Acceptance
-    ensures { let c = columns n heads.now own.now strikes.now spans.now tails.now in
+) -> Result<(), Refusal>
+    ensures { let c = columns_of table.now in
         let a = entries weights.old depths.old edges.old pieces.old in
         let a' = entries weights.new depths.new edges.new pieces.new in
         record { result = result; left = a' } ≡ settled measure c a }
 {
-    let a = columns::check_lent(
-        n, heads, own, strikes, spans, tails, weights, depths, edges, pieces,
-    );
-    match a {
-        Acceptance::Refused(r) => return Acceptance::Refused(r),
-        Acceptance::Accepted => {}
-    }
-    label(
-        measure, heads, own, strikes, spans, tails, weights, depths, edges, pieces,
-    );
-    Acceptance::Accepted
+    columns::check_lent(
+        table,
+        &Entries {
+            weights,
+            depths,
+            edges,
+            pieces,
+        },
+    )?;
+    label(measure, table, weights, depths, edges, pieces);
+    Ok(())
 }
 
 // Whether the label of v is blank, or the value and the height of its own hyperedge. A hyperedge that
@@ -200,22 +189,26 @@ fn edge_right(
 pub fn line_rests(
     measure: Measure,
     e: Hyperedge,
-    heads: &[u64],
-    own: &[u64],
-    strikes: &[u64],
-    spans: &[u64],
-    tails: &[u64],
+    table: &Table,
     weights: &[u64],
     depths: &[u64],
     edges: &[u64],
 ) -> bool
-    requires { let c = lent heads.now own.now strikes.now spans.now tails.now depths.now in
+    requires { let c = lent_of table.now depths.now in
         let a = answers weights.now depths.now edges.now in
-        (Turning c a) × (e.0 < length heads.now) }
-    ensures { let c = lent heads.now own.now strikes.now spans.now tails.now depths.now in
+        (Turning c a) × (e.0 < length table.now.heads.now) }
+    ensures { let c = lent_of table.now depths.now in
         let a = answers weights.now depths.now edges.now in
         result ≡ rests measure c a e.0 }
 {
+    let Table {
+        heads,
+        own,
+        strikes,
+        spans,
+        tails,
+        ..
+    } = *table;
     let i = e.0 as usize;
     let v = heads[i] as usize;
     let weight = weights[v];
@@ -263,13 +256,11 @@ fn vertices_right(
     ensures { let a = answers weights.now depths.now edges.now in
         result ≡ every (vertex_fits heads.now values.now heights.now (labels a)) (length depths.now) }
 {
-    let mut i = 0;
-    while i < depths.len() {
+    for i in 0..depths.len() {
         let v = Vertex(i as u64);
         if !vertex_right(v, heads, values, heights, weights, depths, edges) {
             return false;
         }
-        i += 1;
     }
     true
 }
@@ -288,13 +279,11 @@ fn edges_right(
     ensures { let a = answers weights.now depths.now edges.now in
         result ≡ every (edge_fits heads.now values.now heights.now (labels a) (algebra measure)) (length heads.now) }
 {
-    let mut i = 0;
-    while i < heads.len() {
+    for i in 0..heads.len() {
         let e = Hyperedge(i as u64);
         if !edge_right(measure, e, heads, values, heights, weights, depths, edges) {
             return false;
         }
-        i += 1;
     }
     true
 }
@@ -303,24 +292,28 @@ fn edges_right(
 // into two columns, and compared from there.
 fn right_in(
     measure: Measure,
-    heads: &[u64],
-    own: &[u64],
-    strikes: &[u64],
-    spans: &[u64],
-    tails: &[u64],
+    table: &Table,
     weights: &[u64],
     depths: &[u64],
     edges: &[u64],
     values: &mut [u64],
     heights: &mut [u16],
 ) -> bool
-    requires { let c = lent heads.now own.now strikes.now spans.now tails.now depths.now in
+    requires { let c = lent_of table.now depths.now in
         let a = answers weights.now depths.now edges.now in
         Weighable c a values.old heights.old }
-    ensures { let c = lent heads.now own.now strikes.now spans.now tails.now depths.now in
+    ensures { let c = lent_of table.now depths.now in
         let a = answers weights.now depths.now edges.now in
         result ≡ all_right measure c a }
 {
+    let Table {
+        heads,
+        own,
+        strikes,
+        spans,
+        tails,
+        ..
+    } = *table;
     offers::line_values(
         measure, own, strikes, spans, tails, weights, depths, values, heights,
     );
@@ -330,71 +323,26 @@ fn right_in(
     edges_right(measure, heads, values, heights, weights, depths, edges)
 }
 
-// The same with columns of its own. A table of few hyperedges is given few places, as every place has
-// to be cleared.
-fn right_few(
+// The same with columns of its own, of N places: as few as will do, as every place has to be cleared.
+fn right_with<const N: usize>(
     measure: Measure,
-    heads: &[u64],
-    own: &[u64],
-    strikes: &[u64],
-    spans: &[u64],
-    tails: &[u64],
+    table: &Table,
     weights: &[u64],
     depths: &[u64],
     edges: &[u64],
 ) -> bool
-    requires { let c = lent heads.now own.now strikes.now spans.now tails.now depths.now in
+    requires { let c = lent_of table.now depths.now in
         let a = answers weights.now depths.now edges.now in
-        (Turning c a) × (length heads.now ≤ few_lines) }
-    ensures { let c = lent heads.now own.now strikes.now spans.now tails.now depths.now in
-        let a = answers weights.now depths.now edges.now in
-        result ≡ all_right measure c a }
-{
-    let mut values = [0u64; 256];
-    let mut heights = [0u16; 256];
-    right_in(
-        measure,
-        heads,
-        own,
-        strikes,
-        spans,
-        tails,
-        weights,
-        depths,
-        edges,
-        &mut values,
-        &mut heights,
-    )
-}
-
-// The same of any table.
-fn right_many(
-    measure: Measure,
-    heads: &[u64],
-    own: &[u64],
-    strikes: &[u64],
-    spans: &[u64],
-    tails: &[u64],
-    weights: &[u64],
-    depths: &[u64],
-    edges: &[u64],
-) -> bool
-    requires { let c = lent heads.now own.now strikes.now spans.now tails.now depths.now in
-        let a = answers weights.now depths.now edges.now in
-        Turning c a }
-    ensures { let c = lent heads.now own.now strikes.now spans.now tails.now depths.now in
+        (Turning c a) × ((length table.now.heads.now ≤ N) × (N ≤ most_edges)) }
+    ensures { let c = lent_of table.now depths.now in
         let a = answers weights.now depths.now edges.now in
         result ≡ all_right measure c a }
 {
-    let mut values = [0u64; 4096];
-    let mut heights = [0u16; 4096];
+    let mut values = [0u64; N];
+    let mut heights = [0u16; N];
     right_in(
         measure,
-        heads,
-        own,
-        strikes,
-        spans,
-        tails,
+        table,
         weights,
         depths,
         edges,
@@ -407,111 +355,77 @@ fn right_many(
 // above n is none of them, so no height wraps.
 fn labels_right(
     measure: Measure,
-    n: u64,
-    heads: &[u64],
-    own: &[u64],
-    strikes: &[u64],
-    spans: &[u64],
-    tails: &[u64],
+    table: &Table,
     weights: &[u64],
     depths: &[u64],
     edges: &[u64],
 ) -> bool
-    requires { AcceptedLabels (columns n heads.now own.now strikes.now spans.now tails.now) (answers weights.now depths.now edges.now) }
-    ensures { let c = columns n heads.now own.now strikes.now spans.now tails.now in
+    requires { AcceptedLabels (columns_of table.now) (answers weights.now depths.now edges.now) }
+    ensures { let c = columns_of table.now in
         let a = answers weights.now depths.now edges.now in
         result ≡ same_answers a (answers_of measure c) }
 {
-    if !columns::all_below(n + 1, depths) {
+    if !columns::all_below(table.vertices + 1, depths) {
         return false;
     }
-    if heads.len() <= 256 {
-        return right_few(
-            measure, heads, own, strikes, spans, tails, weights, depths, edges,
-        );
+    if table.heads.len() <= 256 {
+        return right_with::<256>(measure, table, weights, depths, edges);
     }
-    right_many(
-        measure, heads, own, strikes, spans, tails, weights, depths, edges,
-    )
+    right_with::<4096>(measure, table, weights, depths, edges)
 }
 
 // Whether the answer columns hold the entries of an accepted table, whoever wrote them. The piece
 // counts are looked at once the labels are right.
-pub fn answers_right(
-    measure: Measure,
-    n: u64,
-    heads: &[u64],
-    own: &[u64],
-    strikes: &[u64],
-    spans: &[u64],
-    tails: &[u64],
-    weights: &[u64],
-    depths: &[u64],
-    edges: &[u64],
-    pieces: &[u64],
-) -> bool
-    requires { AcceptedColumns (columns n heads.now own.now strikes.now spans.now tails.now) (entries weights.now depths.now edges.now pieces.now) }
-    ensures { let c = columns n heads.now own.now strikes.now spans.now tails.now in
-        let a = entries weights.now depths.now edges.now pieces.now in
+pub fn answers_right(measure: Measure, table: &Table, entries: &Entries) -> bool
+    requires { AcceptedColumns (columns_of table.now) (entries_in entries.now) }
+    ensures { let c = columns_of table.now in
+        let a = entries_in entries.now in
         result ≡ same_entries a (entries_of measure c) }
 {
-    if !labels_right(
-        measure, n, heads, own, strikes, spans, tails, weights, depths, edges,
-    ) {
+    let Entries {
+        weights,
+        depths,
+        edges,
+        pieces,
+    } = *entries;
+    let Table { spans, tails, .. } = *table;
+    if !labels_right(measure, table, weights, depths, edges) {
         return false;
     }
     pieces::pieces_right(spans, tails, depths, edges, pieces)
 }
 
 // The same of any table, or why it is refused: yes or no, and never 8.
-pub fn check_answers(
-    measure: Measure,
-    n: u64,
-    heads: &[u64],
-    own: &[u64],
-    strikes: &[u64],
-    spans: &[u64],
-    tails: &[u64],
-    weights: &[u64],
-    depths: &[u64],
-    edges: &[u64],
-    pieces: &[u64],
-) -> Verdict
-    ensures { let c = columns n heads.now own.now strikes.now spans.now tails.now in
-        let a = entries weights.now depths.now edges.now pieces.now in
+pub fn check_answers(measure: Measure, table: &Table, entries: &Entries) -> Result<bool, Refusal>
+    ensures { let c = columns_of table.now in
+        let a = entries_in entries.now in
         result ≡ checked measure c a }
 {
-    let a = columns::check_lent(
-        n, heads, own, strikes, spans, tails, weights, depths, edges, pieces,
-    );
-    match a {
-        Acceptance::Refused(r) => return Verdict::Refused(r),
-        Acceptance::Accepted => {}
+    columns::check_lent(table, entries)?;
+    if answers_right(measure, table, entries) {
+        return Ok(true);
     }
-    if answers_right(
-        measure, n, heads, own, strikes, spans, tails, weights, depths, edges, pieces,
-    ) {
-        return Verdict::Yes;
-    }
-    Verdict::No
+    Ok(false)
 }
 
 // What a column holds for a vertex, and 0 for a vertex beyond its end.
 fn cell(column: &[u64], v: Vertex) -> u64
     ensures { result ≡ cell column.now v.0 }
 {
-    if v.0 >= column.len() as u64 {
-        return 0;
-    }
-    let i = v.0 as usize;
-    column[i]
+    column.get(v.0 as usize).copied().unwrap_or(0)
 }
 
 // The entry of a vertex, with its state. A vertex beyond the columns is unmade.
-pub fn entry(weights: &[u64], depths: &[u64], edges: &[u64], pieces: &[u64], v: Vertex) -> Entry
-    ensures { let a = entries weights.now depths.now edges.now pieces.now in
+pub fn entry(entries: &Entries, v: Vertex) -> Entry
+    ensures { let a = entries_in entries.now in
         result ≡ entry_at a v.0 }
 {
+    let Entries {
+        weights,
+        depths,
+        edges,
+        pieces,
+    } = *entries;
     let weight = cell(weights, v);
     let depth = cell(depths, v);
     let root = cell(edges, v);

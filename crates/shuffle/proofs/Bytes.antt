@@ -5,6 +5,8 @@ use mathlib.Core.List.{List, [], ◌∷◌}
 use native.Mathlib.Nat.{pow-succ', div-div-eq-div-mul}
 use native.Mathlib.Omega.{arith}
 use lib.ListN.{length, get_or}
+use mir.Syntax.{w64}
+use Rattle.std.specs.Int.{to_le_bytes}
 use Rattle.shuffle.specs.Bytes.{bytes_of, from_bytes, byte_at, EachBelow}
 
 -- a number is its bytes
@@ -42,11 +44,8 @@ next_byte : (k x n : ℕ) {bs : List ℕ} → bytes_of k (x / (n * 256)) ≡ bs 
 unfolding bytes_of
 next_byte k x n e = ap (λ (z : List ℕ). (x / n % 256) ∷ z) (ap (bytes_of k) (div-div-eq-div-mul x n 256) ∙ e)
 
--- the eight bytes, with the divisors written out
-pub eight_bytes : (x : ℕ)
-    → bytes_of 8 x
-    ≡ (x % 256) ∷ (x / 256 % 256) ∷ (x / 65536 % 256) ∷ (x / 16777216 % 256) ∷ (x / 4294967296 % 256) ∷ (x / 1099511627776 % 256) ∷ (x / 281474976710656 % 256)
-    ∷ (x / 72057594037927936 % 256) ∷ []
+-- the eight bytes, as std's `to_le_bytes` gives them
+pub eight_bytes : (x : ℕ) → bytes_of 8 x ≡ to_le_bytes w64 x
 unfolding bytes_of
 eight_bytes x =
     ap (λ (z : List ℕ). (x % 256) ∷ z)

@@ -9,12 +9,12 @@ use lib.ListN.{length, get_or, drop, replicate, length-drop, length-replicate, g
 use lib.Seq.{ext_get_or, get_or-drop}
 use borrow.Author.Tests.{eq-eqb, ne_eqb}
 use Rattle.refusal.specs.declared.Refusal.TheVariants.{ByteRoom}
-use Rattle.refusal.specs.declared.Acceptance.TheVariants.{Accepted, Refused}
 use Rattle.shuffle.specs.Bytes.{bytes_of, from_bytes, byte_at, EachBelow}
 use Rattle.shuffle.specs.Shuffled.{shuffled, strided, gathered, unshuffled, Outcome, outcome, shuffle_outcome, unshuffle_outcome}
 use Rattle.shuffle.proofs.Bytes.{value_bytes, bytes_value, length_bytes, byte_nought}
 use Rattle.shuffle.proofs.Places.{place_below, ext_places, length-strided, strided_at}
 use Rattle.shuffle.proofs.Filling.{length-shuffled, shuffled_at, length-unshuffled, unshuffled_at}
+use Rattle.std.specs.Prelude.{Ok, Err}
 
 -- the bytes of a figure, gathered from its places, are its own
 strided-shuffled : (xs : List ℕ) (i : ℕ) → i < length xs → strided (length xs) i 8 (shuffled xs) ≡ bytes_of 8 (get_or xs i 0)
@@ -60,38 +60,38 @@ shuffle_unshuffle k bs n b =
         ∙ strided_at k i 8 bs p h
 
 -- a room of eight bytes for each figure is accepted
-pub shuffle_accepted : (own room : List ℕ) → length room ≡ 8 * length own → shuffle_outcome own room ≡ outcome Accepted (shuffled own)
+pub shuffle_accepted : (own room : List ℕ) → length room ≡ 8 * length own → shuffle_outcome own room ≡ outcome (Ok tt) (shuffled own)
 unfolding shuffle_outcome
 shuffle_accepted own room h = rw (eq-eqb _ _ h)
 
-pub unshuffle_accepted : (bytes own : List ℕ) → length bytes ≡ 8 * length own → unshuffle_outcome bytes own ≡ outcome Accepted (unshuffled (length own) bytes)
+pub unshuffle_accepted : (bytes own : List ℕ) → length bytes ≡ 8 * length own → unshuffle_outcome bytes own ≡ outcome (Ok tt) (unshuffled (length own) bytes)
 unfolding unshuffle_outcome
 unshuffle_accepted bytes own h = rw (eq-eqb _ _ h)
 
 -- and any other is refused, with nothing written
-pub shuffle_refused : (own room : List ℕ) → length room ≢ 8 * length own → shuffle_outcome own room ≡ outcome (Refused ByteRoom) room
+pub shuffle_refused : (own room : List ℕ) → length room ≢ 8 * length own → shuffle_outcome own room ≡ outcome (Err ByteRoom) room
 unfolding shuffle_outcome
 shuffle_refused own room h = rw (ne_eqb _ _ h)
 
-pub unshuffle_refused : (bytes own : List ℕ) → length bytes ≢ 8 * length own → unshuffle_outcome bytes own ≡ outcome (Refused ByteRoom) own
+pub unshuffle_refused : (bytes own : List ℕ) → length bytes ≢ 8 * length own → unshuffle_outcome bytes own ≡ outcome (Err ByteRoom) own
 unfolding unshuffle_outcome
 unshuffle_refused bytes own h = rw (ne_eqb _ _ h)
 
 -- what shuffling left, unshuffled: the column, whatever the second column held
 pub shuffle_then_unshuffle : (own room other : List ℕ) → EachBelow 18_446_744_073_709_551_616 own → length room ≡ 8 * length own → length other ≡ length own
-    → unshuffle_outcome (shuffle_outcome own room).left other ≡ outcome Accepted own
+    → unshuffle_outcome (shuffle_outcome own room).left other ≡ outcome (Ok tt) own
 shuffle_then_unshuffle own room other b h l =
     ap (λ (z : Outcome). unshuffle_outcome z.left other) (shuffle_accepted own room h)
     ∙ unshuffle_accepted (shuffled own) other (length-shuffled own ∙ ap (λ (z : ℕ). 8 * z) (sym l))
-    ∙ ap (outcome Accepted) (ap (λ (z : ℕ). unshuffled z (shuffled own)) l ∙ unshuffle_shuffle own b)
+    ∙ ap (outcome (Ok tt)) (ap (λ (z : ℕ). unshuffled z (shuffled own)) l ∙ unshuffle_shuffle own b)
 
 -- what unshuffling left, shuffled: the bytes, whatever the room held
 pub unshuffle_then_shuffle : (bytes own room : List ℕ) → EachBelow 256 bytes → length bytes ≡ 8 * length own → length room ≡ length bytes
-    → shuffle_outcome (unshuffle_outcome bytes own).left room ≡ outcome Accepted bytes
+    → shuffle_outcome (unshuffle_outcome bytes own).left room ≡ outcome (Ok tt) bytes
 unshuffle_then_shuffle bytes own room b h l =
     ap (λ (z : Outcome). shuffle_outcome z.left room) (unshuffle_accepted bytes own h)
     ∙ shuffle_accepted (unshuffled (length own) bytes) room (l ∙ h ∙ ap (λ (z : ℕ). 8 * z) (sym (length-unshuffled (length own) bytes)))
-    ∙ ap (outcome Accepted) (shuffle_unshuffle (length own) bytes h b)
+    ∙ ap (outcome (Ok tt)) (shuffle_unshuffle (length own) bytes h b)
 
 -- "the upper four bytes of our figures are always 0": the last half, of figures below 2^32
 pub upper_nought : (xs : List ℕ) → EachBelow 4_294_967_296 xs → drop (4 * length xs) (shuffled xs) ≡ replicate {A = ℕ} (4 * length xs) 0

@@ -5,10 +5,12 @@ use mathlib.Core.Logic.{◌≢◌}
 use mathlib.Core.List.{List, [], ◌∷◌}
 use native.Mathlib.Nat.{suc-mul, pow-succ', mul-le-mul_right, mod-lt, mod-eq_of_lt, div-add-mod', div-lt_iff_lt-mul, mul-add-mod_self_right}
 use native.Mathlib.Omega.{arith}
-use lib.ListN.{length, get_or, set, length-set}
+use lib.ListN.{length, get_or, set, take, length-set}
 use lib.Seq.{ext_get_or, get_or-set_same, get_or-set_other}
+use mir.Syntax.{w64}
+use Rattle.std.specs.Int.{from_le_bytes}
 use Rattle.shuffle.specs.Bytes.{from_bytes}
-use Rattle.shuffle.specs.Shuffled.{strided}
+use Rattle.shuffle.specs.Shuffled.{strided, gathered}
 use Rattle.shuffle.specs.Places.{spread}
 
 -- a place tells its figure
@@ -74,8 +76,31 @@ spread_at k i (b ∷ bs) room (suc p) s h l =
     ap (λ (z : ℕ). get_or (spread k (i + k) bs (set room i b)) z 0) (next p k i)
     ∙ spread_at k (i + k) bs (set room i b) p s (omega arith) (omega (arith, next p k i, length-set room i b))
 
+-- one byte more
+pub spread_more : (k i : ℕ) (bs room : List ℕ) (p : ℕ) → p < length bs
+    → set (spread k i (take p bs) room) (p * k + i) (get_or bs p 0) ≡ spread k i (take (suc p) bs) room
+unfolding spread
+spread_more k i [] room p h = absurd (omega arith)
+spread_more k i (b ∷ bs) room zero h = ap (λ (z : ℕ). set room z b) (first k i)
+spread_more k i (b ∷ bs) room (suc p) h =
+    ap (λ (z : ℕ). set (spread k (i + k) (take p bs) (set room i b)) z (get_or bs p 0)) (next p k i)
+    ∙ spread_more k (i + k) bs (set room i b) p (omega arith)
+
 -- n bytes make a number below 256^n
 pub strided_below : (bs : List ℕ) → ((j : ℕ) → get_or bs j 0 < 256) → (k i n : ℕ) → from_bytes (strided k i n bs) < 256 ^ n
 unfolding from_bytes strided
 strided_below bs f k i zero = omega arith
 strided_below bs f k i (suc n) = omega (arith, pow-succ' 256 n, f i, strided_below bs f k (i + k) n)
+
+-- eight bytes read k apart, as std's `from_le_bytes` takes them
+value_le : (k i : ℕ) (bs : List ℕ) → from_le_bytes w64 (strided k i 8 bs) ≡ from_bytes (strided k i 8 bs)
+unfolding from_bytes strided
+value_le k i bs = omega arith
+
+pub gathered_le : (k i : ℕ) (bs xs : List ℕ) → length xs ≡ 8 → ((q : ℕ) → q < length xs → get_or xs q 0 ≡ get_or bs (q * k + i) 0)
+    → from_le_bytes w64 xs ≡ gathered k bs i
+unfolding gathered
+gathered_le k i bs xs l f =
+    ap (from_le_bytes w64)
+    (ext_get_or 0 xs (strided k i 8 bs) (l ∙ sym (length-strided k i 8 bs)) (λ q b. f q b ∙ sym (strided_at k i 8 bs q (omega arith))))
+    ∙ value_le k i bs

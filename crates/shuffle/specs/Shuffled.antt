@@ -1,10 +1,9 @@
 -- A column laid out by the places of its bytes, and laid back: document 02, 2026-13. Assumes nothing: these are definitions.
-use Rattle.std.specs.Prelude.{ℕ, zero, suc, ◌+◌, ◌*◌, List, [], ◌∷◌, ◌++◌, map, length, get_or, eqb}
+use Rattle.std.specs.Prelude.{ℕ, zero, suc, ◌+◌, ◌*◌, List, [], ◌∷◌, ◌++◌, map, length, get_or, eqb, Ok, Err}
 use Rattle.weights.specs.Choice.{pick}
 use Rattle.refusal.specs.declared.Refusal.TheVariants.{ByteRoom}
-use Rattle.refusal.specs.declared.Acceptance.{Acceptance}
-use Rattle.refusal.specs.declared.Acceptance.TheVariants.{Accepted, Refused}
 use Rattle.shuffle.specs.Bytes.{from_bytes, byte_at}
+use Rattle.refusal.specs.Answers.{Acceptance}
 
 -- the byte of place p of each figure, "each time in the column's order"
 unfoldable pub plane : (p : ℕ) → List ℕ → List ℕ
@@ -47,7 +46,7 @@ outcome r xs = record { answer = r; left = xs }
 
 -- "only 27 if the byte room isn't exactly eight times the column's length": the room when shuffling, the lent bytes when unshuffling
 unfoldable pub shuffle_outcome : (own room : List ℕ) → Outcome
-shuffle_outcome own room = pick (eqb (length room) (8 * length own)) (outcome Accepted (shuffled own)) (outcome (Refused ByteRoom) room)
+shuffle_outcome own room = pick (eqb (length room) (8 * length own)) (outcome (Ok tt) (shuffled own)) (outcome (Err ByteRoom) room)
 
 unfoldable pub unshuffle_outcome : (bytes own : List ℕ) → Outcome
-unshuffle_outcome bytes own = pick (eqb (length bytes) (8 * length own)) (outcome Accepted (unshuffled (length own) bytes)) (outcome (Refused ByteRoom) own)
+unshuffle_outcome bytes own = pick (eqb (length bytes) (8 * length own)) (outcome (Ok tt) (unshuffled (length own) bytes)) (outcome (Err ByteRoom) own)

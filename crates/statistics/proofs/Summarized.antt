@@ -11,12 +11,9 @@ use lib.ListN.{length, get_or}
 use Rattle.refusal.specs.declared.Observation.{Observation}
 use Rattle.refusal.specs.declared.Refusal.{Refusal}
 use Rattle.refusal.specs.declared.Refusal.TheVariants.{SampleSize, TooLarge}
-use Rattle.refusal.specs.declared.Acceptance.{Acceptance}
-use Rattle.refusal.specs.declared.Acceptance.TheVariants.{Refused}
 use Rattle.statistics.specs.declared.Fraction.{Fraction}
 use Rattle.statistics.specs.declared.Moments.{Moments}
 use Rattle.statistics.specs.declared.Sums.{Sums}
-use Rattle.statistics.specs.declared.Summary.TheVariants as summary
 use Rattle.statistics.specs.Fractions.{fraction, lowest, Reduced}
 use Rattle.statistics.specs.Samples.{most_results, greatest_result, total, sum, spread, mean, variance, sample_acceptance, Sample, FirstTooLarge, Sampled, accepted, sized, large}
 use Rattle.statistics.specs.Summaries.{sums_of, moments_of, answered, summary_of, Summarizes}
@@ -26,33 +23,35 @@ use Rattle.statistics.proofs.Spread.{spread_exact}
 use Rattle.statistics.proofs.Totals.{total_part, total_at_most, total_equal, total_perm, length-total}
 use Rattle.statistics.proofs.Ranges.{square_above}
 use Rattle.statistics.proofs.Accepting.{sampled, sample_accepted}
+use Rattle.refusal.specs.Answers.{Acceptance}
+use Rattle.std.specs.Prelude.{Ok, Err}
 
 -- Accepted samples ---------------------------------------------------------------------------------------------------------------------------------
 
-pub sample_summarized : (xs : List ℕ) → Sample xs → summary_of xs ≡ summary.Moments (moments_of xs)
+pub sample_summarized : (xs : List ℕ) → Sample xs → summary_of xs ≡ Ok (moments_of xs)
 unfolding summary_of
 sample_summarized xs s = ap (answered xs) (sample_accepted xs s)
 
 -- the code's answer, from the sums and two fractions in lowest terms
 pub summary_made : (xs : List ℕ) (s : Sums) (y z : Fraction) → Sample xs → s ≡ sums_of xs → y ≡ lowest s.total (length xs)
     → z ≡ lowest (length xs * s.squares - s.total * s.total) (length xs * length xs)
-    → summary.Moments (record { mean = y; variance = z }) ≡ summary_of xs
+    → Ok (record { mean = y; variance = z }) ≡ summary_of xs
 unfolding mean variance
 summary_made xs s y z l e p q =
     let f : y ≡ mean xs = p ∙ ap (λ (u : Sums). lowest u.total (length xs)) e in
     let g : z ≡ variance xs = q ∙ ap (λ (u : Sums). lowest (length xs * u.squares - u.total * u.total) (length xs * length xs)) e in
-    ap₂ (λ (u w : Fraction). summary.Moments (record { mean = u; variance = w })) f g ∙ sym (sample_summarized xs l)
+    ap₂ (λ (u w : Fraction). Ok (record { mean = u; variance = w })) f g ∙ sym (sample_summarized xs l)
 
-pub summary_refused : (xs : List ℕ) (r : Refusal) → sample_acceptance xs ≡ Refused r → summary.Refused r ≡ summary_of xs
+pub summary_refused : (xs : List ℕ) (r : Refusal) → sample_acceptance xs ≡ Err r → Err r ≡ summary_of xs
 unfolding summary_of
 summary_refused xs r e = sym (ap (answered xs) e)
 
 -- an answer is of an accepted sample, and is its mean and variance
-answer_is : (xs : List ℕ) (m : Moments) → summary_of xs ≡ summary.Moments m → Sample xs × (m ≡ moments_of xs)
+answer_is : (xs : List ℕ) (m : Moments) → summary_of xs ≡ Ok m → Sample xs × (m ≡ moments_of xs)
 unfolding summary_of
 answer_is xs m e = go (sampled xs) e
   where
-    go : {a : Acceptance} → Sampled xs a → answered xs a ≡ summary.Moments m → Sample xs × (m ≡ moments_of xs)
+    go : {a : Acceptance} → Sampled xs a → answered xs a ≡ Ok m → Sample xs × (m ≡ moments_of xs)
     go (accepted s) p = (s, cc)
     go (sized h) p = let z : ◌≡◌ {A = ℕ} 0 1 = cc in absurd (omega arith)
     go (large h k i t) p = let z : ◌≡◌ {A = ℕ} 0 1 = cc in absurd (omega arith)
@@ -71,7 +70,7 @@ moments_summarize xs h = record {
 }
 
 -- `summary_of xs` is an answer exactly of a sample within the limits (the other direction: `sample_summarized`), and says the mean and the variance
-pub summarized : (xs : List ℕ) (m : Moments) → summary_of xs ≡ summary.Moments m → Sample xs × Summarizes xs m
+pub summarized : (xs : List ℕ) (m : Moments) → summary_of xs ≡ Ok m → Sample xs × Summarizes xs m
 summarized xs m e =
     let a = answer_is xs m e in
     (a.0, subst (Summarizes xs) (sym a.1) (moments_summarize xs a.0.some))
@@ -79,39 +78,39 @@ summarized xs m e =
 -- Refused samples ----------------------------------------------------------------------------------------------------------------------------------
 
 -- a refusal is 22, of no results or too many, or 23, with the index of the first result that is too large
-pub refused_sample : (xs : List ℕ) (r : Refusal) → summary_of xs ≡ summary.Refused r → Sampled xs (Refused r)
+pub refused_sample : (xs : List ℕ) (r : Refusal) → summary_of xs ≡ Err r → Sampled xs (Err r)
 unfolding summary_of
 refused_sample xs r e = go (sampled xs) e
   where
-    go : {a : Acceptance} → Sampled xs a → answered xs a ≡ summary.Refused r → Sampled xs (Refused r)
+    go : {a : Acceptance} → Sampled xs a → answered xs a ≡ Err r → Sampled xs (Err r)
     go (accepted s) p = let z : ◌≡◌ {A = ℕ} 0 1 = cc in absurd (omega arith)
-    go (sized h) p = let q : SampleSize ≡ r = cc in subst (λ (z : Refusal). Sampled xs (Refused z)) q (sized h)
-    go (large h k i t) p = let q : TooLarge (record { 0 = i }) ≡ r = cc in subst (λ (z : Refusal). Sampled xs (Refused z)) q (large h k i t)
+    go (sized h) p = let q : SampleSize ≡ r = cc in subst (λ (z : Refusal). Sampled xs (Err z)) q (sized h)
+    go (large h k i t) p = let q : TooLarge (record { 0 = i }) ≡ r = cc in subst (λ (z : Refusal). Sampled xs (Err z)) q (large h k i t)
 
 abbrev observation : ℕ → Observation
 observation i = record { 0 = i }
 
-pub first_too_large : (xs : List ℕ) (i : ℕ) → summary_of xs ≡ summary.Refused (TooLarge (record { 0 = i })) → (1 ≤ length xs) × (length xs ≤ most_results) × FirstTooLarge xs i
+pub first_too_large : (xs : List ℕ) (i : ℕ) → summary_of xs ≡ Err (TooLarge (record { 0 = i })) → (1 ≤ length xs) × (length xs ≤ most_results) × FirstTooLarge xs i
 first_too_large xs i e = go (refused_sample xs _ e) refl
   where
-    go : {a : Acceptance} → Sampled xs a → a ≡ Refused (TooLarge (record { 0 = i })) → (1 ≤ length xs) × (length xs ≤ most_results) × FirstTooLarge xs i
+    go : {a : Acceptance} → Sampled xs a → a ≡ Err (TooLarge (record { 0 = i })) → (1 ≤ length xs) × (length xs ≤ most_results) × FirstTooLarge xs i
     go (accepted s) p = let z : ◌≡◌ {A = ℕ} 0 1 = cc in absurd (omega arith)
     go (sized h) p = let z : ◌≡◌ {A = ℕ} 0 1 = cc in absurd (omega arith)
     go (large h k j t) p = let q : observation j ≡ observation i = cc in (h, k, subst (FirstTooLarge xs) (ap (λ (o : Observation). o.0) q) t)
 
-pub wrong_size : (xs : List ℕ) → summary_of xs ≡ summary.Refused SampleSize → (length xs ≡ 0) ⊎ (most_results < length xs)
+pub wrong_size : (xs : List ℕ) → summary_of xs ≡ Err SampleSize → (length xs ≡ 0) ⊎ (most_results < length xs)
 wrong_size xs e = go (refused_sample xs _ e) refl
   where
-    go : {a : Acceptance} → Sampled xs a → a ≡ Refused SampleSize → (length xs ≡ 0) ⊎ (most_results < length xs)
+    go : {a : Acceptance} → Sampled xs a → a ≡ Err SampleSize → (length xs ≡ 0) ⊎ (most_results < length xs)
     go (accepted s) p = let z : ◌≡◌ {A = ℕ} 0 1 = cc in absurd (omega arith)
     go (sized h) p = h
     go (large h k i t) p = let z : ◌≡◌ {A = ℕ} 0 1 = cc in absurd (omega arith)
 
 -- and the other way round
-pub size_refused : (xs : List ℕ) → (length xs ≡ 0) ⊎ (most_results < length xs) → summary_of xs ≡ summary.Refused SampleSize
+pub size_refused : (xs : List ℕ) → (length xs ≡ 0) ⊎ (most_results < length xs) → summary_of xs ≡ Err SampleSize
 size_refused xs w = sym (summary_refused xs SampleSize (go (sampled xs) w))
   where
-    go : {a : Acceptance} → Sampled xs a → (length xs ≡ 0) ⊎ (most_results < length xs) → a ≡ Refused SampleSize
+    go : {a : Acceptance} → Sampled xs a → (length xs ≡ 0) ⊎ (most_results < length xs) → a ≡ Err SampleSize
     go (accepted s) w = absurd (⊎_elim (λ e. omega (arith, s.some)) (λ l. omega (arith, s.few)) w)
     go (sized h) w = refl
     go (large h k i t) w = absurd (⊎_elim (λ e. omega arith) (λ l. omega arith) w)
@@ -124,13 +123,13 @@ first_one {xs} {i} {j} s t = go (dec_le j i)
     go (yes h) = h
     go (no n) = absurd (omega (arith, s.large, t.first i (omega arith)))
 
-pub large_refused : (xs : List ℕ) (i : ℕ) → 1 ≤ length xs → length xs ≤ most_results → FirstTooLarge xs i → summary_of xs ≡ summary.Refused (TooLarge (observation i))
+pub large_refused : (xs : List ℕ) (i : ℕ) → 1 ≤ length xs → length xs ≤ most_results → FirstTooLarge xs i → summary_of xs ≡ Err (TooLarge (observation i))
 large_refused xs i some few t = sym (summary_refused xs _ (go (sampled xs)))
   where
-    go : {a : Acceptance} → Sampled xs a → a ≡ Refused (TooLarge (observation i))
+    go : {a : Acceptance} → Sampled xs a → a ≡ Err (TooLarge (observation i))
     go (accepted s) = absurd (omega (arith, t.large, s.small i t.within))
     go (sized h) = absurd (⊎_elim (λ e. omega arith) (λ l. omega arith) h)
-    go (large h k j s) = ap (λ (z : ℕ). Refused (TooLarge (observation z))) (le_antisymm (first_one t s) (first_one s t))
+    go (large h k j s) = ap (λ (z : ℕ). Err (TooLarge (observation z))) (le_antisymm (first_one t s) (first_one s t))
 
 -- The order ----------------------------------------------------------------------------------------------------------------------------------------
 
@@ -158,10 +157,10 @@ moments_perm xs ys p =
     let q = total_perm (λ x. x * x) xs ys p in
     cc
 
-pub order_free : (xs ys : List ℕ) (m : Moments) → Perm xs ys → summary_of xs ≡ summary.Moments m → summary_of ys ≡ summary.Moments m
+pub order_free : (xs ys : List ℕ) (m : Moments) → Perm xs ys → summary_of xs ≡ Ok m → summary_of ys ≡ Ok m
 order_free xs ys m p e =
     let a = answer_is xs m e in
-    sample_summarized ys (sample_perm xs ys p a.0) ∙ ap summary.Moments (sym (moments_perm xs ys p) ∙ sym a.1)
+    sample_summarized ys (sample_perm xs ys p a.0) ∙ ap Ok (sym (moments_perm xs ys p) ∙ sym a.1)
 
 -- Equal results ------------------------------------------------------------------------------------------------------------------------------------
 
@@ -178,14 +177,14 @@ lowest_whole x a b h e = lowest_unique (lowest a b) (fraction x 1) (lowest_reduc
         eq_of_mul-eq-mul_left b h _ _ (left ∙ p ∙ ap (λ (z : ℕ). z * f.denominator) e ∙ mul_assoc b x _)
 
 pub equal_results : (xs : List ℕ) (x : ℕ) → Sample xs → ((i : ℕ) → i < length xs → get_or xs i 0 ≡ x)
-    → summary_of xs ≡ summary.Moments (record { mean = fraction x 1; variance = fraction 0 1 })
+    → summary_of xs ≡ Ok (record { mean = fraction x 1; variance = fraction 0 1 })
 unfolding mean variance
 equal_results xs x s f =
     let a = total_equal (λ x. x) x xs f in
     let b = total_equal (λ x. x * x) x xs f in
     let m : mean xs ≡ fraction x 1 = lowest_whole x (sum xs) (length xs) s.some a in
     let v : variance xs ≡ fraction 0 1 = lowest_whole 0 (spread xs) (length xs * length xs) (square_above (length xs) s.some) (none (length xs) _ _ a b) in
-    sample_summarized xs s ∙ ap₂ (λ (y z : Fraction). summary.Moments (record { mean = y; variance = z })) m v
+    sample_summarized xs s ∙ ap₂ (λ (y z : Fraction). Ok (record { mean = y; variance = z })) m v
   where
     none : (n t q : ℕ) → t ≡ n * x → q ≡ n * (x * x) → n * q - t * t ≡ n * n * 0
     none n t q p r = rw (p, r) (omega arith)

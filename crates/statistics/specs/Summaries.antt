@@ -1,14 +1,11 @@
 -- The answer of `summarize`, and what it says in plain products of numbers: request 2026-05. Assumes nothing: these are definitions.
-use Rattle.std.specs.Prelude.{ℕ, ◌+◌, ◌*◌, ◌≡◌, List, [], ◌∷◌, length}
+use Rattle.std.specs.Prelude.{ℕ, ◌+◌, ◌*◌, ◌≡◌, List, [], ◌∷◌, length, Ok, Err}
 use Rattle.refusal.specs.Refusals.{code_of, result_of}
-use Rattle.refusal.specs.declared.Acceptance.{Acceptance}
-use Rattle.refusal.specs.declared.Acceptance.TheVariants.{Accepted, Refused}
 use Rattle.statistics.specs.declared.Moments.{Moments}
 use Rattle.statistics.specs.declared.Sums.{Sums}
-use Rattle.statistics.specs.declared.Summary.{Summary}
-use Rattle.statistics.specs.declared.Summary.TheVariants as summary
 use Rattle.statistics.specs.Fractions.{Reduced}
-use Rattle.statistics.specs.Samples.{sum, squares, mean, variance, sample_acceptance}
+use Rattle.statistics.specs.Samples.{sum, squares, mean, variance, sample_acceptance, Summary}
+use Rattle.refusal.specs.Answers.{Acceptance}
 
 abbrev pub sums_of : List ℕ → Sums
 sums_of xs = record { total = sum xs; squares = squares xs }
@@ -17,8 +14,8 @@ abbrev pub moments_of : List ℕ → Moments
 moments_of xs = record { mean = mean xs; variance = variance xs }
 
 abbrev pub answered : List ℕ → Acceptance → Summary
-answered xs Accepted = summary.Moments (moments_of xs)
-answered xs (Refused r) = summary.Refused r
+answered xs (Ok _) = Ok (moments_of xs)
+answered xs (Err r) = Err r
 
 -- what `summarize` answers for the results xs
 unfoldable pub summary_of : List ℕ → Summary
@@ -26,12 +23,12 @@ summary_of xs = answered xs (sample_acceptance xs)
 
 -- in the paper's numbers: 0 where there is an answer, or the refusal's result; and the four numbers of the answer
 abbrev pub summary_number : Summary → ℕ
-summary_number (summary.Moments m) = 0
-summary_number (summary.Refused r) = result_of (code_of r)
+summary_number (Ok m) = 0
+summary_number (Err r) = result_of (code_of r)
 
 abbrev pub summary_values : Summary → List ℕ
-summary_values (summary.Moments m) = m.mean.numerator ∷ m.mean.denominator ∷ m.variance.numerator ∷ m.variance.denominator ∷ []
-summary_values (summary.Refused r) = []
+summary_values (Ok m) = m.mean.numerator ∷ m.mean.denominator ∷ m.variance.numerator ∷ m.variance.denominator ∷ []
+summary_values (Err r) = []
 
 -- m has the mean and the variance of xs, both in lowest terms; no difference is taken, so none can be cut at 0
 pub record Summarizes (xs : List ℕ) (m : Moments) : Type 0 where

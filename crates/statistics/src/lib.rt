@@ -7,7 +7,7 @@ ghost use Rattle.statistics.specs.Fractions.{gcd, lowest};
 ghost use Rattle.statistics.specs.Samples.{sample_acceptance, Sample};
 ghost use Rattle.statistics.specs.Summaries.{sums_of, summary_of};
 
-use refusal::{Acceptance, Observation, Refusal};
+use refusal::{Observation, Refusal};
 
 // The most results, and the greatest.
 pub const MOST_RESULTS: usize = 1000;
@@ -26,13 +26,6 @@ pub struct Moments {
     pub variance: Fraction,
 }
 
-// What summarizing a sample returns.
-#[derive(Clone, Copy)]
-pub enum Summary {
-    Moments(Moments),
-    Refused(Refusal),
-}
-
 // The sum of the results, and of their squares.
 #[derive(Clone, Copy)]
 struct Sums {
@@ -41,23 +34,21 @@ struct Sums {
 }
 
 // Whether the sample is accepted, or the first refusal.
-fn check_sample(results: &[u64]) -> Acceptance
+fn check_sample(results: &[u64]) -> Result<(), Refusal>
     ensures { result ≡ sample_acceptance results.now }
 {
-    if results.len() == 0 {
-        return Acceptance::Refused(Refusal::SampleSize);
+    if results.is_empty() {
+        return Err(Refusal::SampleSize);
     }
     if results.len() > MOST_RESULTS {
-        return Acceptance::Refused(Refusal::SampleSize);
+        return Err(Refusal::SampleSize);
     }
-    let mut i = 0;
-    while i < results.len() {
-        if results[i] > GREATEST_RESULT {
-            return Acceptance::Refused(Refusal::TooLarge(Observation(i as u64)));
+    for (i, x) in results.iter().enumerate() {
+        if *x > GREATEST_RESULT {
+            return Err(Refusal::TooLarge(Observation(i as u64)));
         }
-        i += 1;
     }
-    Acceptance::Accepted
+    Ok(())
 }
 
 fn add_up(results: &[u64]) -> Sums
@@ -66,12 +57,9 @@ fn add_up(results: &[u64]) -> Sums
 {
     let mut total: u64 = 0;
     let mut squares: u64 = 0;
-    let mut i = 0;
-    while i < results.len() {
-        let x = results[i];
-        total += x;
-        squares += x * x;
-        i += 1;
+    for x in results {
+        total += *x;
+        squares += *x * *x;
     }
     Sums { total, squares }
 }
@@ -80,6 +68,7 @@ fn add_up(results: &[u64]) -> Sums
 fn gcd(a: u64, b: u64) -> u64
     ensures { result ≡ gcd a b }
 {
+    // Kept: Euclid's loop counts no index, so `while` is its plain form.
     let mut high = a;
     let mut low = b;
     while low != 0 {
@@ -102,14 +91,10 @@ fn lowest(numerator: u64, denominator: u64) -> Fraction
 }
 
 // The mean and the variance of the results, or the refusal of the sample.
-pub fn summarize(results: &[u64]) -> Summary
+pub fn summarize(results: &[u64]) -> Result<Moments, Refusal>
     ensures { result ≡ summary_of results.now }
 {
-    let a = check_sample(results);
-    match a {
-        Acceptance::Refused(r) => return Summary::Refused(r),
-        Acceptance::Accepted => {}
-    }
+    check_sample(results)?;
     let sums = add_up(results);
     let count = results.len() as u64;
     let total = sums.total;
@@ -117,5 +102,5 @@ pub fn summarize(results: &[u64]) -> Summary
     let mean = lowest(total, count);
     let spread = count * squares - total * total;
     let variance = lowest(spread, count * count);
-    Summary::Moments(Moments { mean, variance })
+    Ok(Moments { mean, variance })
 }

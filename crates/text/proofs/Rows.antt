@@ -10,13 +10,13 @@ use lib.ListN.{length, get_or, take, drop, length-append, length-take}
 use lib.Seq.{append_snoc, get_or_at, take_at, drop_at}
 use borrow.Author.Tests.{lt-ltb, le-leb, eq-eqb}
 use Rattle.weights.specs.declared.Measure.{Measure}
-use Rattle.refusal.specs.declared.Acceptance.{Acceptance}
-use Rattle.refusal.specs.declared.Acceptance.TheVariants.{Accepted}
 use Rattle.columns.specs.Columns.{Columns, head_at, own_at, strike_at, offset_at, length_at, part, tail_at}
 use Rattle.columns.specs.Acceptance.{most_edges, most_listed, longest_tail, and_then, all_below, edge_acceptance, edge_at, edges_acceptance, acceptance}
 use Rattle.columns.proofs.Accepted.{both_accepted, edge_accepted, table_accepted, below_at}
 use Rattle.text.specs.Tables.{Edge, edge, Table, edges_from, edges_of, table_of, listed_in_all, each_of, heads_of, owns_of, marks_of, spans_from, tails_of, columns_of, closed}
 use Rattle.text.specs.Rows.{EdgeFits, All, none, one, WithinLimits}
+use Rattle.refusal.specs.Answers.{Acceptance}
+use Rattle.std.specs.Prelude.{Ok}
 
 pub all_snoc : {P : Edge → Type 0} {es : List Edge} {e : Edge} → All P es → P e → All P (es ++ e ∷ [])
 all_snoc none p = one p none
@@ -142,7 +142,7 @@ edges_of-columns n es = ap (λ (k : ℕ). edges_from (columns_of n es) k 0) (len
 
 -- Accepted is within the limits --------------------------------------------------------------------------------------------------------------
 
-edges_fit : (c : Columns) (left e end : ℕ) → edges_acceptance c left e end ≡ Accepted → All (EdgeFits c.vertices) (edges_from c left e)
+edges_fit : (c : Columns) (left e end : ℕ) → edges_acceptance c left e end ≡ Ok tt → All (EdgeFits c.vertices) (edges_from c left e)
 unfolding edges_acceptance edges_from
 edges_fit c zero e end p = none
 edges_fit c (suc left) e end p =
@@ -154,7 +154,7 @@ edges_fit c (suc left) e end p =
     short-part h = let l = length-take (length_at c e) (drop (offset_at c e) c.tails) in omega arith
 
 -- spans are sorted and within the column, so what they cover is no longer than it
-covered : (c : Columns) (left e end : ℕ) → end ≤ length c.tails → edges_acceptance c left e end ≡ Accepted → end + listed_in_all (edges_from c left e) ≤ length c.tails
+covered : (c : Columns) (left e end : ℕ) → end ≤ length c.tails → edges_acceptance c left e end ≡ Ok tt → end + listed_in_all (edges_from c left e) ≤ length c.tails
 unfolding edges_acceptance edges_from listed_in_all
 covered c zero e end h p = omega arith
 covered c (suc left) e end h p =
@@ -170,7 +170,7 @@ unfolding edges_from
 length_edges c zero e = refl
 length_edges c (suc left) e = ap suc (length_edges c left (e + 1))
 
-pub accepted_fits : (m : Measure) (c : Columns) → acceptance c ≡ Accepted → WithinLimits (table_of m c)
+pub accepted_fits : (m : Measure) (c : Columns) → acceptance c ≡ Ok tt → WithinLimits (table_of m c)
 accepted_fits m c p =
     let t = table_accepted c p in
     let l = length_edges c (length c.heads) 0 in
@@ -186,14 +186,14 @@ module _ (n : ℕ) (es : List Edge) (e : Edge) (fs : List Edge) (f : EdgeFits n 
   unfolding listed_in_all
   within_column = let l = length_tails (es ++ e ∷ fs) in let t = total_append es (e ∷ fs) in omega arith
 
-  edge_passes : edge_at (columns_of n (es ++ e ∷ fs)) (length es) (listed_in_all es) ≡ Accepted
+  edge_passes : edge_at (columns_of n (es ++ e ∷ fs)) (length es) (listed_in_all es) ≡ Ok tt
   unfolding edge_acceptance
   edge_passes =
       let from = le-leb (listed_in_all es) (listed_in_all es) (omega arith) in
       rw (head_there n es e fs, own_there n es e fs, mark_there n es e fs, offset_there n es e fs, length_there n es e fs)
       (rw (lt-ltb _ _ f.head, le-leb _ _ f.own, le-leb _ _ f.mark, from, le-leb _ _ f.short, le-leb _ _ within_column, part_there n es e fs, f.tail))
 
-edges_passed : (n : ℕ) (es fs : List Edge) → All (EdgeFits n) fs → edges_acceptance (columns_of n (es ++ fs)) (length fs) (length es) (listed_in_all es) ≡ Accepted
+edges_passed : (n : ℕ) (es fs : List Edge) → All (EdgeFits n) fs → edges_acceptance (columns_of n (es ++ fs)) (length fs) (length es) (listed_in_all es) ≡ Ok tt
 unfolding edges_acceptance
 edges_passed n es [] none = refl
 edges_passed n es (e ∷ fs) (one f a) =
@@ -205,7 +205,7 @@ edges_passed n es (e ∷ fs) (one f a) =
     ∙ ap (λ (z : List Edge). edges_acceptance (columns_of n z) (length fs) (length (es ++ e ∷ [])) (listed_in_all (es ++ e ∷ []))) (sym (append_snoc es e fs))
     ∙ edges_passed n (es ++ e ∷ []) fs a
 
-pub fits_accepted : (t : Table) → WithinLimits t → acceptance (columns_of t.vertices t.edges) ≡ Accepted
+pub fits_accepted : (t : Table) → WithinLimits t → acceptance (columns_of t.vertices t.edges) ≡ Ok tt
 unfolding acceptance listed_in_all
 fits_accepted t f =
     let h = length_heads t.edges in
@@ -230,5 +230,5 @@ fits_accepted t f =
 pub closed_edges : (c : Columns) → edges_of (closed c) ≡ edges_of c
 closed_edges c = edges_of-columns c.vertices (edges_of c)
 
-pub closed_accepted : (m : Measure) (c : Columns) → acceptance c ≡ Accepted → acceptance (closed c) ≡ Accepted
+pub closed_accepted : (m : Measure) (c : Columns) → acceptance c ≡ Ok tt → acceptance (closed c) ≡ Ok tt
 closed_accepted m c p = fits_accepted (table_of m c) (accepted_fits m c p)

@@ -1,10 +1,9 @@
 -- The bytes of a table: the whole meaning of the format; and which texts are permitted. The paper's "The text". Assumes nothing: these are definitions.
-use Rattle.std.specs.Prelude.{ℕ, zero, suc, ◌+◌, ◌/◌, ◌%◌, ◌≡◌, List, [], ◌∷◌, ◌++◌, ltb}
+use Rattle.std.specs.Prelude.{ℕ, zero, suc, ◌+◌, ◌/◌, ◌%◌, ◌≡◌, List, [], ◌∷◌, ◌++◌, ltb, Ok}
 use Rattle.weights.specs.declared.Measure.{Measure}
 use Rattle.weights.specs.declared.Measure.TheVariants.{Cost, Days, Grade}
 use Rattle.weights.specs.Figures.{is_struck_mark}
 use Rattle.weights.specs.Choice.{pick}
-use Rattle.refusal.specs.declared.Acceptance.TheVariants.{Accepted}
 use Rattle.columns.specs.Columns.{Columns}
 use Rattle.columns.specs.Acceptance.{acceptance}
 use Rattle.text.specs.Tables.{Edge, Table, edges_of}
@@ -84,5 +83,5 @@ text_of t = table_text t.vertices t.measure t.edges
 pub record Permitted (s : List ℕ) : Type 0 where
   pub measure : Measure
   pub table : Columns
-  pub accepted : acceptance table ≡ Accepted
+  pub accepted : acceptance table ≡ Ok tt
   pub same : s ≡ render measure table

@@ -1,5 +1,6 @@
 pub mod Checking
 pub mod Linking
+pub mod Visiting
 pub mod Passing
 pub mod Counting
 pub mod Ordered

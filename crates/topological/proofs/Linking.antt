@@ -3,7 +3,7 @@ use mathlib.Core.Path.{◌≡◌, refl, sym, ◌∙◌, ap, subst}
 use mathlib.Core.Logic.{◌≢◌}
 use mathlib.Core.Bool.{Bool, true, false, not, true≢false}
 use mathlib.Core.List.{List}
-use Prim.Native.Nat.{ℕ, zero, suc, ◌+◌, ◌≤◌, ◌<◌, min}
+use Prim.Native.Nat.{ℕ, zero, suc, ◌+◌, ◌-◌, ◌≤◌, ◌<◌, min}
 use native.Mathlib.Numerals.{add-one}
 use native.Mathlib.Omega.{arith}
 use native.Mathlib.Decide.{ℕ_discrete}
@@ -12,8 +12,6 @@ use lib.Seq.{get_or-set_same, get_or-set_other}
 use lib.Dec.{eqb}
 use borrow.Author.Tests.{eq-eqb, ne_eqb}
 use Rattle.weights.specs.declared.Measure.{Measure}
-use Rattle.weights.specs.declared.Offer.{Offer}
-use Rattle.weights.specs.declared.Offer.TheVariants.{Nothing}
 use Rattle.weights.specs.Choice.{pick}
 use Rattle.weights.specs.Figures.{is_struck_mark}
 use Rattle.weights.specs.Measures.{algebra}
@@ -29,6 +27,8 @@ use Rattle.queue.specs.Keys.{Fitting, nothing, key_of}
 use Rattle.offers.proofs.Laws.{struck_nothing}
 use Rattle.queue.proofs.Packing.{key_earlier, fitting_earlier}
 use Rattle.topological.specs.Walking.{end, Yields, Least, line, none, Linked, Linkable}
+use Rattle.weights.specs.Offers.{Offer}
+use Rattle.std.specs.Prelude.{None}
 
 -- what holds from k + 1 on and at k
 from : (P : ℕ → Type 0) (k e : ℕ) → (k + 1 ≤ e → P e) → P k → k ≤ e → P e
@@ -50,6 +50,12 @@ linked_none {hs} {ms} l = record {
   firsts = λ v h. subst (Least hs ms v (length hs)) (sym (l.empty v h)) (none (λ e i j. absurd (omega arith)));
   nexts = λ e h i s. absurd (omega arith);
 }
+
+-- the lines from k on are those after line k - 1
+pub linked_after : {hs ms fs ns : List ℕ} {k : ℕ} → Linked hs ms fs ns k → 0 < k → Linked hs ms fs ns (k - 1 + 1)
+linked_after {hs} {ms} {fs} {ns} {k} l h =
+    let up : k ≡ k - 1 + 1 = omega arith in
+    subst (Linked hs ms fs ns) up l
 
 module _ {hs ms fs ns : List ℕ} (e : ℕ) (l : Linked hs ms fs ns (e + 1)) (h : e < length hs) where
   -- a struck line more
@@ -116,15 +122,15 @@ module _ (m : Measure) (c : Columns) (w d : ℕ → ℕ) (v : ℕ) where
   standing e = offer_of (algebra m) true (cell c.own e) (tail_at c e) w d e
 
   -- a line of another head, or a struck one, offers v nothing
-  idle : (e : ℕ) → ¬ Yields c.heads c.strikes v e → offer_to (algebra m) H (cell c.own) w d v e ≡ Nothing
+  idle : (e : ℕ) → ¬ Yields c.heads c.strikes v e → offer_to (algebra m) H (cell c.own) w d v e ≡ None
   unfolding offer_to
   idle e n = go (ℕ_discrete (cell c.heads e) v)
     where
-      struck : (b : Bool) → is_struck_mark (cell c.strikes e) ≡ b → cell c.heads e ≡ v → offer' e ≡ Nothing
+      struck : (b : Bool) → is_struck_mark (cell c.strikes e) ≡ b → cell c.heads e ≡ v → offer' e ≡ None
       struck true p q = sym (struck_nothing (algebra m) e (cell c.own e) (cell c.strikes e) w d (tail_at c e) p)
       struck false p q = absurd (n (record { head = q; stands = p }))
 
-      go : Dec (cell c.heads e ≡ v) → pick (eqb (cell c.heads e) v) (offer' e) Nothing ≡ Nothing
+      go : Dec (cell c.heads e ≡ v) → pick (eqb (cell c.heads e) v) (offer' e) None ≡ None
       go (yes q) = rw (eq-eqb _ _ q) (struck (is_struck_mark (cell c.strikes e)) refl q)
       go (no k) = rw (ne_eqb _ _ k) refl
 
@@ -167,7 +173,7 @@ module _ (m : Measure) (c : Columns) (w d : ℕ → ℕ) (v : ℕ) where
     fitting_best zero h = nothing
     fitting_best (suc k) h = fitting_earlier m (fitting_best k (omega arith)) (go (eqb (H.head k) v))
       where
-        go : (b : Bool) → Fitting (pick b (offer' k) Nothing)
+        go : (b : Bool) → Fitting (pick b (offer' k) None)
         go true = fits k h
         go false = nothing
 

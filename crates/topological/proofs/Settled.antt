@@ -10,8 +10,6 @@ use Rattle.weights.specs.Measures.{algebra}
 use Rattle.weights.proofs.Laws.{lawful}
 use Rattle.refusal.specs.declared.Refusal.{Refusal}
 use Rattle.refusal.specs.declared.Refusal.TheVariants.{AnswerLength}
-use Rattle.refusal.specs.declared.Acceptance.{Acceptance}
-use Rattle.refusal.specs.declared.Acceptance.TheVariants.{Accepted, Refused}
 use Rattle.columns.specs.Columns.{Answers, Sized, Entries, Columns, own_at, cell}
 use Rattle.columns.specs.Acceptance.{test, lent_acceptance}
 use Rattle.columns.specs.Owed.{Outcome}
@@ -31,6 +29,8 @@ use Rattle.provenance.specs.Pieces.{piece_column}
 use Rattle.topological.specs.Ordering.{ordered_acceptance, ordered_lent_acceptance, walked, walked_entries, settled_in_order}
 use Rattle.topological.specs.Walking.{Upward}
 use Rattle.topological.proofs.Ordered.{ordered_accepted, table_in_order}
+use Rattle.refusal.specs.Answers.{Acceptance}
+use Rattle.std.specs.Prelude.{Ok, Err}
 
 module _ (c : Columns) (a : Entries) where
   -- refusal 7
@@ -40,13 +40,13 @@ module _ (c : Columns) (a : Entries) where
       (test (eqb (length a.labels.depths) c.vertices) AnswerLength
       (test (eqb (length a.labels.edges) c.vertices) AnswerLength
       (test (eqb (length a.pieces) c.vertices) AnswerLength
-      Accepted)))
+      (Ok tt))))
 
-  pub lent_same : ordered_acceptance c ≡ Accepted → ordered_lent_acceptance c a ≡ lent_acceptance c a
+  pub lent_same : ordered_acceptance c ≡ Ok tt → ordered_lent_acceptance c a ≡ lent_acceptance c a
   unfolding ordered_lent_acceptance lent_acceptance
   lent_same p = rw (p, ((ordered_accepted c).0 p).0)
 
-  pub lent_accepted : ordered_lent_acceptance c a ≡ Accepted → (ordered_acceptance c ≡ Accepted) × AcceptedColumns c a
+  pub lent_accepted : ordered_lent_acceptance c a ≡ Ok tt → (ordered_acceptance c ≡ Ok tt) × AcceptedColumns c a
   unfolding ordered_lent_acceptance
   lent_accepted p =
       let t = both_accepted (ordered_acceptance c) lengths p in
@@ -63,38 +63,38 @@ module _ (c : Columns) (a : Entries) where
       )
 
 module _ (m : Measure) (c : Columns) where
-  pub same_answers : ordered_acceptance c ≡ Accepted → walked m c ≡ answers_of m c
+  pub same_answers : ordered_acceptance c ≡ Ok tt → walked m c ≡ answers_of m c
   unfolding answers_of
   same_answers p = in_order-best_first (lawful m) (own_at c) (well_formed c ((ordered_accepted c).0 p).0) (table_in_order c p)
 
-  pub same_entries : ordered_acceptance c ≡ Accepted → walked_entries m c ≡ entries_of m c
+  pub same_entries : ordered_acceptance c ≡ Ok tt → walked_entries m c ≡ entries_of m c
   unfolding entries_of
   same_entries p = let e = same_answers p in λ i. record { labels = e i; pieces = piece_column (hypergraph c) (labels (e i)) c.vertices }
 
   module _ (a : Entries) where
-    pub ordered_refused_left : (r : Refusal) → ordered_lent_acceptance c a ≡ Refused r → record { result = Refused r; left = a } ≡ settled_in_order m c a
+    pub ordered_refused_left : (r : Refusal) → ordered_lent_acceptance c a ≡ Err r → record { result = Err r; left = a } ≡ settled_in_order m c a
     unfolding settled_in_order
     ordered_refused_left r p = rw p
 
-    pub ordered_all : (b : Entries) → ordered_lent_acceptance c a ≡ Accepted → b ≡ walked_entries m c → record { result = Accepted; left = b } ≡ settled_in_order m c a
+    pub ordered_all : (b : Entries) → ordered_lent_acceptance c a ≡ Ok tt → b ≡ walked_entries m c → record { result = Ok tt; left = b } ≡ settled_in_order m c a
     unfolding settled_in_order
     ordered_all b p q = rw (p, q)
 
     -- "Over every table within the rule, and all measures together, … both ways of settling leave the same columns": and have the same result, 7 too
-    pub same_columns : ordered_acceptance c ≡ Accepted → settled_in_order m c a ≡ settled m c a
+    pub same_columns : ordered_acceptance c ≡ Ok tt → settled_in_order m c a ≡ settled m c a
     unfolding settled_in_order settled
     same_columns p = rw (lent_same c a p, same_entries p)
 
-    result_accepted : (settled_in_order m c a).result ≡ Accepted → ordered_lent_acceptance c a ≡ Accepted
+    result_accepted : (settled_in_order m c a).result ≡ Ok tt → ordered_lent_acceptance c a ≡ Ok tt
     unfolding settled_in_order
     result_accepted p = told (ordered_lent_acceptance c a) p
       where
-        told : (x : Acceptance) → (outcome x (walked_entries m c) a).result ≡ Accepted → x ≡ Accepted
-        told Accepted q = refl
-        told (Refused s) q = absurd (refused q)
+        told : (x : Acceptance) → (outcome x (walked_entries m c) a).result ≡ Ok tt → x ≡ Ok tt
+        told (Ok _) q = refl
+        told (Err s) q = absurd (refused q)
 
     -- the answers have their meaning
-    pub ordered_demand_2 : (settled_in_order m c a).result ≡ Accepted → (v : ℕ) → Demand2 m c (settled_in_order m c a).left v
+    pub ordered_demand_2 : (settled_in_order m c a).result ≡ Ok tt → (v : ℕ) → Demand2 m c (settled_in_order m c a).left v
     ordered_demand_2 p v =
         let s = same_columns (lent_accepted c a (result_accepted p)).0 in
         subst (λ (o : Outcome Acceptance Entries). Demand2 m c o.left v) (sym s) (demand_2 m c a (sym (ap (λ (o : Outcome Acceptance Entries). o.result) s) ∙ p) v)
@@ -104,7 +104,7 @@ module _ (m : Measure) (c : Columns) (a : Entries) (h : AcceptedColumns c a) {b 
   told_walked : b ≡ walked m c
   told_walked = subst (λ (n : ℕ). b ≡ walked m (same_table c n)) h.sized.labels.depths e
 
-  module _ (p : ordered_acceptance c ≡ Accepted) where
+  module _ (p : ordered_acceptance c ≡ Ok tt) where
     right : b ≡ answers_of m c
     right = told_walked ∙ same_answers m c p
 

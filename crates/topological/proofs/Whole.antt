@@ -9,10 +9,8 @@ use lib.ListN.{length, set, replicate, length-replicate, get_or-replicate}
 use lib.Seq.{get_or-set_same, get_or-set_other}
 use Rattle.weights.specs.declared.Label.{Label}
 use Rattle.weights.specs.declared.Measure.{Measure}
-use Rattle.weights.specs.declared.Offer.{Offer}
 use Rattle.weights.specs.Measures.{algebra}
 use Rattle.weights.proofs.Laws.{lawful}
-use Rattle.refusal.specs.declared.Acceptance.TheVariants.{Accepted}
 use Rattle.columns.specs.Columns.{Answers, Sized, Columns, answers, own_at, cell}
 use Rattle.columns.specs.Acceptance.{most_vertices, most_edges, acceptance}
 use Rattle.columns.specs.Lent.{Usable}
@@ -28,6 +26,8 @@ use Rattle.queue.specs.Keys.{heavy}
 use Rattle.tables.specs.Table.{hypergraph}
 use Rattle.topological.specs.Walking.{end, Linked, Linkable, Visitable, Storable, put_at, Walkable}
 use Rattle.topological.proofs.Passing.{weigh_below}
+use Rattle.weights.specs.Offers.{Offer}
+use Rattle.std.specs.Prelude.{Ok}
 
 module _ (m : Measure) (c : Columns) where
   abbrev H : Hypergraph
@@ -41,7 +41,7 @@ module _ (m : Measure) (c : Columns) where
   abbrev offer_of : Answers → ℕ → Offer
   offer_of a v = first (algebra m) H (own_at c) (weight_in (labels a)) (depth_in (labels a)) v H.edges
 
-  module _ (p : acceptance c ≡ Accepted) where
+  module _ (p : acceptance c ≡ Ok tt) where
     -- columns of n places in which no depth is above k, and whose weights can be summed
     record Labelled (k : ℕ) (a : Answers) : Type 0 where
       size : Sized c.vertices a
@@ -144,7 +144,7 @@ module _ {c : Columns} {a : Answers} (h : AcceptedLabels c a) where
 
     pub walkable : {fs ns : List ℕ} → Linked c.heads c.strikes fs ns 0 → Walkable (same_table c (length ds)) (answers ws ds es) fs ns
     walkable l = record {
-      accepted = subst (λ (n : ℕ). acceptance (same_table c n) ≡ Accepted) (sym depths_long) h.table;
+      accepted = subst (λ (n : ℕ). acceptance (same_table c n) ≡ Ok tt) (sym depths_long) h.table;
       empty = subst (λ (n : ℕ). answers ws ds es ≡ blank n) (sym depths_long) cleared;
       linked = l;
     }

@@ -1,12 +1,10 @@
 -- Tables in topological order (document 02, 2026-08): which are accepted, "24 for a line that lists its head or a higher part, after 6 in that line, with the line as
 -- place"; and the outcome of settling one by a walk up the part numbers. Assumes nothing: these are definitions.
-use Rattle.std.specs.Prelude.{List, ℕ, zero, suc, ◌+◌, length, eqb}
+use Rattle.std.specs.Prelude.{List, ℕ, zero, suc, ◌+◌, length, eqb, Ok}
 use Rattle.weights.specs.declared.Hyperedge.{Hyperedge}
 use Rattle.weights.specs.declared.Measure.{Measure}
 use Rattle.weights.specs.Measures.{algebra}
 use Rattle.refusal.specs.declared.Refusal.TheVariants.{AnswerLength, Order}
-use Rattle.refusal.specs.declared.Acceptance.{Acceptance}
-use Rattle.refusal.specs.declared.Acceptance.TheVariants.{Accepted}
 use Rattle.columns.specs.Columns.{Answers, Entries, Columns, head_at, own_at, strike_at, offset_at, length_at, part}
 use Rattle.columns.specs.Acceptance.{test, and_then, all_below, edge_acceptance, sizes_acceptance}
 use Rattle.provenance.specs.BestFirst.{labels}
@@ -15,18 +13,19 @@ use Rattle.provenance.specs.Pieces.{piece_column}
 use Rattle.tables.specs.Table.{hypergraph}
 use Rattle.columns.specs.Owed.{Outcome}
 use Rattle.settle.specs.Settling.{outcome}
+use Rattle.refusal.specs.Answers.{Acceptance}
 
 -- refusals 3, 4, 21, 5 and 6 of one line, then 24: its listed parts must be below its head, struck or not
 unfoldable pub ordered_edge : (n : ℕ) → Hyperedge → (head own mark offset size end : ℕ) → List ℕ → Acceptance
 ordered_edge n e head own mark offset size end tails =
-    and_then (edge_acceptance n e head own mark offset size end tails) (test (all_below head (part offset size tails)) (Order e) Accepted)
+    and_then (edge_acceptance n e head own mark offset size end tails) (test (all_below head (part offset size tails)) (Order e) (Ok tt))
 
 abbrev pub ordered_edge_at : Columns → (e end : ℕ) → Acceptance
 ordered_edge_at c e end = ordered_edge c.vertices (record { 0 = e }) (head_at c e) (own_at c e) (strike_at c e) (offset_at c e) (length_at c e) end c.tails
 
 -- the first refusal of the `left` lines from e on
 unfoldable pub ordered_edges_acceptance : Columns → (left e end : ℕ) → Acceptance
-ordered_edges_acceptance c zero e end = Accepted
+ordered_edges_acceptance c zero e end = Ok tt
 ordered_edges_acceptance c (suc left) e end = and_then (ordered_edge_at c e end) (ordered_edges_acceptance c left (e + 1) (offset_at c e + length_at c e))
 
 -- 1, 2, then line by line
@@ -41,7 +40,7 @@ ordered_lent_acceptance c a =
     (test (eqb (length a.labels.depths) c.vertices) AnswerLength
     (test (eqb (length a.labels.edges) c.vertices) AnswerLength
     (test (eqb (length a.pieces) c.vertices) AnswerLength
-    Accepted))))
+    (Ok tt)))))
 
 -- the answers of the walk, and with them the piece counts, which they tell (document 02, 2026-09)
 abbrev pub walked : Measure → Columns → Answers

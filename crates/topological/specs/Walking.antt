@@ -1,12 +1,9 @@
 -- The lists of the lines of each head that are not struck, and what the functions of the walk ask of their callers. Assumes nothing: these are definitions.
-use Rattle.std.specs.Prelude.{◌≡◌, false, ℕ, ◌+◌, ◌≤◌, ◌<◌, length}
+use Rattle.std.specs.Prelude.{◌≡◌, false, ℕ, ◌+◌, ◌≤◌, ◌<◌, length, Ok, Some, None}
 use mathlib.Core.List.{List, Memᴰ}
 use Rattle.weights.specs.declared.Measure.{Measure}
-use Rattle.weights.specs.declared.Offer.{Offer}
-use Rattle.weights.specs.declared.Offer.TheVariants.{Nothing, Found}
 use Rattle.weights.specs.Figures.{greatest, is_struck_mark}
 use Rattle.weights.specs.Measures.{algebra}
-use Rattle.refusal.specs.declared.Acceptance.TheVariants.{Accepted}
 use Rattle.columns.specs.Columns.{Answers, Columns, tail_of, cell}
 use Rattle.columns.specs.Acceptance.{most_vertices, most_edges, acceptance}
 use Rattle.columns.specs.Lent.{Placed, Usable}
@@ -15,6 +12,7 @@ use Rattle.provenance.specs.InOrder.{first}
 use Rattle.queue.specs.Keys.{heavy}
 use Rattle.offers.specs.Passing.{Passable}
 use Rattle.tables.specs.Table.{hypergraph}
+use Rattle.weights.specs.Offers.{Offer}
 
 -- stands for no line
 abbrev pub end : ℕ
@@ -73,12 +71,12 @@ pub record Storable (v : ℕ) (a : Answers) : Type 0 where
 
 -- v is labelled with what it is offered
 abbrev pub put_at : Answers → ℕ → Offer → Answers
-put_at a v Nothing = a
-put_at a v (Found l) = put a v l
+put_at a v None = a
+put_at a v (Some l) = put a v l
 
 -- the walk can begin
 pub record Walkable (c : Columns) (a : Answers) (first next : List ℕ) : Type 0 where
-  pub accepted : acceptance c ≡ Accepted
+  pub accepted : acceptance c ≡ Ok tt
   pub empty : a ≡ blank c.vertices
   pub linked : Linked c.heads c.strikes first next 0
 

@@ -1,16 +1,18 @@
 // Tables in topological order: every hyperedge lists only vertices below its head. Their check, and
 // their settling by one walk up the vertices, which needs no queue: when a vertex is visited, all that
 // its hyperedges list has its label.
+//
+// Kept: columns and rooms are lent, or arrays of a fixed size: the library and its programs use no heap.
 
 #![tactic(auto)]
 
-ghost use Rattle.std.specs.Prelude.{◌≡◌, true, ◌*◌, ◌<◌, min, length};
+ghost use Rattle.std.specs.Prelude.{◌≡◌, true, ◌*◌, ◌<◌, length};
 ghost use Rattle.weights.specs.Measures.{algebra};
 ghost use Rattle.provenance.specs.Labelling.{offer_of};
 ghost use Rattle.provenance.specs.InOrder.{in_order};
-ghost use Rattle.columns.specs.Columns.{columns, answers, entries, tail_of, cell};
+ghost use Rattle.columns.specs.Columns.{answers, tail_of, cell, entries};
 ghost use Rattle.columns.specs.Acceptance.{most_edges, all_below};
-ghost use Rattle.columns.specs.Lent.{lent};
+ghost use Rattle.columns.specs.Given.{columns_of, lent_of, entries_in};
 ghost use Rattle.columns.proofs.Accepted.{AcceptedLabels};
 ghost use Rattle.tables.specs.Table.{hypergraph};
 ghost use Rattle.pieces.specs.Counting.{counted, Countable};
@@ -19,24 +21,25 @@ ghost use Rattle.offers.specs.Passing.{Passable};
 ghost use Rattle.topological.specs.Ordering.{ordered_edge, ordered_edges_acceptance, ordered_acceptance, ordered_lent_acceptance, settled_in_order};
 ghost use Rattle.topological.specs.Walking.{Linkable, Linked, Weighable, visited, Visitable, Walkable, put_at, Storable, Upward};
 
+use columns::{Entries, Table};
 use offers::{deeper, joining};
-use refusal::{Acceptance, Refusal};
-use weights::{Hyperedge, Label, Mark, Measure, Offer, Vertex, Weight};
+use refusal::Refusal;
+use weights::{Hyperedge, Label, Mark, Measure, Vertex, Weight};
 
 // In place of a hyperedge, at the end of a list.
+// Kept: the definition `Least` ends a list with this number.
 const END: u16 = 65535;
 
 // Whether each vertex of a tail is below n. A tail is short, so it is left at the first that is not: a
 // loop that goes to the end, as `columns::all_below`, is unrolled, which takes longer here.
+// Kept: with `all` in its place, settling a table whose lines list nothing takes 5 % more instructions.
 fn tail_below(n: u64, tail: &[u64]) -> bool
     ensures { result ≡ all_below n tail.now }
 {
-    let mut k = 0;
-    while k < tail.len() {
-        if tail[k] >= n {
+    for v in tail {
+        if *v >= n {
             return false;
         }
-        k += 1;
     }
     true
 }
@@ -53,48 +56,44 @@ fn check_line(
     size: u64,
     end: u64,
     tails: &[u64],
-) -> Acceptance
+) -> Result<(), Refusal>
     ensures { result ≡ ordered_edge n e head.0 own.0 mark.0 offset size end tails.now }
 {
     let h = head.0;
-    let a = columns::check_fields(n, e, head, own, mark, offset, size, end, tails);
-    match a {
-        Acceptance::Refused(r) => return Acceptance::Refused(r),
-        Acceptance::Accepted => {}
-    }
+    columns::check_fields(n, e, head, own, mark, offset, size, end, tails)?;
     let from = offset as usize;
     let to = from + size as usize;
     if tail_below(h, &tails[from..to]) {
-        return Acceptance::Accepted;
+        return Ok(());
     }
     if tail_below(n, &tails[from..to]) {
-        return Acceptance::Refused(Refusal::Order(e));
+        return Err(Refusal::Order(e));
     }
-    Acceptance::Refused(Refusal::Tail(e))
+    Err(Refusal::Tail(e))
 }
 
 // Whether every hyperedge is accepted and in order, or the first refusal.
-fn check_lines(
-    n: u64,
-    heads: &[u64],
-    own: &[u64],
-    strikes: &[u64],
-    spans: &[u64],
-    tails: &[u64],
-) -> Acceptance
-    requires { (length own.now ≡ length heads.now) × (length strikes.now ≡ length heads.now) × (length spans.now ≡ 2 * length heads.now) }
-    ensures { let c = columns n heads.now own.now strikes.now spans.now tails.now in
-        result ≡ ordered_edges_acceptance c (length heads.now) 0 0 }
+fn check_lines(table: &Table) -> Result<(), Refusal>
+    requires { (length table.now.own.now ≡ length table.now.heads.now) × (length table.now.strikes.now ≡ length table.now.heads.now) × (length table.now.spans.now ≡ 2 * length table.now.heads.now) }
+    ensures { let c = columns_of table.now in
+        result ≡ ordered_edges_acceptance c (length table.now.heads.now) 0 0 }
 {
+    let Table {
+        vertices: n,
+        heads,
+        own,
+        strikes,
+        spans,
+        tails,
+    } = *table;
     let mut end: u64 = 0;
-    let mut i = 0;
-    while i < heads.len() {
+    for i in 0..heads.len() {
         let head = Vertex(heads[i]);
         let weight = Weight(own[i]);
         let mark = Mark(strikes[i]);
         let offset = spans[2 * i];
         let size = spans[2 * i + 1];
-        let a = check_line(
+        check_line(
             n,
             Hyperedge(i as u64),
             head,
@@ -104,71 +103,47 @@ fn check_lines(
             size,
             end,
             tails,
-        );
-        match a {
-            Acceptance::Refused(r) => return Acceptance::Refused(r),
-            Acceptance::Accepted => {}
-        }
+        )?;
         end = offset + size;
-        i += 1;
     }
-    Acceptance::Accepted
+    Ok(())
 }
 
 // Whether the table of n vertices is accepted and in order, or the first refusal.
-pub fn check_order(
-    n: u64,
-    heads: &[u64],
-    own: &[u64],
-    strikes: &[u64],
-    spans: &[u64],
-    tails: &[u64],
-) -> Acceptance
-    ensures { result ≡ ordered_acceptance (columns n heads.now own.now strikes.now spans.now tails.now) }
+pub fn check_order(table: &Table) -> Result<(), Refusal>
+    ensures { result ≡ ordered_acceptance (columns_of table.now) }
 {
-    let a = columns::check_sizes(n, heads, own, strikes, spans, tails);
-    match a {
-        Acceptance::Refused(r) => return Acceptance::Refused(r),
-        Acceptance::Accepted => {}
-    }
-    check_lines(n, heads, own, strikes, spans, tails)
+    columns::check_sizes(table)?;
+    check_lines(table)
 }
 
 // The same with four answer columns, each of which must be n long.
-fn check_lent(
-    n: u64,
-    heads: &[u64],
-    own: &[u64],
-    strikes: &[u64],
-    spans: &[u64],
-    tails: &[u64],
-    weights: &[u64],
-    depths: &[u64],
-    edges: &[u64],
-    pieces: &[u64],
-) -> Acceptance
-    ensures { let c = columns n heads.now own.now strikes.now spans.now tails.now in
-        let a = entries weights.now depths.now edges.now pieces.now in
+fn check_lent(table: &Table, entries: &Entries) -> Result<(), Refusal>
+    ensures { let c = columns_of table.now in
+        let a = entries_in entries.now in
         result ≡ ordered_lent_acceptance c a }
 {
-    let a = check_order(n, heads, own, strikes, spans, tails);
-    match a {
-        Acceptance::Refused(r) => return Acceptance::Refused(r),
-        Acceptance::Accepted => {}
-    }
+    let Entries {
+        weights,
+        depths,
+        edges,
+        pieces,
+    } = *entries;
+    let Table { vertices: n, .. } = *table;
+    check_order(table)?;
     if weights.len() as u64 != n {
-        return Acceptance::Refused(Refusal::AnswerLength);
+        return Err(Refusal::AnswerLength);
     }
     if depths.len() as u64 != n {
-        return Acceptance::Refused(Refusal::AnswerLength);
+        return Err(Refusal::AnswerLength);
     }
     if edges.len() as u64 != n {
-        return Acceptance::Refused(Refusal::AnswerLength);
+        return Err(Refusal::AnswerLength);
     }
     if pieces.len() as u64 != n {
-        return Acceptance::Refused(Refusal::AnswerLength);
+        return Err(Refusal::AnswerLength);
     }
-    Acceptance::Accepted
+    Ok(())
 }
 
 // The hyperedges of each head that are not struck are linked, from the last one down, so that a list
@@ -177,9 +152,7 @@ fn link(heads: &[u64], strikes: &[u64], first: &mut [u16], next: &mut [u16])
     requires { Linkable heads.now strikes.now first.old next.old }
     ensures { Linked heads.now strikes.now first.new next.new 0 }
 {
-    let mut i = heads.len();
-    while i > 0 {
-        let e = i - 1;
+    for e in (0..heads.len()).rev() {
         let mark = strikes[e];
         let struck = Mark(mark).is_struck();
         if !struck {
@@ -188,18 +161,7 @@ fn link(heads: &[u64], strikes: &[u64], first: &mut [u16], next: &mut [u16])
             next[e] = later;
             first[h] = e as u16;
         }
-        i = e;
     }
-}
-
-// The lesser of two keys.
-fn lesser(a: u64, b: u64) -> u64
-    ensures { result ≡ min a b }
-{
-    if b < a {
-        return b;
-    }
-    a
 }
 
 // The key of what hyperedge e of this own weight and tail gives from the labels in the columns; none
@@ -221,9 +183,8 @@ fn candidate(
     let unit = Weight::unit(measure);
     let mut joined = unit.0;
     let mut deepest: u64 = 0;
-    let mut i = 0;
-    while i < tail.len() {
-        let v = tail[i] as usize;
+    for listed in tail {
+        let v = *listed as usize;
         let depth = depths[v];
         if depth == 0 {
             return minima::NONE;
@@ -231,7 +192,6 @@ fn candidate(
         let weight = weights[v];
         joined = joining(measure, joined, weight);
         deepest = deeper(deepest, depth);
-        i += 1;
     }
     let weight = own.finish(measure, Weight(joined));
     let depth = deepest + 1;
@@ -278,46 +238,49 @@ fn key_in_order(
 fn visit(
     measure: Measure,
     v: Vertex,
-    heads: &[u64],
-    own: &[u64],
-    strikes: &[u64],
-    spans: &[u64],
-    tails: &[u64],
+    table: &Table,
     weights: &[u64],
     depths: &[u64],
     first: &[u16],
     next: &[u16],
-) -> Offer
-    requires { let c = lent heads.now own.now strikes.now spans.now tails.now depths.now in
+) -> Option<Label>
+    requires { let c = lent_of table.now depths.now in
         Visitable c weights.now depths.now first.now next.now v.0 }
-    ensures { let c = lent heads.now own.now strikes.now spans.now tails.now depths.now in
+    ensures { let c = lent_of table.now depths.now in
         result ≡ visited measure c weights.now depths.now v.0 }
 {
+    let Table {
+        own,
+        spans,
+        tails,
+        ..
+    } = *table;
     let mut best = minima::NONE;
     let mut l = first[v.0 as usize];
+    // Kept: the loop follows a list and counts no index.
     while l != END {
         let number = l as u64;
         let e = Hyperedge(number);
         let later = next[l as usize];
         let key = key_in_order(measure, e, own, spans, tails, weights, depths);
-        best = lesser(best, key);
+        best = best.min(key);
         l = later;
     }
     if best == minima::NONE {
-        return Offer::Nothing;
+        return None;
     }
     let x = queue::unpack(measure, best);
-    Offer::Found(x)
+    Some(x)
 }
 
 // Vertex v gets what is offered to it.
-fn store(v: Vertex, o: Offer, weights: &mut [u64], depths: &mut [u64], edges: &mut [u64])
+fn store(v: Vertex, o: Option<Label>, weights: &mut [u64], depths: &mut [u64], edges: &mut [u64])
     requires { Storable v.0 (answers weights.old depths.old edges.old) }
     ensures { let a = answers weights.old depths.old edges.old in
         let a' = answers weights.new depths.new edges.new in
         a' ≡ put_at a v.0 o }
 {
-    let Offer::Found(x) = o else {
+    let Some(x) = o else {
         return;
     };
     let i = v.0 as usize;
@@ -331,72 +294,49 @@ fn store(v: Vertex, o: Offer, weights: &mut [u64], depths: &mut [u64], edges: &m
 // The walk up the vertices, which are all unmade at first.
 fn walk(
     measure: Measure,
-    heads: &[u64],
-    own: &[u64],
-    strikes: &[u64],
-    spans: &[u64],
-    tails: &[u64],
+    table: &Table,
     weights: &mut [u64],
     depths: &mut [u64],
     edges: &mut [u64],
     first: &[u16],
     next: &[u16],
 )
-    requires { let c = lent heads.now own.now strikes.now spans.now tails.now depths.old in
+    requires { let c = lent_of table.now depths.old in
         Walkable c (answers weights.old depths.old edges.old) first.now next.now }
-    ensures { let c = lent heads.now own.now strikes.now spans.now tails.now depths.old in
+    ensures { let c = lent_of table.now depths.old in
         let a' = answers weights.new depths.new edges.new in
-        a' ≡ in_order (algebra measure) (hypergraph c) (cell own.now) }
+        a' ≡ in_order (algebra measure) (hypergraph c) (cell table.now.own.now) }
 {
-    let mut i = 0;
-    while i < depths.len() {
+    for i in 0..depths.len() {
         let v = i as u64;
-        let o = visit(
-            measure,
-            Vertex(v),
-            heads,
-            own,
-            strikes,
-            spans,
-            tails,
-            weights,
-            depths,
-            first,
-            next,
-        );
+        let o = visit(measure, Vertex(v), table, weights, depths, first, next);
         store(Vertex(v), o, weights, depths, edges);
-        i += 1;
     }
 }
 
 // The labels of an accepted table go into the three answer columns, whatever they held.
 fn label(
     measure: Measure,
-    heads: &[u64],
-    own: &[u64],
-    strikes: &[u64],
-    spans: &[u64],
-    tails: &[u64],
+    table: &Table,
     weights: &mut [u64],
     depths: &mut [u64],
     edges: &mut [u64],
 )
-    requires { let c = lent heads.now own.now strikes.now spans.now tails.now depths.old in
+    requires { let c = lent_of table.now depths.old in
         let a = answers weights.old depths.old edges.old in
         AcceptedLabels c a }
-    ensures { let c = lent heads.now own.now strikes.now spans.now tails.now depths.old in
+    ensures { let c = lent_of table.now depths.old in
         let a' = answers weights.new depths.new edges.new in
-        a' ≡ in_order (algebra measure) (hypergraph c) (cell own.now) }
+        a' ≡ in_order (algebra measure) (hypergraph c) (cell table.now.own.now) }
 {
+    let Table { heads, strikes, .. } = *table;
     let mut first = [65535u16; 1024];
     let mut next = [0u16; 4096];
     link(heads, strikes, &mut first, &mut next);
     columns::set_all(weights, 0);
     columns::set_all(depths, 0);
     columns::set_all(edges, 0);
-    walk(
-        measure, heads, own, strikes, spans, tails, weights, depths, edges, &first, &next,
-    );
+    walk(measure, table, weights, depths, edges, &first, &next);
 }
 
 // Leaves the piece counts in `pieces`, whatever it held. What a part's line lists is below it, so the
@@ -406,12 +346,10 @@ fn count_upward(spans: &[u64], tails: &[u64], depths: &[u64], edges: &[u64], pie
     ensures { pieces.new ≡ counted spans.now tails.now depths.now edges.now }
 {
     columns::set_all(pieces, 0);
-    let mut i = 0;
-    while i < depths.len() {
+    for i in 0..depths.len() {
         let v = Vertex(i as u64);
         let count = pieces::count_vertex(v, spans, tails, depths, edges, pieces);
         pieces[i] = count;
-        i += 1;
     }
 }
 
@@ -419,32 +357,28 @@ fn count_upward(spans: &[u64], tails: &[u64], depths: &[u64], edges: &[u64], pie
 // they are.
 pub fn settle_ordered(
     measure: Measure,
-    n: u64,
-    heads: &[u64],
-    own: &[u64],
-    strikes: &[u64],
-    spans: &[u64],
-    tails: &[u64],
+    table: &Table,
     weights: &mut [u64],
     depths: &mut [u64],
     edges: &mut [u64],
     pieces: &mut [u64],
-) -> Acceptance
-    ensures { let c = columns n heads.now own.now strikes.now spans.now tails.now in
+) -> Result<(), Refusal>
+    ensures { let c = columns_of table.now in
         let a = entries weights.old depths.old edges.old pieces.old in
         let a' = entries weights.new depths.new edges.new pieces.new in
         record { result = result; left = a' } ≡ settled_in_order measure c a }
 {
-    let a = check_lent(
-        n, heads, own, strikes, spans, tails, weights, depths, edges, pieces,
-    );
-    match a {
-        Acceptance::Refused(r) => return Acceptance::Refused(r),
-        Acceptance::Accepted => {}
-    }
-    label(
-        measure, heads, own, strikes, spans, tails, weights, depths, edges,
-    );
+    let Table { spans, tails, .. } = *table;
+    check_lent(
+        table,
+        &Entries {
+            weights,
+            depths,
+            edges,
+            pieces,
+        },
+    )?;
+    label(measure, table, weights, depths, edges);
     count_upward(spans, tails, depths, edges, pieces);
-    Acceptance::Accepted
+    Ok(())
 }

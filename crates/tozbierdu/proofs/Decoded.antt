@@ -6,17 +6,6 @@ use Prim.Native.Nat.{ℕ, ◌≤◌}
 use Rattle.weights.specs.declared.Measure.{Measure}
 use Rattle.refusal.specs.declared.Refusal.{Refusal}
 use Rattle.refusal.specs.declared.Counts.{Counts}
-use Rattle.refusal.specs.declared.Acceptance.{Acceptance}
-use Rattle.refusal.specs.declared.Acceptance.TheVariants as answer
-use Rattle.refusal.specs.declared.Verdict.{Verdict}
-use Rattle.refusal.specs.declared.Verdict.TheVariants as verdict
-use Rattle.refusal.specs.declared.Extent.{Extent}
-use Rattle.refusal.specs.declared.Reading.{Reading}
-use Rattle.refusal.specs.declared.Reading.TheVariants as reading
-use Rattle.refusal.specs.declared.Appending.{Appending}
-use Rattle.refusal.specs.declared.Appending.TheVariants as appending
-use Rattle.refusal.specs.declared.MeasureChoice.{MeasureChoice}
-use Rattle.refusal.specs.declared.MeasureChoice.TheVariants as choice
 use Rattle.refusal.specs.Refusals.{code_of, last_place, result_of, acceptance_result, verdict_result, extent_result, reading_result, measure_of}
 use Rattle.columns.specs.Columns.{Entries, Columns}
 use Rattle.columns.specs.Acceptance.{acceptance}
@@ -29,8 +18,6 @@ use Rattle.append.specs.Appending.{appended}
 use Rattle.inventory.specs.Replaying.{replayed}
 use Rattle.readtable.specs.Read.{read_table}
 use Rattle.writetable.specs.Write.{write_table}
-use Rattle.statistics.specs.declared.Summary.{Summary}
-use Rattle.statistics.specs.declared.Summary.TheVariants as summary
 use Rattle.statistics.specs.Summaries.{summary_number, summary_of}
 use Rattle.shuffle.specs.Shuffled.{shuffle_outcome, unshuffle_outcome}
 use Rattle.counter.specs.Decoded.{Decoded, extent_of, measured}
@@ -68,6 +55,9 @@ use Rattle.tozbierdu.proofs.Places.{
   shuffle_reach,
   unshuffle_reach,
 }
+use Rattle.refusal.specs.Answers.{Acceptance, Verdict, Extent, Reading, Appending, MeasureChoice}
+use Rattle.statistics.specs.Samples.{Summary}
+use Rattle.std.specs.Prelude.{Ok, Err, true, false}
 
 -- The law --------------------------------------------------------------------------------------------------------------------------------------------
 
@@ -76,35 +66,35 @@ told : {x : Extent} {n : ℕ} → n ≡ extent_result x → reach x ≤ last_pla
 told {x} e h = subst (Decoded x) (sym e) (decoded x h)
 
 -- behind a measure's number
-measured_told : (k : ℕ) (f : Measure → Extent) (g : MeasureChoice → ℕ) → ((r : Refusal) → g (choice.Refused r) ≡ result_of (code_of r))
-    → ((m : Measure) → g (choice.Measure m) ≡ extent_result (f m)) → ((m : Measure) → reach (f m) ≤ last_place) → Decoded (measured (measure_of k) f) (g (measure_of k))
+measured_told : (k : ℕ) (f : Measure → Extent) (g : MeasureChoice → ℕ) → ((r : Refusal) → g (Err r) ≡ result_of (code_of r))
+    → ((m : Measure) → g (Ok m) ≡ extent_result (f m)) → ((m : Measure) → reach (f m) ≤ last_place) → Decoded (measured (measure_of k) f) (g (measure_of k))
 measured_told k f g p q h = go (measure_of k) refl
   where
     go : (o : MeasureChoice) → measure_of k ≡ o → Decoded (measured o f) (g o)
-    go (choice.Refused r) e = told (p r) (measure_place k e)
-    go (choice.Measure m) e = told (q m) (h m)
+    go (Err r) e = told (p r) (measure_place k e)
+    go (Ok m) e = told (q m) (h m)
 
 -- every answer's number is that of a length or a refusal
 acceptance_number : (x : Acceptance) → acceptance_result x ≡ extent_result (extent_of x)
-acceptance_number answer.Accepted = refl
-acceptance_number (answer.Refused r) = refl
+acceptance_number (Ok _) = refl
+acceptance_number (Err r) = refl
 
 verdict_number : (x : Verdict) → verdict_result x ≡ extent_result (verdict_extent x)
-verdict_number verdict.Yes = refl
-verdict_number verdict.No = refl
-verdict_number (verdict.Refused r) = refl
+verdict_number (Ok true) = refl
+verdict_number (Ok false) = refl
+verdict_number (Err r) = refl
 
 reading_number : (x : Reading) → reading_result x ≡ extent_result (reading_extent x)
-reading_number (reading.Table h) = refl
-reading_number (reading.Refused r) = refl
+reading_number (Ok h) = refl
+reading_number (Err r) = refl
 
 appending_number : (x : Appending) → appending_result x ≡ extent_result (appending_extent x)
-appending_number (appending.Counts k) = refl
-appending_number (appending.Refused r) = refl
+appending_number (Ok k) = refl
+appending_number (Err r) = refl
 
 summary_number_lem : (x : Summary) → summary_number x ≡ extent_result (summary_extent x)
-summary_number_lem (summary.Moments m) = refl
-summary_number_lem (summary.Refused r) = refl
+summary_number_lem (Ok m) = refl
+summary_number_lem (Err r) = refl
 
 -- The calls ------------------------------------------------------------------------------------------------------------------------------------------
 

@@ -9,20 +9,9 @@ use Rattle.weights.specs.declared.Measure.{Measure}
 use Rattle.weights.specs.declared.Entry.{Entry}
 use Rattle.refusal.specs.declared.Refusal.{Refusal}
 use Rattle.refusal.specs.declared.Counts.{Counts}
-use Rattle.refusal.specs.declared.Appending.{Appending}
-use Rattle.refusal.specs.declared.Appending.TheVariants as appending
 use Rattle.refusal.specs.declared.Header.{Header}
-use Rattle.refusal.specs.declared.Reading.{Reading}
-use Rattle.refusal.specs.declared.Reading.TheVariants as reading
-use Rattle.refusal.specs.declared.Acceptance.{Acceptance}
-use Rattle.refusal.specs.declared.Verdict.{Verdict}
-use Rattle.refusal.specs.declared.Extent.{Extent}
-use Rattle.refusal.specs.declared.MeasureChoice.{MeasureChoice}
-use Rattle.refusal.specs.declared.MeasureChoice.TheVariants as choice
 use Rattle.refusal.specs.Refusals.{code_of, column_of, result_of, acceptance_result, verdict_result, extent_result}
 use Rattle.statistics.specs.declared.Moments.{Moments}
-use Rattle.statistics.specs.declared.Summary.{Summary}
-use Rattle.statistics.specs.declared.Summary.TheVariants as summary
 use Rattle.columns.specs.Columns.{Entries, Columns}
 use Rattle.settle.specs.Checking.{checked}
 use Rattle.reprice.specs.Repricing.{stricken, restored}
@@ -59,27 +48,30 @@ use Rattle.tozbierdu.specs.Results.{
   replayed_result,
   laid_result,
 }
+use Rattle.refusal.specs.Answers.{Appending, Reading, Acceptance, Verdict, Extent, MeasureChoice}
+use Rattle.statistics.specs.Samples.{Summary}
+use Rattle.std.specs.Prelude.{Ok, Err}
 
 module _ {o : MeasureChoice} (c : Columns) (a : Entries) {n : ℕ} where
-  pub checked_refused : {r : Refusal} → o ≡ choice.Refused r → n ≡ result_of (code_of r) → n ≡ checked_result o c a
+  pub checked_refused : {r : Refusal} → o ≡ Err r → n ≡ result_of (code_of r) → n ≡ checked_result o c a
   checked_refused p q = rw (p, q)
 
-  pub checked_measure : {m : Measure} {v : Verdict} → o ≡ choice.Measure m → n ≡ verdict_result v → v ≡ checked m c a → n ≡ checked_result o c a
+  pub checked_measure : {m : Measure} {v : Verdict} → o ≡ Ok m → n ≡ verdict_result v → v ≡ checked m c a → n ≡ checked_result o c a
   checked_measure p q e = rw (p, q) (ap verdict_result e)
 
   -- the same of a change of line e
   module _ (e : ℕ) where
-    pub stricken_refused : {r : Refusal} → o ≡ choice.Refused r → n ≡ result_of (code_of r) → record { result = n; strikes = c.strikes; left = a } ≡ stricken_result o c a e
+    pub stricken_refused : {r : Refusal} → o ≡ Err r → n ≡ result_of (code_of r) → record { result = n; strikes = c.strikes; left = a } ≡ stricken_result o c a e
     stricken_refused p q = rw (p, q)
 
-    pub stricken_measure : {m : Measure} {x : Acceptance} {ks : List ℕ} {b : Entries} → o ≡ choice.Measure m → n ≡ acceptance_result x
+    pub stricken_measure : {m : Measure} {x : Acceptance} {ks : List ℕ} {b : Entries} → o ≡ Ok m → n ≡ acceptance_result x
         → record { result = x; strikes = ks; left = b } ≡ stricken m c a e → record { result = n; strikes = ks; left = b } ≡ stricken_result o c a e
     stricken_measure p q k = rw (p, q) (ap mark_result k)
 
-    pub restored_refused : {r : Refusal} → o ≡ choice.Refused r → n ≡ result_of (code_of r) → record { result = n; strikes = c.strikes; left = a } ≡ restored_result o c a e
+    pub restored_refused : {r : Refusal} → o ≡ Err r → n ≡ result_of (code_of r) → record { result = n; strikes = c.strikes; left = a } ≡ restored_result o c a e
     restored_refused p q = rw (p, q)
 
-    pub restored_measure : {m : Measure} {x : Acceptance} {ks : List ℕ} {b : Entries} → o ≡ choice.Measure m → n ≡ acceptance_result x
+    pub restored_measure : {m : Measure} {x : Acceptance} {ks : List ℕ} {b : Entries} → o ≡ Ok m → n ≡ acceptance_result x
         → record { result = x; strikes = ks; left = b } ≡ restored m c a e → record { result = n; strikes = ks; left = b } ≡ restored_result o c a e
     restored_measure p q k = rw (p, q) (ap mark_result k)
 
@@ -107,25 +99,25 @@ module _ (h : Header) (room : List ℕ) where
 
 -- reading, by its answer
 module _ {x : ReadOutcome} (room : List ℕ) {h o m s t : List ℕ} {a : Reading} (e : read_outcome a h o m s t ≡ x) where
-  pub read_refused : {r : Refusal} {n : ℕ} → a ≡ reading.Refused r → n ≡ result_of (code_of r) → read_left n h o m s t room ≡ read_result x room
+  pub read_refused : {r : Refusal} {n : ℕ} → a ≡ Err r → n ≡ result_of (code_of r) → read_left n h o m s t room ≡ read_result x room
   read_refused p q = rw (← e, p, q)
 
-  pub read_table : {u : Header} {room' : List ℕ} → a ≡ reading.Table u → room' ≡ header_written u room → read_left 0 h o m s t room' ≡ read_result x room
+  pub read_table : {u : Header} {room' : List ℕ} → a ≡ Ok u → room' ≡ header_written u room → read_left 0 h o m s t room' ≡ read_result x room
   read_table p q = rw (← e, p, q)
 
 -- the column of a text, by what checking it answers
 module _ {a b : Reading} (e : a ≡ b) where
-  pub text_refused : {r : Refusal} {n : ℕ} → a ≡ reading.Refused r → n ≡ column_of r → n ≡ text_column b
+  pub text_refused : {r : Refusal} {n : ℕ} → a ≡ Err r → n ≡ column_of r → n ≡ text_column b
   text_refused p q = q ∙ ap text_column (sym p ∙ e)
 
-  pub text_table : {h : Header} → a ≡ reading.Table h → 0 ≡ text_column b
+  pub text_table : {h : Header} → a ≡ Ok h → 0 ≡ text_column b
   text_table p = ap text_column (sym p ∙ e)
 
 module _ {o : MeasureChoice} (c : Columns) (room : List ℕ) {n : ℕ} where
-  pub write_refused : {r : Refusal} → o ≡ choice.Refused r → n ≡ result_of (code_of r) → record { result = n; left = room } ≡ written_result o c room
+  pub write_refused : {r : Refusal} → o ≡ Err r → n ≡ result_of (code_of r) → record { result = n; left = room } ≡ written_result o c room
   write_refused p q = rw (p, q)
 
-  pub write_measure : {m : Measure} {x : Extent} {room' : List ℕ} → o ≡ choice.Measure m → n ≡ extent_result x → record { answer = x; room = room' } ≡ write_table m c room
+  pub write_measure : {m : Measure} {x : Extent} {room' : List ℕ} → o ≡ Ok m → n ≡ extent_result x → record { answer = x; room = room' } ≡ write_table m c room
       → record { result = n; left = room' } ≡ written_result o c room
   write_measure p q e = rw (p, q) (ap write_result e)
 
@@ -150,14 +142,14 @@ module _ (k : Counts) (room : List ℕ) where
 
 -- appending, by the measure's number and then by its answer
 module _ {o : MeasureChoice} (c : Columns) (k : Counts) (a : Entries) (index list : List ℕ) (l : NewLine) (room : List ℕ) where
-  pub append_measure : {r : Refusal} {n : ℕ} → o ≡ choice.Refused r → n ≡ result_of (code_of r) → left_grown n c a index list room ≡ appended_result o c k a index list l room
+  pub append_measure : {r : Refusal} {n : ℕ} → o ≡ Err r → n ≡ result_of (code_of r) → left_grown n c a index list room ≡ appended_result o c k a index list l room
   append_measure p q = rw (p, q)
 
-  module _ {m : Measure} (p : o ≡ choice.Measure m) {x : Appending} {c' : Columns} {a' : Entries} {i' l' : List ℕ} (e : leaves x c' a' i' l' ≡ appended m c k a index list l) where
-    pub append_refused : {r : Refusal} {n : ℕ} → x ≡ appending.Refused r → n ≡ result_of (code_of r) → left_grown n c' a' i' l' room ≡ appended_result o c k a index list l room
+  module _ {m : Measure} (p : o ≡ Ok m) {x : Appending} {c' : Columns} {a' : Entries} {i' l' : List ℕ} (e : leaves x c' a' i' l' ≡ appended m c k a index list l) where
+    pub append_refused : {r : Refusal} {n : ℕ} → x ≡ Err r → n ≡ result_of (code_of r) → left_grown n c' a' i' l' room ≡ appended_result o c k a index list l room
     append_refused q s = rw (p, ← e, q, s)
 
-    pub append_counts : {k' : Counts} {room' : List ℕ} → x ≡ appending.Counts k' → room' ≡ counts_written k' room → left_grown 0 c' a' i' l' room' ≡ appended_result o c k a index list l room
+    pub append_counts : {k' : Counts} {room' : List ℕ} → x ≡ Ok k' → room' ≡ counts_written k' room → left_grown 0 c' a' i' l' room' ≡ appended_result o c k a index list l room
     append_counts q s = rw (p, ← e, q, s)
 
 -- the mean and the variance
@@ -171,27 +163,27 @@ module _ (m : Moments) (room : List ℕ) where
 
 -- summarizing, by its answer
 module _ {x s : Summary} (room : List ℕ) (e : s ≡ x) where
-  pub summary_refused : {r : Refusal} {n : ℕ} → s ≡ summary.Refused r → n ≡ result_of (code_of r) → record { result = n; left = room } ≡ summary_left x room
+  pub summary_refused : {r : Refusal} {n : ℕ} → s ≡ Err r → n ≡ result_of (code_of r) → record { result = n; left = room } ≡ summary_left x room
   summary_refused p q = rw (← e, p, q)
 
-  pub summary_moments : {m : Moments} {room' : List ℕ} → s ≡ summary.Moments m → room' ≡ moments_written m room → record { result = 0; left = room' } ≡ summary_left x room
+  pub summary_moments : {m : Moments} {room' : List ℕ} → s ≡ Ok m → room' ≡ moments_written m room → record { result = 0; left = room' } ≡ summary_left x room
   summary_moments p q = rw (← e, p, q)
 
 module _ {o : MeasureChoice} (c : Columns) (a : Entries) {n : ℕ} where
-  pub ordered_refused : {r : Refusal} → o ≡ choice.Refused r → n ≡ result_of (code_of r) → record { result = n; left = a } ≡ ordered_result o c a
+  pub ordered_refused : {r : Refusal} → o ≡ Err r → n ≡ result_of (code_of r) → record { result = n; left = a } ≡ ordered_result o c a
   ordered_refused p q = rw (p, q)
 
-  pub ordered_measure : {m : Measure} {x : Acceptance} {b : Entries} → o ≡ choice.Measure m → n ≡ acceptance_result x → record { result = x; left = b } ≡ settled_in_order m c a
+  pub ordered_measure : {m : Measure} {x : Acceptance} {b : Entries} → o ≡ Ok m → n ≡ acceptance_result x → record { result = x; left = b } ≡ settled_in_order m c a
       → record { result = n; left = b } ≡ ordered_result o c a
   ordered_measure {m} {x} {b} p q e = rw (p, q) (ap outcome_result e)
 
 -- replaying, by the measure's number
 module _ {o : MeasureChoice} (c : Columns) (a : Entries) (parts received stock outcomes : List ℕ) {n : ℕ} where
-  pub replay_refused : {r : Refusal} → o ≡ choice.Refused r → n ≡ result_of (code_of r)
+  pub replay_refused : {r : Refusal} → o ≡ Err r → n ≡ result_of (code_of r)
       → record { result = n; stock = stock; outcomes = outcomes } ≡ replayed_result o c a parts received stock outcomes
   replay_refused p q = rw (p, q)
 
-  pub replay_measure : {m : Measure} {x : Acceptance} {s os : List ℕ} → o ≡ choice.Measure m → n ≡ acceptance_result x
+  pub replay_measure : {m : Measure} {x : Acceptance} {s os : List ℕ} → o ≡ Ok m → n ≡ acceptance_result x
       → record { result = x; stock = s; outcomes = os } ≡ replayed m c a parts received stock outcomes
       → record { result = n; stock = s; outcomes = os } ≡ replayed_result o c a parts received stock outcomes
   replay_measure p q k = rw (p, q) (ap replay_result k)

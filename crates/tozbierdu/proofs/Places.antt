@@ -24,8 +24,6 @@ use Rattle.refusal.specs.declared.Refusal.TheVariants.{
   StrikeMark,
 }
 use Rattle.refusal.specs.declared.Counts.{Counts}
-use Rattle.refusal.specs.declared.Acceptance.{Acceptance}
-use Rattle.refusal.specs.declared.Acceptance.TheVariants as answer
 use Rattle.refusal.specs.Refusals.{place_of, last_place}
 use Rattle.columns.specs.Columns.{Entries, Columns}
 use Rattle.columns.specs.Acceptance.{most_vertices, most_edges, most_listed, longest_tail, test, all_below, acceptance, lent_acceptance}
@@ -57,9 +55,7 @@ use Rattle.reading.proofs.Low.{wrong_low}
 use Rattle.readtable.specs.Read.{ReadOutcome, room_for, read_into, read_table}
 use Rattle.writetable.specs.Write.{WriteOutcome, write_text, write_as, write_table}
 use Rattle.writetable.proofs.Laws.{render_most}
-use Rattle.statistics.specs.declared.Summary.{Summary}
-use Rattle.statistics.specs.declared.Summary.TheVariants as summary
-use Rattle.statistics.specs.Samples.{Sampled}
+use Rattle.statistics.specs.Samples.{Sampled, Summary}
 use Rattle.statistics.specs.Summaries.{summary_of}
 use Rattle.statistics.proofs.Summarized.{refused_sample}
 use Rattle.shuffle.specs.Shuffled.{Outcome, shuffle_outcome, unshuffle_outcome}
@@ -67,14 +63,16 @@ use Rattle.counter.specs.Decoded.{extent_of}
 use Rattle.counter.proofs.Decoded.{reach}
 use Rattle.counter.proofs.Places.{edge_place, table_place, wrong_place, lent_place, change_place}
 use Rattle.tozbierdu.specs.Decoded.{verdict_extent, reading_extent, appending_extent, summary_extent}
+use Rattle.refusal.specs.Answers.{Acceptance}
+use Rattle.std.specs.Prelude.{Ok, Err}
 
 abbrev pub Placed : Refusal → Type 0
 Placed r = place_of r ≤ last_place
 
 -- of acceptance alone
 pub accepted_reach : (x : Acceptance) → Refuses Placed x → reach (extent_of x) ≤ last_place
-accepted_reach answer.Accepted f = omega arith
-accepted_reach (answer.Refused r) f = f.holds refl
+accepted_reach (Ok _) f = omega arith
+accepted_reach (Err r) f = f.holds refl
 
 -- Tables -----------------------------------------------------------------------------------------------------------------------------------------
 
@@ -99,7 +97,7 @@ module _ (m : Measure) (c : Columns) (a : Entries) where
       lent (WrongOrderedLent.answers t n) = omega arith
 
       go : {x : Acceptance} {b : Entries} {s : Refusal}
-          → Owed answer.Refused a (RightOrderedLent c a) (λ _. answer.Accepted) (λ _. entries_of m c) (WrongOrderedLent c a) x b → x ≡ answer.Refused s → Placed s
+          → Owed Err a (RightOrderedLent c a) (λ _. Ok tt) (λ _. entries_of m c) (WrongOrderedLent c a) x b → x ≡ Err s → Placed s
       go (Owed.accepted q) e = absurd (refused (sym e))
       go (Owed.refused w) e = subst Placed (same_refusal e) (lent w)
 
@@ -108,9 +106,9 @@ module _ (m : Measure) (c : Columns) (a : Entries) where
   checked_reach = go (lent_acceptance c a) (same_entries a (entries_of m c)) refl
     where
       go : (x : Acceptance) (b : Bool) → lent_acceptance c a ≡ x → reach (verdict_extent (verdict x b)) ≤ last_place
-      go answer.Accepted true p = omega arith
-      go answer.Accepted false p = omega arith
-      go (answer.Refused r) b p = lent_place c a p
+      go (Ok _) true p = omega arith
+      go (Ok _) false p = omega arith
+      go (Err r) b p = lent_place c a p
 
   -- Changes --------------------------------------------------------------------------------------------------------------------------------------
 
@@ -142,12 +140,12 @@ module _ (c : Columns) (index list : List ℕ) where
       places = then_refuses (acceptance c) _ (table_places c) (λ _. room_places c.vertices (length (index_of c).list) index list)
 
       go : (x : Acceptance) → index_acceptance c index list ≡ x → reach (index_outcome (index_of c) index list x).result ≤ last_place
-      go answer.Accepted p =
+      go (Ok _) p =
           let q = (both_accepted (acceptance c) _ p).0 in
           let f = list_fits c c.vertices q in
           let t = (table_accepted c q).tails in
           omega arith
-      go (answer.Refused r) p = places.holds p
+      go (Err r) p = places.holds p
 
 module _ (m : Measure) (c : Columns) (k : Counts) (a : Entries) (index list : List ℕ) (l : NewLine) where
   counts_places : (size : ℕ) → Refuses Placed (counts_acceptance c k size)
@@ -212,8 +210,8 @@ module _ (m : Measure) (c : Columns) (k : Counts) (a : Entries) (index list : Li
   append_reach = go (append_acceptance m c k a index list l) refl
     where
       go : (x : Acceptance) → append_acceptance m c k a index list l ≡ x → reach (appending_extent (grown m c k a index list l x).result) ≤ last_place
-      go answer.Accepted p = omega arith
-      go (answer.Refused r) p = append_places.holds p
+      go (Ok _) p = omega arith
+      go (Err r) p = append_places.holds p
 
 -- a part or an event
 module _ (m : Measure) (c : Columns) (a : Entries) (parts received stock outcomes : List ℕ) where
@@ -246,23 +244,23 @@ unfolding write_text
 write_reach m c room = go (acceptance c) refl
   where
     go : (x : Acceptance) → acceptance c ≡ x → reach (write_as x (render m c) room).answer ≤ last_place
-    go answer.Accepted p =
+    go (Ok _) p =
         pick_by (λ (x : WriteOutcome). reach x.answer ≤ last_place) (leb (length (render m c)) (length room)) (λ _. render_most m c p) (λ _. omega arith)
-    go (answer.Refused r) p = (table_places c).holds p
+    go (Err r) p = (table_places c).holds p
 
 -- Columns of figures -------------------------------------------------------------------------------------------------------------------------------
 
 pub summary_reach : (xs : List ℕ) → reach (summary_extent (summary_of xs)) ≤ last_place
 summary_reach xs = go (summary_of xs) refl
   where
-    placed : {x : Acceptance} {r : Refusal} → Sampled xs x → x ≡ answer.Refused r → Placed r
+    placed : {x : Acceptance} {r : Refusal} → Sampled xs x → x ≡ Err r → Placed r
     placed (Sampled.accepted s) e = absurd (refused (sym e))
     placed (Sampled.sized h) e = subst Placed (same_refusal e) (omega arith)
     placed (Sampled.large h k i t) e = subst Placed (same_refusal e) (omega (arith, t.within))
 
     go : (x : Summary) → summary_of xs ≡ x → reach (summary_extent x) ≤ last_place
-    go (summary.Moments m) e = omega arith
-    go (summary.Refused r) e = placed (refused_sample xs r e) refl
+    go (Ok m) e = omega arith
+    go (Err r) e = placed (refused_sample xs r e) refl
 
 pub shuffle_reach : (own room : List ℕ) → reach (extent_of (shuffle_outcome own room).answer) ≤ last_place
 unfolding shuffle_outcome

@@ -20,8 +20,10 @@ ghost use Rattle.shuffle.specs.Shuffled.{shuffle_outcome, unshuffle_outcome};
 ghost use Rattle.topological.specs.Ordering.{ordered_acceptance};
 ghost use Rattle.tozbierdu.specs.Results.{checked_result, stricken_result, restored_result, state_number, entry_written, measure_number, header_written, read_left, read_result, written_result, indexed_result, counts_written, used_counts, left_grown, appended_result, moments_written, summary_left, text_column, ordered_result, replayed_result, laid_result};
 
-use refusal::{Appending, Counts, Header, MeasureChoice, Reading};
-use statistics::{Moments, Summary};
+use append::NewLine;
+use columns::{Entries, Table};
+use refusal::{Counts, Header};
+use statistics::Moments;
 use weights::{Hyperedge, Mark, Measure, State, Vertex, Weight};
 
 #[unsafe(no_mangle)]
@@ -36,8 +38,15 @@ pub extern "C" fn tozbierdu_check_table(
     ensures { let c = columns n heads.now own.now strikes.now spans.now tails.now in
         result ≡ acceptance_result (acceptance c) }
 {
-    let a = columns::check_table(n, heads, own, strikes, spans, tails);
-    a.result()
+    let a = columns::check_table(&Table {
+        vertices: n,
+        heads,
+        own,
+        strikes,
+        spans,
+        tails,
+    });
+    refusal::result(a)
 }
 
 #[unsafe(no_mangle)]
@@ -60,12 +69,26 @@ pub extern "C" fn tozbierdu_check_answers(
 {
     let choice = refusal::measure_numbered(measure);
     match choice {
-        MeasureChoice::Refused(r) => return r.result(),
-        MeasureChoice::Measure(m) => {
+        Err(r) => return r.result(),
+        Ok(m) => {
             let v = settle::check_answers(
-                m, n, heads, own, strikes, spans, tails, weights, depths, edges, pieces,
+                m,
+                &Table {
+                    vertices: n,
+                    heads,
+                    own,
+                    strikes,
+                    spans,
+                    tails,
+                },
+                &Entries {
+                    weights,
+                    depths,
+                    edges,
+                    pieces,
+                },
             );
-            return v.result();
+            return refusal::result(v);
         }
     }
 }
@@ -167,8 +190,8 @@ pub extern "C" fn tozbierdu_strike(
 {
     let choice = refusal::measure_numbered(measure);
     match choice {
-        MeasureChoice::Refused(r) => return r.result(),
-        MeasureChoice::Measure(m) => {
+        Err(r) => return r.result(),
+        Ok(m) => {
             let a = reprice::strike(
                 m,
                 n,
@@ -183,7 +206,7 @@ pub extern "C" fn tozbierdu_strike(
                 pieces,
                 Hyperedge(line),
             );
-            return a.result();
+            return refusal::result(a);
         }
     }
 }
@@ -210,8 +233,8 @@ pub extern "C" fn tozbierdu_restore(
 {
     let choice = refusal::measure_numbered(measure);
     match choice {
-        MeasureChoice::Refused(r) => return r.result(),
-        MeasureChoice::Measure(m) => {
+        Err(r) => return r.result(),
+        Ok(m) => {
             let a = reprice::restore(
                 m,
                 n,
@@ -226,7 +249,7 @@ pub extern "C" fn tozbierdu_restore(
                 pieces,
                 Hyperedge(line),
             );
-            return a.result();
+            return refusal::result(a);
         }
     }
 }
@@ -258,7 +281,15 @@ pub extern "C" fn tozbierdu_entry(
     ensures written { let a = entries weights.now depths.now edges.now pieces.now in
         room.new ≡ entry_written (entry_at a vertex) room.old }
 {
-    let e = settle::entry(weights, depths, edges, pieces, Vertex(vertex));
+    let e = settle::entry(
+        &Entries {
+            weights,
+            depths,
+            edges,
+            pieces,
+        },
+        Vertex(vertex),
+    );
     let state = e.state;
     if room.len() != 4 {
         return state_number(state);
@@ -314,8 +345,8 @@ pub extern "C" fn tozbierdu_read_table(
 {
     let reading = readtable::read_table(text, heads, own, strikes, spans, tails);
     match reading {
-        Reading::Refused(r) => return r.result(),
-        Reading::Table(h) => {
+        Err(r) => return r.result(),
+        Ok(h) => {
             write_header(h, header);
             return 0;
         }
@@ -338,10 +369,21 @@ pub extern "C" fn tozbierdu_write_table(
 {
     let choice = refusal::measure_numbered(measure);
     match choice {
-        MeasureChoice::Refused(r) => return r.result(),
-        MeasureChoice::Measure(m) => {
-            let x = writetable::write_table(m, n, heads, own, strikes, spans, tails, room);
-            return x.result();
+        Err(r) => return r.result(),
+        Ok(m) => {
+            let x = writetable::write_table(
+                m,
+                &Table {
+                    vertices: n,
+                    heads,
+                    own,
+                    strikes,
+                    spans,
+                    tails,
+                },
+                room,
+            );
+            return refusal::result(x);
         }
     }
 }
@@ -361,8 +403,19 @@ pub extern "C" fn tozbierdu_index_table(
         let x = table_indexed c index.old list.old in
         record { result = result; index = index.new; list = list.new } ≡ indexed_result x }
 {
-    let x = indextable::index_table(n, heads, own, strikes, spans, tails, index, list);
-    x.result()
+    let x = indextable::index_table(
+        &Table {
+            vertices: n,
+            heads,
+            own,
+            strikes,
+            spans,
+            tails,
+        },
+        index,
+        list,
+    );
+    refusal::result(x)
 }
 
 // The new counts, in the room if two places are lent.
@@ -410,8 +463,8 @@ pub extern "C" fn tozbierdu_append(
 {
     let choice = refusal::measure_numbered(measure);
     match choice {
-        MeasureChoice::Refused(r) => return r.result(),
-        MeasureChoice::Measure(m) => {
+        Err(r) => return r.result(),
+        Ok(m) => {
             let a = append::append(
                 m,
                 n,
@@ -430,14 +483,16 @@ pub extern "C" fn tozbierdu_append(
                 pieces,
                 index,
                 list,
-                Vertex(head),
-                Weight(figure),
-                Mark(mark),
-                needed,
+                &NewLine {
+                    head: Vertex(head),
+                    own: Weight(figure),
+                    mark: Mark(mark),
+                    tail: needed,
+                },
             );
             match a {
-                Appending::Refused(r) => return r.result(),
-                Appending::Counts(k) => {
+                Err(r) => return r.result(),
+                Ok(k) => {
                     write_counts(k, counts);
                     return 0;
                 }
@@ -467,8 +522,8 @@ pub extern "C" fn tozbierdu_summarize(results: &[u64], room: &mut [u64]) -> u64
 {
     let s = statistics::summarize(results);
     match s {
-        Summary::Refused(r) => return r.result(),
-        Summary::Moments(m) => {
+        Err(r) => return r.result(),
+        Ok(m) => {
             write_moments(m, room);
             return 0;
         }
@@ -482,8 +537,8 @@ pub extern "C" fn tozbierdu_text_column(text: &[u8]) -> u64
 {
     let reading = reading::check_text(text);
     match reading {
-        Reading::Refused(r) => return r.column(),
-        Reading::Table(_) => return 0,
+        Err(r) => return r.column(),
+        Ok(_) => return 0,
     }
 }
 
@@ -499,8 +554,15 @@ pub extern "C" fn tozbierdu_check_order(
     ensures { let c = columns n heads.now own.now strikes.now spans.now tails.now in
         result ≡ acceptance_result (ordered_acceptance c) }
 {
-    let a = topological::check_order(n, heads, own, strikes, spans, tails);
-    a.result()
+    let a = topological::check_order(&Table {
+        vertices: n,
+        heads,
+        own,
+        strikes,
+        spans,
+        tails,
+    });
+    refusal::result(a)
 }
 
 #[unsafe(no_mangle)]
@@ -524,12 +586,24 @@ pub extern "C" fn tozbierdu_settle_ordered(
 {
     let choice = refusal::measure_numbered(measure);
     match choice {
-        MeasureChoice::Refused(r) => return r.result(),
-        MeasureChoice::Measure(m) => {
+        Err(r) => return r.result(),
+        Ok(m) => {
             let a = topological::settle_ordered(
-                m, n, heads, own, strikes, spans, tails, weights, depths, edges, pieces,
+                m,
+                &Table {
+                    vertices: n,
+                    heads,
+                    own,
+                    strikes,
+                    spans,
+                    tails,
+                },
+                weights,
+                depths,
+                edges,
+                pieces,
             );
-            return a.result();
+            return refusal::result(a);
         }
     }
 }
@@ -558,13 +632,30 @@ pub extern "C" fn tozbierdu_replay(
 {
     let choice = refusal::measure_numbered(measure);
     match choice {
-        MeasureChoice::Refused(r) => return r.result(),
-        MeasureChoice::Measure(m) => {
+        Err(r) => return r.result(),
+        Ok(m) => {
             let a = inventory::replay(
-                m, n, heads, own, strikes, spans, tails, weights, depths, edges, pieces, parts,
-                received, stock, outcomes,
+                m,
+                &Table {
+                    vertices: n,
+                    heads,
+                    own,
+                    strikes,
+                    spans,
+                    tails,
+                },
+                &Entries {
+                    weights,
+                    depths,
+                    edges,
+                    pieces,
+                },
+                parts,
+                received,
+                stock,
+                outcomes,
             );
-            return a.result();
+            return refusal::result(a);
         }
     }
 }
@@ -574,7 +665,7 @@ pub extern "C" fn tozbierdu_shuffle(own: &[u64], room: &mut [u8]) -> u64
     ensures { record { result = result; left = room.new } ≡ laid_result (shuffle_outcome own.now room.old) }
 {
     let a = shuffle::shuffle(own, room);
-    a.result()
+    refusal::result(a)
 }
 
 #[unsafe(no_mangle)]
@@ -582,5 +673,5 @@ pub extern "C" fn tozbierdu_unshuffle(bytes: &[u8], own: &mut [u64]) -> u64
     ensures { record { result = result; left = own.new } ≡ laid_result (unshuffle_outcome bytes.now own.old) }
 {
     let a = shuffle::unshuffle(bytes, own);
-    a.result()
+    refusal::result(a)
 }

@@ -1,36 +1,46 @@
 -- Of vertices below n as many stand in a list as it has different ones: so a hyperedge more adds as many uses as it lists different vertices. Assumes nothing.
-use mathlib.Core.Path.{◌≡◌, refl, sym, ◌∙◌, ap}
+use mathlib.Core.Path.{◌≡◌, refl, sym, ◌∙◌, ap, subst}
 use mathlib.Core.Bool.{Bool, true, false}
 use mathlib.Core.List.{List, [], ◌∷◌, ◌++◌}
 use mathlib.Core.Logic.{⊎_elim}
 use Prim.Native.Nat.{ℕ, zero, suc, ◌+◌, ◌≤◌, ◌<◌}
 use native.Mathlib.Numerals.{add-one}
 use native.Mathlib.Omega.{arith}
-use lib.ListN.{length, get_or, take, drop, drop_of_length-le}
-use lib.Seq.{take-suc, take-length, drop-cons}
-use lib.Dec.{ltb}
-use borrow.Author.Tests.{ltb-true, ltb-false, eq-eqb, ne_eqb, lt-ltb, le-ltb}
+use lib.ListN.{length, get_or, take}
+use lib.Seq.{take-suc, take-length}
+use lib.Dec.{eqb, ltb}
+use borrow.Author.Tests.{eqb-true, ltb-true, ltb-false, lt-ltb, le-ltb}
+use Rattle.std.specs.Bool.{Decides}
+use Rattle.std.specs.List.{HoldsAt}
 use Rattle.weights.specs.Lists.{member}
-use Rattle.weights.proofs.Lists.{true-or-false}
+use Rattle.weights.proofs.Lists.{true-or-false, member_at}
+use Rattle.weights.proofs.Choice.{apart}
 use Rattle.weights.specs.Choice.{pick}
 use Rattle.uses.specs.Uses.{distinct_in}
 use Rattle.uses.proofs.Pairs.{same_or_not}
 use Rattle.uses.proofs.Seen.{seen_now, seen_other}
 use Rattle.uses.proofs.Room.{hits, hits_none}
 
--- a list from place i on: a vertex that is v, one that is not, and none left
-module _ (v : ℕ) (xs : List ℕ) (i : ℕ) where
-  pub member_more : i < length xs → ¬ (get_or xs i 0 ≡ v) → member v (drop (i + 1) xs) ≡ member v (drop i xs)
+-- a vertex stands at a place of a list, or at none
+module _ (v : ℕ) where
+  member_place : (xs : List ℕ) → member v xs ≡ true → (k : ℕ) × (k < length xs) × HoldsAt (λ y. y ≡ v) xs k
   unfolding member
-  member_more h n = rw (add-one i, drop-cons xs i 0 h, ne_eqb v (get_or xs i 0) (λ e. n (sym e)))
+  member_place [] e = apart e
+  member_place (w ∷ ws) e = go (eqb v w) refl (λ f. member_place ws f) e
+    where
+      go : (b : Bool) → eqb v w ≡ b → (member v ws ≡ true → (k : ℕ) × (k < length ws) × HoldsAt (λ y. y ≡ v) ws k) → pick b true (member v ws) ≡ true
+          → (k : ℕ) × (k < length (w ∷ ws)) × HoldsAt (λ y. y ≡ v) (w ∷ ws) k
+      go true q rest f = (0, omega arith, λ d. sym (eqb-true v w q))
+      go false q rest f = let r = rest f in (suc r.0, omega (arith, r.1), λ d. r.2 d)
 
-  pub member_stop : i < length xs → get_or xs i 0 ≡ v → true ≡ member v (drop i xs)
-  unfolding member
-  member_stop h e = rw (drop-cons xs i 0 h, eq-eqb v (get_or xs i 0) (sym e))
-
-  pub member_end : length xs ≤ i → false ≡ member v (drop i xs)
-  unfolding member
-  member_end h = rw (drop_of_length-le xs h)
+  pub member_decides : (xs : List ℕ) (r : Bool) → Decides r ((k : ℕ) × (k < length xs) × HoldsAt (λ y. y ≡ v) xs k) → r ≡ member v xs
+  member_decides xs r d = go r (member v xs) refl d
+    where
+      go : (b m : Bool) → member v xs ≡ m → Decides b ((k : ℕ) × (k < length xs) × HoldsAt (λ y. y ≡ v) xs k) → b ≡ m
+      go true true e d = refl
+      go false false e d = refl
+      go true false e d = let f = d.0 refl in apart (sym e ∙ subst (λ (z : ℕ). member z xs ≡ true) (f.2 0) (member_at xs f.0 f.1))
+      go false true e d = d.1 (member_place xs e)
 
 -- no vertex; and a vertex more that was there adds none
 pub distinct_none : (vs : List ℕ) → distinct_in vs 0 ≡ 0

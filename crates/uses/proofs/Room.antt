@@ -10,7 +10,6 @@ use lib.ListN.{length, drop, length-take}
 use borrow.Author.Tests.{eq-eqb, ne_eqb}
 use Rattle.weights.specs.Lists.{member}
 use Rattle.weights.proofs.Lists.{true-or-false}
-use Rattle.refusal.specs.declared.Acceptance.TheVariants.{Accepted}
 use Rattle.weights.specs.Choice.{pick}
 use Rattle.columns.specs.Columns.{Columns, offset_at, length_at, tail_at}
 use Rattle.columns.specs.Acceptance.{all_below, edge_at, edges_acceptance, acceptance}
@@ -20,6 +19,7 @@ use Rattle.uses.proofs.Laws.{Indexed}
 use Rattle.uses.specs.Indexable.{Readable, Measurable, Indexable}
 use Rattle.uses.proofs.Pairs.{same_or_not}
 use Rattle.uses.proofs.Lists.{uses_same, more_length, offset_next}
+use Rattle.std.specs.Prelude.{Ok}
 
 -- how many of the vertices below n are in a list
 unfoldable pub hits : ℕ → List ℕ → ℕ
@@ -61,7 +61,7 @@ list_none tail zero = refl
 list_none tail (suc n) = offset_next tail 0 n ∙ (let h = list_none tail n in omega arith)
 
 -- the uses of the hyperedges so far are no more than the places up to the end of the last span
-list_spans : (c : Columns) (n left e end : ℕ) → edges_acceptance c left e end ≡ Accepted → length (use_list (tail_at c) e n) ≤ end
+list_spans : (c : Columns) (n left e end : ℕ) → edges_acceptance c left e end ≡ Ok tt → length (use_list (tail_at c) e n) ≤ end
     → end ≤ length c.tails → length (use_list (tail_at c) (e + left) n) ≤ length c.tails
 unfolding edges_acceptance
 list_spans c n zero e end p h l = let q : e + 0 ≡ e = omega arith in rw q (omega arith)
@@ -73,7 +73,7 @@ list_spans c n (suc left) e end p h l =
     let q : e + suc left ≡ (e + 1) + left = omega arith in
     rw q (list_spans c n left (e + 1) (offset_at c e + length_at c e) t.1 (omega (arith, hits_few n (tail_at c e), g.from)) g.within)
 
-pub list_fits : (c : Columns) (n : ℕ) → acceptance c ≡ Accepted → length (use_list (tail_at c) (length c.heads) n) ≤ length c.tails
+pub list_fits : (c : Columns) (n : ℕ) → acceptance c ≡ Ok tt → length (use_list (tail_at c) (length c.heads) n) ≤ length c.tails
 list_fits c n p =
     let q : 0 + length c.heads ≡ length c.heads = omega arith in
     rw q at
@@ -84,7 +84,7 @@ pub pairs_in_lem : (xs : List ℕ) (n : ℕ) → length xs ≡ 2 * n → pairs_i
 pairs_in_lem xs n e = omega arith
 
 -- the index may have pairs for more vertices than the table has
-module _ (c : Columns) (p : acceptance c ≡ Accepted) (index : List ℕ) (n : ℕ) (two : length index ≡ 2 * n) (enough : c.vertices ≤ n) where
+module _ (c : Columns) (p : acceptance c ≡ Ok tt) (index : List ℕ) (n : ℕ) (two : length index ≡ 2 * n) (enough : c.vertices ≤ n) where
   spans_in : pairs_in c.spans ≡ length c.heads
   spans_in = pairs_in_lem c.spans (length c.heads) (table_accepted c p).spans
 

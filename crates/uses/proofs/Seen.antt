@@ -3,16 +3,17 @@ use mathlib.Core.Path.{◌≡◌, refl, sym, ◌∙◌, ap, fun_ext}
 use mathlib.Core.List.{List, [], ◌∷◌, ◌++◌}
 use mathlib.Core.Logic.{⊎_elim}
 use mathlib.Core.Bool.{Bool, true, false}
-use Prim.Native.Nat.{ℕ, ◌+◌, ◌*◌, ◌≤◌, ◌<◌}
+use Prim.Native.Nat.{ℕ, suc, ◌+◌, ◌-◌, ◌≤◌, ◌<◌}
 use native.Mathlib.Numerals.{add-one}
 use native.Mathlib.Omega.{arith}
-use lib.ListN.{length, get_or, take, drop, length-take, length-drop}
-use lib.Seq.{take-suc, take_all, get_or-take, get_or-drop}
+use lib.ListN.{length, get_or, take, drop}
+use lib.Seq.{take-suc, take_all}
 use borrow.Author.Tests.{eq-eqb, ne_eqb}
 use Rattle.weights.specs.Lists.{member}
 use Rattle.weights.proofs.Lists.{either, member_at, member_snoc}
 use Rattle.weights.specs.Choice.{pick}
 use Rattle.columns.specs.Columns.{tail_of}
+use Rattle.columns.specs.Acceptance.{all_below}
 use Rattle.columns.proofs.Accepted.{below_at}
 use Rattle.uses.specs.Uses.{uses_below}
 use Rattle.uses.specs.Indexable.{TailReadable}
@@ -40,24 +41,22 @@ module _ (vs : List ℕ) (w : ℕ) where
   pub seen_again : member w vs ≡ true → seen_in (vs ++ w ∷ []) ≡ seen_in vs
   seen_again p = fun_ext (λ v. ⊎_elim (λ e. rw e (seen_now ∙ sym p)) (λ d. seen_other v d) (same_or_not v w))
 
+-- what a loop over the tail's places passes
+pub places_are : (from size : ℕ) (tails : List ℕ) → take (from + size - from) (drop from tails) ≡ take size (drop from tails)
+places_are from size tails = let k : from + size - from ≡ size = omega arith in ap (λ (z : ℕ). take z (drop from tails)) k
+
 -- place i of the tail of hyperedge e
-module _ {n : ℕ} {spans tails : List ℕ} {e : ℕ} (r : TailReadable n spans tails e) (i : ℕ) where
-  tail_length : length (tail_of spans tails e) ≡ get_or spans (2 * e + 1) 0
-  tail_length = simp (length-take, length-drop) (omega (arith, r.within))
+module _ {n : ℕ} {spans tails : List ℕ} {e : ℕ} (r : TailReadable n spans tails e) {xs : List ℕ} (p : xs ≡ tail_of spans tails e) (i : ℕ) where
+  pub vertex_below : i < length xs → get_or xs i 0 < n
+  vertex_below h = below_at n xs (ap (all_below n) p ∙ r.listed) i h
 
-  pub tail_vertex : i < get_or spans (2 * e + 1) 0 → get_or (tail_of spans tails e) i 0 ≡ get_or tails (get_or spans (2 * e) 0 + i) 0
-  tail_vertex h = rw (get_or-take (get_or spans (2 * e + 1) 0) (drop (get_or spans (2 * e) 0) tails) i 0 h, get_or-drop (get_or spans (2 * e) 0) tails i 0)
+  pub vertex_listed : i < length xs → member (get_or xs i 0) (tail_of spans tails e) ≡ true
+  vertex_listed h = ap (member (get_or xs i 0)) (sym p) ∙ member_at xs i h
 
-  pub vertex_below : i < get_or spans (2 * e + 1) 0 → get_or tails (get_or spans (2 * e) 0 + i) 0 < n
-  vertex_below h = rw (tail_vertex h) at (below_at n (tail_of spans tails e) r.listed i (omega (arith, tail_length)))
-
-  pub vertex_listed : i < get_or spans (2 * e + 1) 0 → member (get_or tails (get_or spans (2 * e) 0 + i) 0) (tail_of spans tails e) ≡ true
-  vertex_listed h = rw (tail_vertex h) at (member_at (tail_of spans tails e) i (omega (arith, tail_length)))
-
-  pub one_more : i < get_or spans (2 * e + 1) 0 → take (i + 1) (tail_of spans tails e) ≡ take i (tail_of spans tails e) ++ get_or tails (get_or spans (2 * e) 0 + i) 0 ∷ []
+  pub one_more : i < length xs → take (i + 1) (tail_of spans tails e) ≡ take i (tail_of spans tails e) ++ get_or xs i 0 ∷ []
   one_more h =
-      ap (λ (z : ℕ). take z (tail_of spans tails e)) (add-one i) ∙ take-suc (tail_of spans tails e) i 0 (omega (arith, tail_length))
-      ∙ ap (λ (z : ℕ). take i (tail_of spans tails e) ++ z ∷ []) (tail_vertex h)
+      ap (λ (z : ℕ). take z (tail_of spans tails e)) (add-one i) ∙ ap (take (suc i)) (sym p) ∙ take-suc xs i 0 h
+      ∙ ap (λ (zs : List ℕ). take i zs ++ get_or xs i 0 ∷ []) p
 
-  pub whole : get_or spans (2 * e + 1) 0 ≤ i → take i (tail_of spans tails e) ≡ tail_of spans tails e
-  whole h = take_all i (tail_of spans tails e) (omega (arith, tail_length))
+  pub whole : length xs ≤ i → take i (tail_of spans tails e) ≡ tail_of spans tails e
+  whole h = take_all i (tail_of spans tails e) (omega (arith, ap length p))

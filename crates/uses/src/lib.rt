@@ -21,16 +21,12 @@ fn count_edge(e: Hyperedge, spans: &[u64], tails: &[u64], index: &mut [u64])
     let line = number as usize;
     let from = spans[2 * line] as usize;
     let size = spans[2 * line + 1] as usize;
-    let mut i = 0;
-    while i < size {
-        let v = tails[from + i] as usize;
-        let mark = index[2 * v];
-        if mark != number + 1 {
-            let count = index[2 * v + 1];
+    for part in &tails[from..from + size] {
+        let v = *part as usize;
+        if index[2 * v] != number + 1 {
             index[2 * v] = number + 1;
-            index[2 * v + 1] = count + 1;
+            index[2 * v + 1] += 1;
         }
-        i += 1;
     }
 }
 
@@ -40,11 +36,8 @@ fn count(spans: &[u64], tails: &[u64], index: &mut [u64])
     ensures { index.new ≡ counted (tail_of spans.now tails.now) (pairs_in spans.now) (pairs_in index.old) }
 {
     columns::set_all(index, 0);
-    let m = spans.len() / 2;
-    let mut i = 0;
-    while i < m {
-        count_edge(Hyperedge(i as u64), spans, tails, index);
-        i += 1;
+    for e in 0..spans.len() / 2 {
+        count_edge(Hyperedge(e as u64), spans, tails, index);
     }
 }
 
@@ -53,15 +46,12 @@ fn place(index: &mut [u64]) -> u64
     requires { Placeable index.old }
     ensures { (result ≡ running index.old (pairs_in index.old)) × (index.new ≡ placed index.old (pairs_in index.old)) }
 {
-    let n = index.len() / 2;
     let mut sum: u64 = 0;
-    let mut v = 0;
-    while v < n {
+    for v in 0..index.len() / 2 {
         let count = index[2 * v + 1];
         index[2 * v] = sum;
         index[2 * v + 1] = 0;
         sum += count;
-        v += 1;
     }
     sum
 }
@@ -87,16 +77,14 @@ fn fill_edge(e: Hyperedge, spans: &[u64], tails: &[u64], index: &mut [u64], list
     let line = number as usize;
     let from = spans[2 * line] as usize;
     let size = spans[2 * line + 1] as usize;
-    let mut i = 0;
-    while i < size {
-        let v = tails[from + i] as usize;
+    for part in &tails[from..from + size] {
+        let v = *part as usize;
         let start = index[2 * v] as usize;
         let k = index[2 * v + 1] as usize;
         if !ends_in(list, start, k, e) {
             list[start + k] = number;
-            index[2 * v + 1] = k as u64 + 1;
+            index[2 * v + 1] += 1;
         }
-        i += 1;
     }
 }
 
@@ -118,10 +106,8 @@ pub fn fill(spans: &[u64], tails: &[u64], index: &mut [u64], list: &mut [u64])
     ensures { FilledTo (tail_of spans.now tails.now) (pairs_in spans.now) (pairs_in index.old) (pairs_in spans.now) index.new list.new list.old }
 {
     let edges = spans.len() / 2;
-    let mut i = 0;
-    while i < edges {
-        fill_edge(Hyperedge(i as u64), spans, tails, index, list);
-        i += 1;
+    for e in 0..edges {
+        fill_edge(Hyperedge(e as u64), spans, tails, index, list);
     }
 }
 
@@ -140,14 +126,7 @@ pub fn index_uses(spans: &[u64], tails: &[u64], index: &mut [u64], list: &mut [u
 pub fn stands_in(list: &[u64], v: Vertex) -> bool
     ensures { result ≡ member v.0 list.now }
 {
-    let mut i = 0;
-    while i < list.len() {
-        if list[i] == v.0 {
-            return true;
-        }
-        i += 1;
-    }
-    false
+    list.contains(&v.0)
 }
 
 // How many different vertices a list has: those that do not stand before their place.
@@ -155,13 +134,10 @@ pub fn distinct(list: &[u64]) -> u64
     ensures { result ≡ distinct_in list.now (length list.now) }
 {
     let mut k: u64 = 0;
-    let mut i = 0;
-    while i < list.len() {
-        let v = Vertex(list[i]);
-        if !stands_in(&list[..i], v) {
+    for (i, v) in list.iter().enumerate() {
+        if !stands_in(&list[..i], Vertex(*v)) {
             k += 1;
         }
-        i += 1;
     }
     k
 }

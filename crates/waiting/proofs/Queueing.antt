@@ -13,8 +13,6 @@ use borrow.Author.Tests.{eqb-false, ne_eqb}
 use Rattle.weights.specs.Lists.{member}
 use Rattle.weights.proofs.Lists.{member_at}
 use Rattle.weights.specs.declared.Measure.{Measure}
-use Rattle.weights.specs.declared.Offer.{Offer}
-use Rattle.weights.specs.declared.Offer.TheVariants.{Nothing}
 use Rattle.weights.specs.Choice.{pick}
 use Rattle.weights.proofs.Choice.{apart}
 use Rattle.weights.specs.Figures.{is_struck_mark}
@@ -31,13 +29,15 @@ use Rattle.queue.proofs.Laws.{with_at_most, with_lower, with_greatest, zero_stop
 use Rattle.offers.specs.Passing.{Extends}
 use Rattle.waiting.specs.Lines.{Lines, room_of, Chain, Waiter, key_on, Placed, kept, waits, heard, Waiting, Woken, Rested}
 use Rattle.waiting.proofs.Keeping.{chain_on, chain_each, unmade_before, made_still, waiter_on}
+use Rattle.weights.specs.Offers.{Offer}
+use Rattle.std.specs.Prelude.{None}
 
 -- a struck hyperedge offers nothing
-open_struck : (A : Algebra) (c : Columns) (w d : ℕ → ℕ) (e : ℕ) → is_struck_mark (strike_at c e) ≡ true → opening A (hypergraph c) (cell c.own) w d e ≡ Nothing
+open_struck : (A : Algebra) (c : Columns) (w d : ℕ → ℕ) (e : ℕ) → is_struck_mark (strike_at c e) ≡ true → opening A (hypergraph c) (cell c.own) w d e ≡ None
 unfolding opening offer_of
 open_struck A c w d e p = rw p (go (eqb (d (head_at c e)) 0))
   where
-    go : (t : Bool) → pick {A = Offer} t Nothing Nothing ≡ Nothing
+    go : (t : Bool) → pick {A = Offer} t None None ≡ None
     go true = refl
     go false = refl
 

@@ -11,7 +11,6 @@ use lib.ListN.{length, length-replicate, set}
 use lib.Seq.{get_or-set_other, set-get_or}
 use Rattle.weights.specs.declared.Measure.{Measure}
 use Rattle.weights.proofs.Choice.{apart}
-use Rattle.weights.specs.declared.Offer.TheVariants.{Found}
 use Rattle.weights.specs.Labels.{label}
 use Rattle.weights.specs.Figures.{is_struck_mark}
 use Rattle.queue.specs.Queue.{offered}
@@ -25,6 +24,7 @@ use Rattle.waiting.specs.Lines.{Lines, lines, room_of, pushed, Linkable, Linked,
 use Rattle.waiting.proofs.Keeping.{pushed_sizes, went_stays, went_waits}
 use Rattle.waiting.proofs.Steps.{room_power, enough, own_low, arriving, arrived, edge-room, head_key, tail_length, tail_at_lem, tail_below, edge_fits_lem, went_on, linkable, pushable}
 use Rattle.waiting.proofs.Walking.{waiting_on}
+use Rattle.std.specs.Prelude.{Some}
 
 pub nothing-waits : {m : Measure} {c : Columns} {ws ds : List ℕ} {s : Lines} {q : List ℕ} → Empty m c ds s q → Starting m c ws ds s q 0
 nothing-waits {c = c} x = record {
@@ -120,8 +120,8 @@ module _ {m : Measure} {c : Columns} {ws ds : List ℕ} {s : Lines} {q : List �
       pub own_queueable : Queueable (label (own_at c i) 1 i) c.heads q
       own_queueable = subst (λ (z : ℕ). Queueable (label z 1 i) c.heads q) its_own (arriving o (going refl) (gone_none refl) past).queueable
 
-      pub own_offered : {q' : List ℕ} → q' ≡ offered m q (head_at c i) (Found (label (own_at c i) 1 i)) → Went m c (cell ws) (cell ds) i s s q q'
-      own_offered e = arrived o (going refl) (gone_none refl) past (e ∙ ap (λ (z : ℕ). offered m q (head_at c i) (Found (label z 1 i))) (sym its_own))
+      pub own_offered : {q' : List ℕ} → q' ≡ offered m q (head_at c i) (Some (label (own_at c i) 1 i)) → Went m c (cell ws) (cell ds) i s s q q'
+      own_offered e = arrived o (going refl) (gone_none refl) past (e ∙ ap (λ (z : ℕ). offered m q (head_at c i) (Some (label z 1 i))) (sym its_own))
 
     pub went_next : {s' : Lines} {q' : List ℕ} → Went m c (cell ws) (cell ds) i s s' q q' → Starting m c ws ds s' q' (i + 1)
     went_next {s'} {q'} y = go y.moved

@@ -5,15 +5,13 @@ use mathlib.Core.Logic.{◌≢◌}
 use mathlib.Core.Bool.{Bool, true, false}
 use mathlib.Core.List.{List}
 use native.Mathlib.Omega.{arith}
-use lib.ListN.{length, drop, length-take, length-drop}
+use lib.ListN.{length, take, drop, length-take, length-drop}
 use lib.Seq.{get_or-take, get_or-drop}
 use lib.Dec.{leb}
 use borrow.Author.Tests.{eq-eqb, leb-true}
 use Rattle.weights.proofs.Lists.{member_at}
 use Rattle.weights.specs.declared.Measure.{Measure}
 use Rattle.weights.specs.declared.Label.{Label}
-use Rattle.weights.specs.declared.Offer.{Offer}
-use Rattle.weights.specs.declared.Offer.TheVariants.{Nothing, Found}
 use Rattle.weights.specs.Choice.{pick}
 use Rattle.weights.specs.Figures.{greatest, is_struck_mark}
 use Rattle.weights.specs.Labels.{label}
@@ -32,7 +30,9 @@ use Rattle.minima.specs.Minima.{PowerOfFour, four, times}
 use Rattle.queue.specs.Keys.{Fits, Fitting, nothing, found}
 use Rattle.queue.specs.Queue.{offered}
 use Rattle.queue.proofs.Laws.{open_fits, open_unmade, open_made}
-use Rattle.waiting.specs.Lines.{Lines, Room, small, middle, large, holds, room_for, room_of, pushed, Gone, stays, waits, Went, Arriving, Offerable, Going, Linkable, Pushable}
+use Rattle.waiting.specs.Lines.{Lines, Room, small, middle, large, holds, room_for, room_of, pushed, Gone, stays, waits, Waiting, Went, Arriving, Offerable, Going, Linkable, Pushable}
+use Rattle.weights.specs.Offers.{Offer}
+use Rattle.std.specs.Prelude.{Some, None}
 
 -- which room a table is given
 pub room_small : (n k : ℕ) → holds small n k ≡ true → room_for n k ≡ small
@@ -124,7 +124,7 @@ module _ {c : Columns} {ws ds q : List ℕ} (r : Offerable c ws ds q) (e : ℕ) 
   pub edge_fits_lem : (m : Measure) → Fitting (opening (algebra m) (hypergraph c) (cell c.own) (cell ws) (cell ds) e)
   edge_fits_lem m = open_fits m (hypergraph c) (cell c.own) (cell ws) (cell ds) e r.fitted edge_few
 
-pub found_fits : {l : Label} {o : Offer} → Fitting o → Found l ≡ o → Fits l
+pub found_fits : {l : Label} {o : Offer} → Fitting o → Some l ≡ o → Fits l
 found_fits nothing p = absurd (let z : ◌≡◌ {A = ℕ} 0 1 = cc in omega arith)
 found_fits {l} (found {l = k} f) p = let e : k ≡ l = cc in subst Fits e f
 
@@ -140,19 +140,19 @@ module _ (A : Algebra) (c : Columns) (w d : ℕ → ℕ) (e : ℕ) where
   here = opening A H (cell c.own) w d e
 
   module _ {i j g : ℕ} (p : Carried A w d (tail_at c e) i j g) (l : length (tail_at c e) ≤ i) where
-    at_end : Found (label (A.finish (own_at c e) j) (g + 1) e) ≡ rest A e (own_at c e) w d A.unit 0 (tail_at c e)
+    at_end : Some (label (A.finish (own_at c e) j) (g + 1) e) ≡ rest A e (own_at c e) w d A.unit 0 (tail_at c e)
     at_end = offers.carried_end p e (own_at c e) l
 
     -- past the end of the tail every vertex of it is made
     pub all_made : none_zero d (tail_at c e) ≡ true
     unfolding rest
-    all_made = go (none_zero d (tail_at c e)) (Found (label (A.finish (own_at c e) (fold A.join A.unit (each w (tail_at c e)))) (max 0 (greatest_depth d (tail_at c e)) + 1) e)) at_end
+    all_made = go (none_zero d (tail_at c e)) (Some (label (A.finish (own_at c e) (fold A.join A.unit (each w (tail_at c e)))) (max 0 (greatest_depth d (tail_at c e)) + 1) e)) at_end
       where
-        go : (b : Bool) (m : Offer) {l : Label} → Found l ≡ pick b m Nothing → b ≡ true
+        go : (b : Bool) (m : Offer) {l : Label} → Some l ≡ pick b m None → b ≡ true
         go true m z = refl
         go false m z = absurd (let y : ◌≡◌ {A = ℕ} 0 1 = cc in omega arith)
 
-    pub end_open : is_struck_mark (strike_at c e) ≡ false → d (head_at c e) ≡ 0 → Found (label (A.finish (own_at c e) j) (g + 1) e) ≡ here
+    pub end_open : is_struck_mark (strike_at c e) ≡ false → d (head_at c e) ≡ 0 → Some (label (A.finish (own_at c e) j) (g + 1) e) ≡ here
     unfolding opening
     end_open u f = at_end ∙ rest_whole A e (own_at c e) (strike_at c e) w d (tail_at c e) u ∙ rw (eq-eqb _ _ f)
 
@@ -196,7 +196,7 @@ linkable p = record { vertex = omega (arith, p.sizes.first, p.vertex); edge = om
 -- a hyperedge past the end of its tail can be offered, and then has gone on
 module _ {m : Measure} {c : Columns} {ws ds q : List ℕ} {s : Lines} {e a b k : ℕ} (r : Offerable c ws ds q) (y : Going m c ws ds s e a b k)
     {i j g : ℕ} (p : Gone (algebra m) (cell ws) (cell ds) (tail_at c e) i j g) (l : length (tail_at c e) ≤ i) where
-  is_open : Found (label ((algebra m).finish (own_at c e) j) (g + 1) e) ≡ opening (algebra m) (hypergraph c) (cell c.own) (cell ws) (cell ds) e
+  is_open : Some (label ((algebra m).finish (own_at c e) j) (g + 1) e) ≡ opening (algebra m) (hypergraph c) (cell c.own) (cell ws) (cell ds) e
   is_open = end_open (algebra m) c (cell ws) (cell ds) e p.passed l y.unstruck y.fresh
 
   pub arriving : Arriving m c.heads c.own q e j g
@@ -211,5 +211,37 @@ module _ {m : Measure} {c : Columns} {ws ds q : List ℕ} {s : Lines} {e a b k :
     };
   }
 
-  pub arrived : {q' : List ℕ} → q' ≡ offered m q (head_at c e) (Found (label ((algebra m).finish (own_at c e) j) (g + 1) e)) → Went m c (cell ws) (cell ds) e s s q q'
+  pub arrived : {q' : List ℕ} → q' ≡ offered m q (head_at c e) (Some (label ((algebra m).finish (own_at c e) j) (g + 1) e)) → Went m c (cell ws) (cell ds) e s s q q'
   arrived x = went_out m c (cell ws) (cell ds) e s i j g p l (x ∙ ap (offered m q (head_at c e)) is_open)
+
+-- what stands in the queue changes, and the rest of what is asked stays
+pub queue_on : {m : Measure} {c : Columns} {w d : ℕ → ℕ} {ws ds q q' : List ℕ} {s : Lines} {busy : ℕ → Type 0} → Offerable c ws ds q → Waiting m c w d s q' busy → Offerable c ws ds q'
+queue_on r W = record { usable = r.usable; fitted = r.fitted; grouped = W.grouped; sized = W.sized }
+
+-- the tail of a hyperedge is lent from where it begins up to where it ends, and was passed to place i
+module _ {m : Measure} {c : Columns} {ws ds q : List ℕ} {s : Lines} {e a b k : ℕ} (r : Offerable c ws ds q) (y : Going m c ws ds s e a b k) {i j g : ℕ}
+    (p : Gone (algebra m) (cell ws) (cell ds) (take (offset_at c e + length_at c e - offset_at c e) (drop (offset_at c e) c.tails)) i j g) where
+  passed_so : Gone (algebra m) (cell ws) (cell ds) (tail_at c e) i j g
+  passed_so = rw span_length at p
+
+  -- within it is a vertex to wait for
+  module _ (l : i < length_at c e) where
+    further : i < length (tail_at c e)
+    further = omega (arith, tail_length r e y.numbered)
+
+    pub waits-there : Pushable s (cell c.tails (offset_at c e + i)) e i g
+    waits-there = pushable r y _ i j g passed_so further (tail_at_lem r e y.numbered i l)
+
+    pub went_there : {s' : Lines} → s' ≡ pushed s (cell c.tails (offset_at c e + i)) e i j g → Went m c (cell ws) (cell ds) e s s' q q
+    went_there = went_on m c (cell ws) (cell ds) e q _ i j g passed_so further (tail_at_lem r e y.numbered i l)
+
+  -- past its end the hyperedge is offered
+  module _ (l : length_at c e ≤ i) where
+    finished : length (tail_at c e) ≤ i
+    finished = omega (arith, tail_length r e y.numbered)
+
+    pub offers-end : Arriving m c.heads c.own q e j g
+    offers-end = arriving r y passed_so finished
+
+    pub went_past : {q' : List ℕ} → q' ≡ offered m q (head_at c e) (Some (label ((algebra m).finish (own_at c e) j) (g + 1) e)) → Went m c (cell ws) (cell ds) e s s q q'
+    went_past = arrived r y passed_so finished

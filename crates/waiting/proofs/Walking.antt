@@ -39,7 +39,8 @@ waiting_on f g W =
       offers = W.offers;
     }
 
-module _ {m : Measure} {c : Columns} {ws ds : List ℕ} {s : Lines} {q : List ℕ} {v l : ℕ} (o : Offerable c ws ds q) (x : Waking m c ws ds s q v l) where
+-- o tells of the queue as it was when the walk began
+module _ {m : Measure} {c : Columns} {ws ds : List ℕ} {s : Lines} {q q₀ : List ℕ} {v l : ℕ} (o : Offerable c ws ds q₀) (x : Waking m c ws ds s q v l) where
   abbrev W : Lines → List ℕ → List ℕ → Type 0
   W s' q' es = Waiting m c (cell ws) (cell ds) s' q' (λ e. Memᴰ e es)
 

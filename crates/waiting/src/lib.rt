@@ -2,19 +2,22 @@
 // not made, in a list kept with that vertex, and carries what the vertices before it join to. When
 // the vertex is made, what waited for it goes on: it reaches its end and is offered to its head, or
 // waits again. So each place of a tail is read once.
+//
+// Kept: the lists, what lines carry and the queue are columns that every step writes, so they are
+// parameters of their own, as `columns::Entries` says.
 
 #![tactic(auto)]
 
-ghost use Rattle.std.specs.Prelude.{◌≡◌, ◌+◌, ◌<◌, length};
-ghost use Rattle.weights.specs.declared.Offer.TheVariants.{Found};
+ghost use Rattle.std.specs.Prelude.{◌≡◌, ◌+◌, ◌<◌, length, Some};
 ghost use Rattle.weights.specs.Labels.{label};
 ghost use Rattle.weights.specs.Measures.{algebra};
-ghost use Rattle.columns.specs.Lent.{lent};
 ghost use Rattle.columns.specs.Columns.{cell};
+ghost use Rattle.columns.specs.Given.{lent_of};
 ghost use Rattle.queue.specs.Queue.{offered};
 ghost use Rattle.offers.specs.Passing.{Passable, Carried};
 ghost use Rattle.waiting.specs.Lines.{lines, pushed, Gone, Linkable, Linked, Pushable, Queueable, Arriving, Offerable, Going, Went, Wakeful, Starting, Waking, Woken, Rested, Empty};
 
+use columns::Table;
 use offers::{deeper, finishing, joining};
 use weights::{Hyperedge, Label, Mark, Measure, Vertex, Weight};
 
@@ -34,10 +37,9 @@ fn go_on(measure: Measure, from: Reached, tail: &[u64], weights: &[u64], depths:
     requires { (Passable tail.now weights.now depths.now) × Carried (algebra measure) (cell weights.now) (cell depths.now) tail.now from.at from.joined.0 from.deepest }
     ensures { Gone (algebra measure) (cell weights.now) (cell depths.now) tail.now result.at result.joined.0 result.deepest }
 {
-    let mut at = from.at;
     let mut joined = from.joined;
     let mut deepest = from.deepest;
-    while at < tail.len() {
+    for at in from.at..tail.len() {
         let v = tail[at] as usize;
         let depth = depths[v];
         if depth == 0 {
@@ -51,10 +53,9 @@ fn go_on(measure: Measure, from: Reached, tail: &[u64], weights: &[u64], depths:
         let sum = joining(measure, joined.0, weight);
         joined = Weight(sum);
         deepest = deeper(deepest, depth);
-        at += 1;
     }
     Reached {
-        at,
+        at: tail.len(),
         joined,
         deepest,
     }
@@ -99,7 +100,7 @@ fn wait(
 // The head of a label's hyperedge is offered the label.
 fn offer(measure: Measure, l: Label, heads: &[u64], queue: &mut [u64])
     requires { Queueable l heads.now queue.old }
-    ensures { queue.new ≡ offered measure queue.old (cell heads.now l.edge.0) (Found l) }
+    ensures { queue.new ≡ offered measure queue.old (cell heads.now l.edge.0) (Some l) }
 {
     let key = queue::pack(measure, l);
     let e = l.edge;
@@ -118,7 +119,7 @@ fn arrive(
     queue: &mut [u64],
 )
     requires { Arriving measure heads.now own.now queue.old e.0 to.joined.0 to.deepest }
-    ensures { let o = Found (label ((algebra measure).finish (cell own.now e.0) to.joined.0) (to.deepest + 1) e.0) in
+    ensures { let o = Some (label ((algebra measure).finish (cell own.now e.0) to.joined.0) (to.deepest + 1) e.0) in
         queue.new ≡ offered measure queue.old (cell heads.now e.0) o }
 {
     let i = e.0 as usize;
@@ -139,11 +140,7 @@ fn advance(
     measure: Measure,
     e: Hyperedge,
     from: Reached,
-    heads: &[u64],
-    own: &[u64],
-    strikes: &[u64],
-    spans: &[u64],
-    tails: &[u64],
+    table: &Table,
     weights: &[u64],
     depths: &[u64],
     first: &mut [u16],
@@ -153,14 +150,21 @@ fn advance(
     deepest: &mut [u16],
     queue: &mut [u64],
 )
-    requires { let c = lent heads.now own.now strikes.now spans.now tails.now depths.now in
+    requires { let c = lent_of table.now depths.now in
         let s = lines first.old next.old at.old joined.old deepest.old in
         (Offerable c weights.now depths.now queue.old) × Going measure c weights.now depths.now s e.0 from.at from.joined.0 from.deepest }
-    ensures { let c = lent heads.now own.now strikes.now spans.now tails.now depths.now in
+    ensures { let c = lent_of table.now depths.now in
         let s = lines first.old next.old at.old joined.old deepest.old in
         let s' = lines first.new next.new at.new joined.new deepest.new in
         Went measure c (cell weights.now) (cell depths.now) e.0 s s' queue.old queue.new }
 {
+    let Table {
+        heads,
+        own,
+        spans,
+        tails,
+        ..
+    } = *table;
     let i = e.0 as usize;
     let offset = spans[2 * i] as usize;
     let size = spans[2 * i + 1] as usize;
@@ -179,11 +183,7 @@ fn advance(
 fn wake(
     measure: Measure,
     e: Hyperedge,
-    heads: &[u64],
-    own: &[u64],
-    strikes: &[u64],
-    spans: &[u64],
-    tails: &[u64],
+    table: &Table,
     weights: &[u64],
     depths: &[u64],
     first: &mut [u16],
@@ -193,14 +193,15 @@ fn wake(
     deepest: &mut [u16],
     queue: &mut [u64],
 )
-    requires { let c = lent heads.now own.now strikes.now spans.now tails.now depths.now in
+    requires { let c = lent_of table.now depths.now in
         let s = lines first.old next.old at.old joined.old deepest.old in
         (Offerable c weights.now depths.now queue.old) × Wakeful measure c weights.now depths.now s e.0 }
-    ensures { let c = lent heads.now own.now strikes.now spans.now tails.now depths.now in
+    ensures { let c = lent_of table.now depths.now in
         let s = lines first.old next.old at.old joined.old deepest.old in
         let s' = lines first.new next.new at.new joined.new deepest.new in
         Went measure c (cell weights.now) (cell depths.now) e.0 s s' queue.old queue.new }
 {
+    let Table { heads, .. } = *table;
     let i = e.0 as usize;
     let h = heads[i] as usize;
     if depths[h] != 0 {
@@ -215,8 +216,7 @@ fn wake(
         deepest: depth,
     };
     advance(
-        measure, e, from, heads, own, strikes, spans, tails, weights, depths, first, next, at,
-        joined, deepest, queue,
+        measure, e, from, table, weights, depths, first, next, at, joined, deepest, queue,
     );
 }
 
@@ -225,11 +225,7 @@ fn wake(
 pub fn wake_all(
     measure: Measure,
     v: Vertex,
-    heads: &[u64],
-    own: &[u64],
-    strikes: &[u64],
-    spans: &[u64],
-    tails: &[u64],
+    table: &Table,
     weights: &[u64],
     depths: &[u64],
     first: &mut [u16],
@@ -239,23 +235,23 @@ pub fn wake_all(
     deepest: &mut [u16],
     queue: &mut [u64],
 )
-    requires { let c = lent heads.now own.now strikes.now spans.now tails.now depths.now in
+    requires { let c = lent_of table.now depths.now in
         let s = lines first.old next.old at.old joined.old deepest.old in
         (Offerable c weights.now depths.now queue.old) × ((v.0 < length depths.now) × Waking measure c weights.now depths.now s queue.old v.0 (cell first.old v.0)) }
-    ensures { let c = lent heads.now own.now strikes.now spans.now tails.now depths.now in
+    ensures { let c = lent_of table.now depths.now in
         let s' = lines first.new next.new at.new joined.new deepest.new in
         Woken measure c weights.now depths.now s' queue.new v.0 }
 {
     let place = v.0 as usize;
     let mut l = first[place];
+    // Kept: the loop follows a list and counts no index.
     while l != END {
         let i = l as usize;
         let after = next[i];
         let number = l as u64;
         let e = Hyperedge(number);
         wake(
-            measure, e, heads, own, strikes, spans, tails, weights, depths, first, next, at,
-            joined, deepest, queue,
+            measure, e, table, weights, depths, first, next, at, joined, deepest, queue,
         );
         l = after;
     }
@@ -267,11 +263,7 @@ pub fn wake_all(
 fn begin(
     measure: Measure,
     e: Hyperedge,
-    heads: &[u64],
-    own: &[u64],
-    strikes: &[u64],
-    spans: &[u64],
-    tails: &[u64],
+    table: &Table,
     weights: &[u64],
     depths: &[u64],
     first: &mut [u16],
@@ -281,13 +273,21 @@ fn begin(
     deepest: &mut [u16],
     queue: &mut [u64],
 )
-    requires { let c = lent heads.now own.now strikes.now spans.now tails.now depths.now in
+    requires { let c = lent_of table.now depths.now in
         let s = lines first.old next.old at.old joined.old deepest.old in
-        (Offerable c weights.now depths.now queue.old) × ((e.0 < length heads.now) × Starting measure c weights.now depths.now s queue.old e.0) }
-    ensures { let c = lent heads.now own.now strikes.now spans.now tails.now depths.now in
+        (Offerable c weights.now depths.now queue.old) × ((e.0 < length table.now.heads.now) × Starting measure c weights.now depths.now s queue.old e.0) }
+    ensures { let c = lent_of table.now depths.now in
         let s' = lines first.new next.new at.new joined.new deepest.new in
         Starting measure c weights.now depths.now s' queue.new (e.0 + 1) }
 {
+    let Table {
+        heads,
+        own,
+        strikes,
+        spans,
+        tails,
+        ..
+    } = *table;
     let i = e.0 as usize;
     let mark = strikes[i];
     let struck = Mark(mark).is_struck();
@@ -313,11 +313,7 @@ fn begin(
 // Every hyperedge that is not struck waits or is offered.
 pub fn start(
     measure: Measure,
-    heads: &[u64],
-    own: &[u64],
-    strikes: &[u64],
-    spans: &[u64],
-    tails: &[u64],
+    table: &Table,
     weights: &[u64],
     depths: &[u64],
     first: &mut [u16],
@@ -327,21 +323,18 @@ pub fn start(
     deepest: &mut [u16],
     queue: &mut [u64],
 )
-    requires { let c = lent heads.now own.now strikes.now spans.now tails.now depths.now in
+    requires { let c = lent_of table.now depths.now in
         let s = lines first.old next.old at.old joined.old deepest.old in
         (Offerable c weights.now depths.now queue.old) × Empty measure c depths.now s queue.old }
-    ensures { let c = lent heads.now own.now strikes.now spans.now tails.now depths.now in
+    ensures { let c = lent_of table.now depths.now in
         let s' = lines first.new next.new at.new joined.new deepest.new in
         Rested measure c weights.now depths.now s' queue.new }
 {
-    let mut i = 0;
-    while i < heads.len() {
-        let number = i as u64;
-        let e = Hyperedge(number);
+    let Table { heads, .. } = *table;
+    for i in 0..heads.len() {
+        let e = Hyperedge(i as u64);
         begin(
-            measure, e, heads, own, strikes, spans, tails, weights, depths, first, next, at,
-            joined, deepest, queue,
+            measure, e, table, weights, depths, first, next, at, joined, deepest, queue,
         );
-        i += 1;
     }
 }

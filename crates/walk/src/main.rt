@@ -1,5 +1,7 @@
 // Goes over a table's text on standard input with the reader and prints, of each table line, its head,
 // its own figure and how many parts it lists. At the first text line that breaks a rule it stops.
+//
+// Kept: columns and rooms are lent, or arrays of a fixed size: the library and its programs use no heap.
 
 #![tactic(auto)]
 
@@ -10,15 +12,8 @@ ghost use Rattle.walk.specs.Walked.{walked_of};
 use columns::{MOST_EDGES, MOST_LISTED};
 use input::{BUFFER_LENGTH, read_input};
 use reader::line_from;
-use reading::{FirstLine, Line, first_line};
+use reading::first_line;
 use weights::{Mark, Vertex, Weight};
-
-// Where a walk ends: at the text's end, or at the text line that breaks a rule.
-#[derive(Clone, Copy)]
-enum Walked {
-    End,
-    Stopped(u64),
-}
 
 // What is printed is let go where it can not be written.
 fn put_number(rt: &impl Print, v: u64) {
@@ -48,33 +43,33 @@ fn put_stop(rt: &impl Print, line: u64) {
     let _ = rt.print("\n");
 }
 
-// The reader holds every number to its limit; the lines and the parts in all are counted here.
-fn walk(rt: &impl Print, text: &[u8]) -> Walked
+// A walk ends at the text's end, or fails at the text line that breaks a rule. The reader holds every
+// number to its limit; the lines and the parts in all are counted here.
+fn walk(rt: &impl Print, text: &[u8]) -> Result<(), u64>
     ensures { result ≡ walked_of (parse text.now) }
 {
-    let first = first_line(text);
-    let FirstLine::Read(n, _, start) = first else {
-        return Walked::Stopped(1);
+    let Ok(first) = first_line(text) else {
+        return Err(1);
     };
-    let mut at = start;
+    let mut at = first.next;
     let mut edges: usize = 0;
     let mut listed: usize = 0;
+    // Kept: a turn goes on by a line of the text, and no index is counted.
     while at < text.len() {
         let here = edges as u64 + 2;
         let full = edges >= MOST_EDGES;
         if full {
-            return Walked::Stopped(here);
+            return Err(here);
         }
-        let line = line_from(text, at, n, MOST_LISTED - listed);
-        let Line::Edge(head, own, mark, count, next) = line else {
-            return Walked::Stopped(here);
+        let Ok(line) = line_from(text, at, first.vertices, MOST_LISTED - listed) else {
+            return Err(here);
         };
-        put_line(rt, head, own, mark, count);
+        put_line(rt, line.head, line.own, line.mark, line.listed);
         edges += 1;
-        listed += count;
-        at = next;
+        listed += line.listed;
+        at = line.next;
     }
-    Walked::End
+    Ok(())
 }
 
 fn main(rt: HostRuntime) {
@@ -92,9 +87,7 @@ fn main(rt: HostRuntime) {
         put_stop(&rt, 1);
         return;
     }
-    let walked = walk(&rt, &input[..length]);
-    match walked {
-        Walked::End => {}
-        Walked::Stopped(line) => put_stop(&rt, line),
+    if let Err(line) = walk(&rt, &input[..length]) {
+        put_stop(&rt, line);
     }
 }

@@ -9,15 +9,15 @@ ghost use Rattle.weights.specs.Measures.{algebra};
 ghost use Rattle.weights.specs.Labels.{ahead_of, state_of, entry_of};
 
 // A part, and a line of the table, each by its number: one is never taken for the other.
-#[derive(Clone, Copy)]
+#[derive(Clone, Copy, PartialEq, Eq)]
 pub struct Vertex(pub u64);
 
-#[derive(Clone, Copy)]
+#[derive(Clone, Copy, PartialEq, Eq, PartialOrd, Ord)]
 pub struct Hyperedge(pub u64);
 
 // The paper's measure: by cost a line's own figure and the figures of its parts are added, by days
 // its own figure and the greatest of its parts'; by grade the least of them all counts.
-#[derive(Clone, Copy)]
+#[derive(Clone, Copy, PartialEq, Eq)]
 pub enum Measure {
     Cost,
     Days,
@@ -25,7 +25,7 @@ pub enum Measure {
 }
 
 // The paper's figure: an own figure of a line, or the figure of a part.
-#[derive(Clone, Copy)]
+#[derive(Clone, Copy, PartialEq, Eq, PartialOrd, Ord)]
 pub struct Weight(pub u64);
 
 impl Weight {
@@ -44,14 +44,14 @@ impl Weight {
     pub fn is_over(self) -> bool
         ensures { result ≡ is_over self.0 }
     {
-        self.0 == Weight::OVER.0
+        self == Weight::OVER
     }
 
     // The capped sum. It wraps for no two numbers.
     pub fn plus(self, other: Weight) -> Weight
         ensures { result.0 ≡ capped (self.0 + other.0) }
     {
-        if self.0 > Weight::CEILING.0 {
+        if self > Weight::CEILING {
             return Weight::OVER;
         }
         if other.0 > Weight::CEILING.0 - self.0 {
@@ -63,10 +63,7 @@ impl Weight {
     pub fn lesser(self, other: Weight) -> Weight
         ensures { result.0 ≡ min self.0 other.0 }
     {
-        if self.0 > other.0 {
-            return other;
-        }
-        self
+        self.min(other)
     }
 }
 
@@ -98,15 +95,15 @@ impl Weight {
         ensures { result ≡ (algebra measure).leq self.0 other.0 }
     {
         match measure {
-            Measure::Cost => self.0 <= other.0,
-            Measure::Days => self.0 <= other.0,
-            Measure::Grade => self.0 >= other.0,
+            Measure::Cost => self <= other,
+            Measure::Days => self <= other,
+            Measure::Grade => self >= other,
         }
     }
 }
 
 // The paper's strike mark of a line: it stands, or is struck. A mark is never taken for a figure.
-#[derive(Clone, Copy)]
+#[derive(Clone, Copy, PartialEq, Eq, PartialOrd, Ord)]
 pub struct Mark(pub u64);
 
 impl Mark {
@@ -117,45 +114,34 @@ impl Mark {
     pub fn is_struck(self) -> bool
         ensures { result ≡ is_struck_mark self.0 }
     {
-        self.0 == Mark::STRUCK.0
+        self == Mark::STRUCK
     }
 }
 
 // Three numbers of a part's entry: the figure, the depth and the chosen line, which is the root
 // of its chosen make-up. Depth 0 is unmade, and then all three are 0.
-#[derive(Clone, Copy)]
+#[derive(Clone, Copy, PartialEq, Eq)]
 pub struct Label {
     pub weight: Weight,
     pub depth: u64,
     pub edge: Hyperedge,
 }
 
-// A label, where there is one.
-#[derive(Clone, Copy)]
-pub enum Offer {
-    Nothing,
-    Found(Label),
-}
-
 // Whether a comes before b, or is b: by weight, then by depth, then by hyperedge.
 pub fn ahead(measure: Measure, a: Label, b: Label) -> bool
     ensures { result ≡ ahead_of (algebra measure) a b }
 {
-    let x = a.weight;
-    let y = b.weight;
-    if x.0 != y.0 {
-        return x.no_worse(measure, y);
+    if a.weight != b.weight {
+        return a.weight.no_worse(measure, b.weight);
     }
     if a.depth != b.depth {
         return a.depth < b.depth;
     }
-    let i = a.edge;
-    let j = b.edge;
-    i.0 <= j.0
+    a.edge <= b.edge
 }
 
 // The paper's state of a part.
-#[derive(Clone, Copy)]
+#[derive(Clone, Copy, PartialEq, Eq)]
 pub enum State {
     Made,
     Over,
@@ -164,7 +150,7 @@ pub enum State {
 
 // A part's entry: its state, which figure and depth tell, the three numbers of its label, and how
 // many bought pieces its chosen make-up holds.
-#[derive(Clone, Copy)]
+#[derive(Clone, Copy, PartialEq, Eq)]
 pub struct Entry {
     pub state: State,
     pub weight: Weight,
@@ -177,15 +163,11 @@ impl Entry {
     pub fn of(label: Label, pieces: u64) -> Entry
         ensures { result ≡ entry_of label pieces }
     {
-        let weight = label.weight;
-        let edge = label.edge;
-        let depth = label.depth;
-        let state = State::of(weight, depth);
         Entry {
-            state,
-            weight,
-            depth,
-            edge,
+            state: State::of(label.weight, label.depth),
+            weight: label.weight,
+            depth: label.depth,
+            edge: label.edge,
             pieces,
         }
     }

@@ -11,7 +11,6 @@ use Rattle.weights.specs.Figures.{is_struck_mark}
 use Rattle.weights.specs.Choice.{pick}
 use Rattle.weights.specs.Lists.{member}
 use Rattle.weights.proofs.Choice.{both_true}
-use Rattle.refusal.specs.declared.Acceptance.TheVariants.{Accepted}
 use Rattle.columns.specs.Columns.{Columns, columns, head_at, own_at, strike_at, tail_at}
 use Rattle.columns.specs.Acceptance.{most_vertices, all_below, acceptance}
 use Rattle.columns.proofs.Accepted.{table_accepted}
@@ -28,6 +27,7 @@ use Rattle.writing.proofs.Widths.{width_4, width_20}
 use Rattle.reply.specs.Reply.{most_reply}
 use Rattle.reply.proofs.Room.{behind_starts, behind_room, written_behind}
 use Rattle.whereused.specs.WhereUsed.{use_row, use_rows, most_use, RowIn}
+use Rattle.std.specs.Prelude.{Ok}
 
 -- Bounds -----------------------------------------------------------------------------------------------------------------------------------------
 
@@ -59,7 +59,7 @@ line_short x f =
     omega arith
 
 -- a line of an accepted table, in a room for its row
-pub row_in : (c : Columns) (i room : ℕ) → acceptance c ≡ Accepted → i < length c.heads → most_use ≤ room
+pub row_in : (c : Columns) (i room : ℕ) → acceptance c ≡ Ok tt → i < length c.heads → most_use ≤ room
     → RowIn (columns 0 c.heads c.own c.strikes c.spans c.tails) i room
 unfolding use_row
 row_in c i room p h g =
@@ -134,7 +134,7 @@ module _ (c : Columns) (v : ℕ) where
         (written_behind (below i) old at room w most_use fits (added c v i) r new k x)
 
 -- all of them fit the room of a reply
-below-short : (c : Columns) (v i : ℕ) → acceptance c ≡ Accepted → i ≤ length c.heads → length (below c v i) ≤ most_use * i
+below-short : (c : Columns) (v i : ℕ) → acceptance c ≡ Ok tt → i ≤ length c.heads → length (below c v i) ≤ most_use * i
 unfolding use_row use_rows uses_below
 below-short c v zero p h = omega arith
 below-short c v (suc i) p h =
@@ -145,5 +145,5 @@ below-short c v (suc i) p h =
     let l = length-append (below c v i) (added c v i) in
     omega arith
 
-pub rows_fit : (c : Columns) (v : ℕ) → acceptance c ≡ Accepted → length (below c v (length c.heads)) ≤ most_reply
+pub rows_fit : (c : Columns) (v : ℕ) → acceptance c ≡ Ok tt → length (below c v (length c.heads)) ≤ most_reply
 rows_fit c v p = let b = below-short c v (length c.heads) p (omega arith) in let m = (table_accepted c p).edges in omega arith

@@ -7,7 +7,6 @@ use lib.ListN.{length}
 use lib.Dec.{ltb}
 use borrow.Author.Tests.{lt-ltb, le-ltb}
 use Rattle.refusal.specs.declared.Refusal.TheVariants.{NoSuchVertex}
-use Rattle.refusal.specs.declared.Acceptance.TheVariants.{Accepted}
 use Rattle.columns.specs.Columns.{Columns}
 use Rattle.columns.specs.Acceptance.{acceptance}
 use Rattle.text.proofs.Digits.{pick_by}
@@ -19,6 +18,7 @@ use Rattle.reply.specs.declared.Reply.{Reply}
 use Rattle.reply.specs.Reply.{most_reply, Said, answered, refused_by, Replied}
 use Rattle.whereused.specs.WhereUsed.{use_rows, uses_of, uses_said}
 use Rattle.whereused.proofs.Rows.{below, rows_fit}
+use Rattle.std.specs.Prelude.{Ok}
 
 module _ (c : Columns) (v : ℕ) (old : List ℕ) where
   pub reply_absent : c.vertices ≤ v → (y : Reply) (room : List ℕ) → Replied (refused_by NoSuchVertex) old y room → Replied (uses_said c v) old y room
@@ -34,7 +34,7 @@ module _ (c : Columns) (v : ℕ) (old : List ℕ) where
       rw (lt-ltb v c.vertices h) p
 
 -- what is said fits the room of a reply
-pub uses_fit : (c : Columns) (v : ℕ) → acceptance c ≡ Accepted → length (uses_said c v).bytes ≤ most_reply
+pub uses_fit : (c : Columns) (v : ℕ) → acceptance c ≡ Ok tt → length (uses_said c v).bytes ≤ most_reply
 unfolding uses_said
 uses_fit c v p =
     let w = refused_most NoSuchVertex (omega arith) (omega arith) in

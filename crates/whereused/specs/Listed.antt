@@ -1,7 +1,6 @@
 -- What is told of the lines that need a part: which they are, and what is printed of them. Assumes nothing: these are definitions.
-use Rattle.std.specs.Prelude.{◌≡◌, List, [], ◌∷◌, ◌++◌, ℕ, suc, ◌≤◌, ◌<◌, length}
+use Rattle.std.specs.Prelude.{◌≡◌, List, [], ◌∷◌, ◌++◌, ℕ, suc, ◌≤◌, ◌<◌, length, Ok}
 use Rattle.refusal.specs.declared.Refusal.TheVariants.{NoSuchVertex}
-use Rattle.refusal.specs.declared.Acceptance.TheVariants.{Accepted}
 use Rattle.columns.specs.Columns.{Columns, cell, tail_at}
 use Rattle.columns.specs.Acceptance.{acceptance}
 use Rattle.reply.specs.Reply.{most_reply, answered, refused_by}
@@ -19,4 +18,4 @@ pub record UsesTold (c : Columns) (v : ℕ) : Type 0 where
   pub needing : Needing c v (length c.heads) lines
   pub printed : v < c.vertices → uses_said c v ≡ answered (use_rows c lines)
   pub absent : c.vertices ≤ v → uses_said c v ≡ refused_by NoSuchVertex
-  pub fits : acceptance c ≡ Accepted → length (uses_said c v).bytes ≤ most_reply
+  pub fits : acceptance c ≡ Ok tt → length (uses_said c v).bytes ≤ most_reply

@@ -1,19 +1,22 @@
 // The lines that need a part, as they stand in the text, each behind its number.
+//
+// Kept: columns and rooms are lent, or arrays of a fixed size: the library and its programs use no heap.
 
 #![tactic(auto)]
 
-ghost use Rattle.std.specs.Prelude.{◌≡◌, [], ◌∷◌, ◌++◌, ◌≤◌, length};
+ghost use Rattle.std.specs.Prelude.{◌≡◌, [], ◌∷◌, ◌++◌, ◌≤◌, length, Ok};
 ghost use Rattle.weights.specs.Choice.{pick};
 ghost use Rattle.weights.specs.Lists.{member};
-ghost use Rattle.refusal.specs.declared.Acceptance.TheVariants.{Accepted};
 ghost use Rattle.columns.specs.Columns.{columns, tail_at};
 ghost use Rattle.columns.specs.Acceptance.{acceptance};
+ghost use Rattle.columns.specs.Given.{columns_of};
 ghost use Rattle.text.specs.Tables.{edge};
 ghost use Rattle.text.specs.Render.{digits, edge_text};
 ghost use Rattle.writing.specs.Written.{Written};
 ghost use Rattle.reply.specs.Reply.{most_reply, Replied};
 ghost use Rattle.whereused.specs.WhereUsed.{use_row, uses_said, most_use, RowIn};
 
+use columns::Table;
 use refusal::Refusal;
 use reply::{Reply, Status, put_refusal};
 use weights::{Hyperedge, Mark, Vertex, Weight};
@@ -50,21 +53,20 @@ fn put_row(
 }
 
 // The row of a line if it needs the part, and nothing if it does not.
-fn put_use(
-    room: &mut [u8],
-    heads: &[u64],
-    own: &[u64],
-    strikes: &[u64],
-    spans: &[u64],
-    tails: &[u64],
-    e: Hyperedge,
-    part: Vertex,
-) -> usize
-    requires { RowIn (columns 0 heads.now own.now strikes.now spans.now tails.now) e.0 (length room.old) }
-    ensures fact { let c = columns 0 heads.now own.now strikes.now spans.now tails.now in
+fn put_use(room: &mut [u8], table: &Table, e: Hyperedge, part: Vertex) -> usize
+    requires { RowIn (columns 0 table.now.heads.now table.now.own.now table.now.strikes.now table.now.spans.now table.now.tails.now) e.0 (length room.old) }
+    ensures fact { let c = columns 0 table.now.heads.now table.now.own.now table.now.strikes.now table.now.spans.now table.now.tails.now in
         Written (pick (member part.0 (tail_at c e.0)) (use_row c e.0) []) room.old result room.new }
     ensures upper_bound { result ≤ most_use }
 {
+    let Table {
+        heads,
+        own,
+        strikes,
+        spans,
+        tails,
+        ..
+    } = *table;
     let tail = columns::tail_of(e, spans, tails);
     if !uses::stands_in(tail, part) {
         return 0;
@@ -77,30 +79,24 @@ fn put_use(
 }
 
 // The lines of an accepted table that need a part.
-pub fn put_uses(
-    room: &mut [u8],
-    n: u64,
-    heads: &[u64],
-    own: &[u64],
-    strikes: &[u64],
-    spans: &[u64],
-    tails: &[u64],
-    part: Vertex,
-) -> Reply
-    requires tails_value { acceptance (columns n heads.now own.now strikes.now spans.now tails.now) ≡ Accepted }
+pub fn put_uses(room: &mut [u8], table: &Table, part: Vertex) -> Reply
+    requires tails_value { acceptance (columns_of table.now) ≡ (Ok tt) }
     requires most_reply_in_bounds { most_reply ≤ length room.old }
-    ensures { let c = columns n heads.now own.now strikes.now spans.now tails.now in
+    ensures { let c = columns_of table.now in
         Replied (uses_said c part.0) room.old result room.new }
 {
+    let Table {
+        vertices: n,
+        heads,
+        ..
+    } = *table;
     if part.0 >= n {
         return put_refusal(room, Refusal::NoSuchVertex);
     }
     let mut at: usize = 0;
-    let mut i = 0;
-    while i < heads.len() {
+    for i in 0..heads.len() {
         let e = Hyperedge(i as u64);
-        at += put_use(&mut room[at..], heads, own, strikes, spans, tails, e, part);
-        i += 1;
+        at += put_use(&mut room[at..], table, e, part);
     }
     Reply {
         width: at,

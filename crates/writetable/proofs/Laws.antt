@@ -11,9 +11,6 @@ use borrow.Author.Tests.{lt-ltb, le-leb, lt-leb}
 use Rattle.weights.specs.declared.Measure.{Measure}
 use Rattle.refusal.specs.declared.Refusal.TheVariants.{TextRoom}
 use Rattle.refusal.specs.declared.Refusal.{Refusal}
-use Rattle.refusal.specs.declared.Acceptance.{Acceptance}
-use Rattle.refusal.specs.declared.Acceptance.TheVariants.{Accepted, Refused}
-use Rattle.refusal.specs.declared.Extent.TheVariants as extent
 use Rattle.columns.specs.Lent.{Placed}
 use Rattle.columns.specs.Columns.{Columns, head_at, own_at, strike_at, offset_at, length_at, tail_at}
 use Rattle.columns.specs.Acceptance.{most_vertices, most_edges, most_listed, all_below, acceptance}
@@ -24,7 +21,9 @@ use Rattle.text.specs.Rows.{EdgeFits}
 use Rattle.writing.specs.Written.{Written}
 use Rattle.writing.proofs.Written.{lent-room, within, written_part, written_as}
 use Rattle.writing.proofs.Widths.{line_most, header_most}
-use Rattle.writetable.specs.Write.{write_outcome, write_text, write_as, write_table}
+use Rattle.writetable.specs.Write.{write_outcome, write_text, write_as, write_table, Writable}
+use Rattle.refusal.specs.Answers.{Acceptance}
+use Rattle.std.specs.Prelude.{Ok, Err}
 
 -- A hyperedge of an accepted table ----------------------------------------------------------------------------------------------------------
 
@@ -45,7 +44,7 @@ pub record EdgeHere (c : Columns) (i : ℕ) : Type 0 where
   pub placed : Placed c.spans c.tails i
   pub fits : EdgeFits most_vertices (edge (head_at c i) (own_at c i) (strike_at c i) (tail_at c i))
 
-pub edge_here : (c : Columns) (i : ℕ) → acceptance c ≡ Accepted → i < length c.heads → EdgeHere c i
+pub edge_here : (c : Columns) (i : ℕ) → acceptance c ≡ Ok tt → i < length c.heads → EdgeHere c i
 edge_here c i p h =
     let t = table_accepted c p in
     let a = (t.each i h).1 in
@@ -111,7 +110,7 @@ pub record Measured (c : Columns) (start width i : ℕ) : Type 0 where
 pub measured_none : (c : Columns) (start : ℕ) → start ≤ 2000 → Measured c start start 0
 measured_none c start h = record { bytes = []; passed = passed_none c; is = omega arith; small = h; most = omega arith }
 
-pub measured_next : (c : Columns) (start width i w : ℕ) → acceptance c ≡ Accepted → i < length c.heads → w ≡ length (line_of c i) → Measured c start width i → Measured c start (width + w) (i + 1)
+pub measured_next : (c : Columns) (start width i w : ℕ) → acceptance c ≡ Ok tt → i < length c.heads → w ≡ length (line_of c i) → Measured c start width i → Measured c start (width + w) (i + 1)
 measured_next c start width i w a h e m =
     let b = line_most (edge (head_at c i) (own_at c i) (strike_at c i) (tail_at c i)) (edge_here c i a h).fits in
     let l = length-append m.bytes (line_of c i) in
@@ -127,7 +126,7 @@ measured_all m c start width i e h g =
     omega arith
 
 -- the whole text, measured: its length is below 2^32
-module _ (m : Measure) (c : Columns) (a : acceptance c ≡ Accepted) where
+module _ (m : Measure) (c : Columns) (a : acceptance c ≡ Ok tt) where
   abbrev begins : ℕ
   begins = length (header c.vertices m)
 
@@ -198,6 +197,21 @@ tail_fits c i e h = subst (λ (vs : List ℕ). EdgeFits most_vertices (edge (hea
 pub tail_line : (c : Columns) (i : ℕ) {vs : List ℕ} → vs ≡ tail_at c i → edge_text (edge (head_at c i) (own_at c i) (strike_at c i) vs) ++ 10 ∷ [] ≡ line_of c i
 tail_line c i e = ap (λ (vs : List ℕ). edge_text (edge (head_at c i) (own_at c i) (strike_at c i) vs) ++ 10 ∷ []) e
 
+-- one line more is measured, and written, of what the code takes for the tail
+module _ (c : Columns) (start i : ℕ) {vs : List ℕ} (h : i < length c.heads) (e : vs ≡ tail_at c i) where
+  pub line_measured : (width w : ℕ) → acceptance c ≡ Ok tt → w ≡ length (edge_text (edge (head_at c i) (own_at c i) (strike_at c i) vs) ++ 10 ∷ [])
+      → Measured c start width i → Measured c start (width + w) (i + 1)
+  line_measured width w a q m = measured_next c start width i w a h (q ∙ ap length (tail_line c i e)) m
+
+  pub line_put : (room₀ : List ℕ) (at : ℕ) (room : List ℕ) (p : Putting c start room₀ i at room) (r : ℕ) (new : List ℕ)
+      → Written (edge_text (edge (head_at c i) (own_at c i) (strike_at c i) vs) ++ 10 ∷ []) (take (length room - at) (drop at room)) r new
+      → Putting c start room₀ (i + 1) (at + r) (take at room ++ (new ++ drop (length room - at) (drop at room)))
+  line_put room₀ at room p r new g = putting_next c start room₀ i at room p r new h (written_as (take (length room - at) (drop at room)) r new (tail_line c i e) g)
+
+-- room for the text is room for its first line
+pub header_fits : (m : Measure) (c : Columns) (n : ℕ) → Writable m c n → length (header c.vertices m) ≤ n
+header_fits m c n w = let r = render-length m c in let f = w.fits in omega arith
+
 -- Room for the next line, and for all
 module _ (m : Measure) (c : Columns) (start : ℕ) (room₀ : List ℕ) (i at : ℕ) (room old : List ℕ) (p : Putting c start room₀ i at room) (w : Written (header c.vertices m) old start room₀)
     (f : length (render m c) ≤ length old) where
@@ -228,17 +242,17 @@ module _ (m : Measure) (c : Columns) (start : ℕ) (room₀ : List ℕ) (i at : 
 -- The call ------------------------------------------------------------------------------------------------------------------------------------
 
 -- the room is too short, and it is not
-pub write_short : (text room : List ℕ) → length room < length text → write_outcome (extent.Refused TextRoom) room ≡ write_text text room
+pub write_short : (text room : List ℕ) → length room < length text → write_outcome (Err TextRoom) room ≡ write_text text room
 unfolding write_text
 write_short text room h = rw (lt-leb (length text) (length room) h)
 
-pub write_whole : (text room new : List ℕ) (n : ℕ) → length text ≤ length room → n ≡ length text → Written text room (length text) new → write_outcome (extent.Length n) new ≡ write_text text room
+pub write_whole : (text room new : List ℕ) (n : ℕ) → length text ≤ length room → n ≡ length text → Written text room (length text) new → write_outcome (Ok n) new ≡ write_text text room
 unfolding write_text
-write_whole text room new n h e w = rw (le-leb (length text) (length room) h) (ap₂ (λ (a : ℕ) (b : List ℕ). write_outcome (extent.Length a) b) e w.room_is)
+write_whole text room new n h e w = rw (le-leb (length text) (length room) h) (ap₂ (λ (a : ℕ) (b : List ℕ). write_outcome (Ok a) b) e w.room_is)
 
 -- by what the check of the table says
-pub write_refused : (m : Measure) (c : Columns) (room : List ℕ) (r : Refusal) → acceptance c ≡ Refused r → write_outcome (extent.Refused r) room ≡ write_table m c room
+pub write_refused : (m : Measure) (c : Columns) (room : List ℕ) (r : Refusal) → acceptance c ≡ Err r → write_outcome (Err r) room ≡ write_table m c room
 write_refused m c room r e = ap (λ (a : Acceptance). write_as a (render m c) room) (sym e)
 
-pub write_accepted : (m : Measure) (c : Columns) (room : List ℕ) → acceptance c ≡ Accepted → write_text (render m c) room ≡ write_table m c room
+pub write_accepted : (m : Measure) (c : Columns) (room : List ℕ) → acceptance c ≡ Ok tt → write_text (render m c) room ≡ write_table m c room
 write_accepted m c room e = ap (λ (a : Acceptance). write_as a (render m c) room) (sym e)

@@ -1,9 +1,8 @@
 -- By what writing a table is refused. The paper's "Writing: 1 to 6, then 15", with 21 between 4 and 5 of a line (document 02, 2026-02). Assumes nothing: these are definitions.
-use Rattle.std.specs.Prelude.{List, ℕ, ◌≤◌, length}
+use Rattle.std.specs.Prelude.{List, ℕ, ◌≤◌, length, Ok, Err}
 use Rattle.weights.specs.declared.Measure.{Measure}
 use Rattle.refusal.specs.declared.Refusal.{Refusal}
 use Rattle.refusal.specs.declared.Refusal.TheVariants.{TextRoom}
-use Rattle.refusal.specs.declared.Extent.TheVariants.{Length, Refused}
 use Rattle.columns.specs.Columns.{Columns}
 use Rattle.columns.specs.Filled.{filled}
 use Rattle.columns.specs.Owed.{Owed}
@@ -25,4 +24,4 @@ abbrev pub WriteOwes : Measure → Columns → (entry : List ℕ) → WriteOutco
 WriteOwes m c entry o =
     let text = render m c in
     let n = length entry in
-    Owed Refused entry (RightWrite m c n) (λ _. Length (length text)) (λ _. filled text entry) (WrongWrite m c n) o.answer o.room
+    Owed Err entry (RightWrite m c n) (λ _. Ok (length text)) (λ _. filled text entry) (WrongWrite m c n) o.answer o.room

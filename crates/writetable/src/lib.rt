@@ -2,95 +2,80 @@
 
 #![tactic(auto)]
 
-ghost use Rattle.std.specs.Prelude.{◌≡◌, length};
-ghost use Rattle.refusal.specs.declared.Acceptance.TheVariants.{Accepted};
-ghost use Rattle.columns.specs.Columns.{columns};
+ghost use Rattle.std.specs.Prelude.{◌≡◌, length, Ok};
 ghost use Rattle.columns.specs.Acceptance.{acceptance};
+ghost use Rattle.columns.specs.Given.{columns_of};
 ghost use Rattle.text.specs.Render.{render};
 ghost use Rattle.writing.specs.Written.{Written};
 ghost use Rattle.writetable.specs.Write.{write_outcome, write_table, Writable};
 
-use columns::check_table;
-use refusal::{Acceptance, Extent, Refusal};
+use columns::{Table, check_table};
+use refusal::Refusal;
 use weights::{Hyperedge, Mark, Measure, Vertex, Weight};
 use writing::{edge_width, header_width, put_edge, put_header};
 
 // How many bytes the text of an accepted table has.
-fn text_width(
-    measure: Measure,
-    n: u64,
-    heads: &[u64],
-    own: &[u64],
-    strikes: &[u64],
-    spans: &[u64],
-    tails: &[u64],
-) -> usize
-    requires { acceptance (columns n heads.now own.now strikes.now spans.now tails.now) ≡ Accepted }
-    ensures { result ≡ length (render measure (columns n heads.now own.now strikes.now spans.now tails.now)) }
+fn text_width(measure: Measure, table: &Table) -> usize
+    requires { acceptance (columns_of table.now) ≡ (Ok tt) }
+    ensures { result ≡ length (render measure (columns_of table.now)) }
 {
+    let Table {
+        vertices: n,
+        heads,
+        own,
+        strikes,
+        spans,
+        tails,
+    } = *table;
     let mut width = header_width(n, measure);
-    let mut i = 0;
-    while i < heads.len() {
-        let head = Vertex(heads[i]);
-        let weight = Weight(own[i]);
-        let mark = Mark(strikes[i]);
+    for (i, head) in heads.iter().enumerate() {
         let tail = columns::tail_of(Hyperedge(i as u64), spans, tails);
-        width += edge_width(head, weight, mark, tail);
-        i += 1;
+        width += edge_width(Vertex(*head), Weight(own[i]), Mark(strikes[i]), tail);
     }
     width
 }
 
 // The text of an accepted table is written from the room's start.
-fn put_text(
-    measure: Measure,
-    n: u64,
-    heads: &[u64],
-    own: &[u64],
-    strikes: &[u64],
-    spans: &[u64],
-    tails: &[u64],
-    room: &mut [u8],
-)
-    requires { Writable measure (columns n heads.now own.now strikes.now spans.now tails.now) (length room.old) }
-    ensures { let c = columns n heads.now own.now strikes.now spans.now tails.now in
+fn put_text(measure: Measure, table: &Table, room: &mut [u8])
+    requires { Writable measure (columns_of table.now) (length room.old) }
+    ensures { let c = columns_of table.now in
         Written (render measure c) room.old (length (render measure c)) room.new }
 {
+    let Table {
+        vertices: n,
+        heads,
+        own,
+        strikes,
+        spans,
+        tails,
+    } = *table;
     let mut at = put_header(room, n, measure);
-    let mut i = 0;
-    while i < heads.len() {
-        let head = Vertex(heads[i]);
-        let weight = Weight(own[i]);
-        let mark = Mark(strikes[i]);
+    for (i, head) in heads.iter().enumerate() {
         let tail = columns::tail_of(Hyperedge(i as u64), spans, tails);
-        at += put_edge(&mut room[at..], head, weight, mark, tail);
-        i += 1;
+        at += put_edge(
+            &mut room[at..],
+            Vertex(*head),
+            Weight(own[i]),
+            Mark(strikes[i]),
+            tail,
+        );
     }
 }
 
 // A table is written, or refused: by 1 to 6 and 21 where its columns are not accepted, or where the
 // room is too short. The text is measured before a byte is written.
-pub fn write_table(
-    measure: Measure,
-    n: u64,
-    heads: &[u64],
-    own: &[u64],
-    strikes: &[u64],
-    spans: &[u64],
-    tails: &[u64],
-    room: &mut [u8],
-) -> Extent
-    ensures { let c = columns n heads.now own.now strikes.now spans.now tails.now in
+pub fn write_table(measure: Measure, table: &Table, room: &mut [u8]) -> Result<u64, Refusal>
+    ensures { let c = columns_of table.now in
         write_outcome result room.new ≡ write_table measure c room.old }
 {
-    let checked = check_table(n, heads, own, strikes, spans, tails);
-    if let Acceptance::Refused(r) = checked {
-        return Extent::Refused(r);
+    let checked = check_table(table);
+    if let Err(r) = checked {
+        return Err(r);
     }
-    let width = text_width(measure, n, heads, own, strikes, spans, tails);
+    let width = text_width(measure, table);
     if width > room.len() {
-        return Extent::Refused(Refusal::TextRoom);
+        return Err(Refusal::TextRoom);
     }
-    put_text(measure, n, heads, own, strikes, spans, tails, room);
-    Extent::Length(width as u64)
+    put_text(measure, table, room);
+    Ok(width as u64)
 }

@@ -2,7 +2,6 @@
 use mathlib.Core.Path.{◌≡◌, refl, sym, ◌∙◌, ap}
 use mathlib.Core.List.{List, [], ◌∷◌, ◌++◌, append_assoc, append-nil}
 use Prim.Native.Nat.{ℕ, suc, ◌+◌, ◌-◌, ◌/◌, ◌%◌, ◌≤◌, ◌<◌}
-use native.Mathlib.Numerals.{add-one}
 use native.Mathlib.Omega.{arith}
 use lib.ListN.{length, get_or, take, drop, set, length-append, length-set, take-append-drop}
 use lib.Seq.{take-suc, set_at, length-take-le, take_all}
@@ -10,6 +9,7 @@ use Rattle.text.specs.Render.{digits, tail_text}
 use Rattle.text.proofs.Digits.{digits_one}
 use Rattle.text.proofs.Sound.{tail_text-append}
 use Rattle.columns.specs.Filled.{filled}
+use Rattle.columns.proofs.Filled.{length-filled}
 use Rattle.writing.proofs.Widths.{last_digit, width_more, width_one, one_listed}
 use Rattle.writing.specs.Written.{Written}
 use Rattle.writing.proofs.Written.{written_byte, lent, lent-room, within, written_part, written_as}
@@ -79,14 +79,11 @@ digits_written old room i x v n h c w = record {
 
 -- Bytes --------------------------------------------------------------------------------------------------------------------------------------
 
-module _ (bytes old room : List ℕ) (i : ℕ) where
-  pub bytes_next : i < length bytes → length bytes ≤ length old → Written (take i bytes) old i room → Written (take (i + 1) bytes) old (i + 1) (set room i (get_or bytes i 0))
-  bytes_next h l w =
-      let q : take i bytes ++ get_or bytes i 0 ∷ [] ≡ take (i + 1) bytes = sym (ap (λ (z : ℕ). take z bytes) (add-one i) ∙ take-suc bytes i 0 h) in
-      written_as old (i + 1) (set room i (get_or bytes i 0)) q (written_byte (take i bytes) old i room w (get_or bytes i 0) (omega arith))
-
-  pub bytes_all : length bytes ≤ i → Written (take i bytes) old i room → Written bytes old i room
-  bytes_all h w = written_as old i room (take_all i bytes h) w
+pub bytes_copied : (bytes old new : List ℕ) → new ≡ bytes → length bytes ≤ length old → Written bytes old (length bytes) (new ++ drop (length bytes) old)
+unfolding filled
+bytes_copied bytes old new e h =
+    let q : new ++ drop (length bytes) old ≡ filled bytes old = ap (λ (z : List ℕ). z ++ drop (length bytes) old) e in
+    record { count = refl; room_is = q; long = ap length q ∙ length-filled bytes old h }
 
 -- Pieces of a line, and of the first line --------------------------------------------------------------------------------------------------------
 

@@ -12,7 +12,7 @@ use borrow.Author.Tests.{ltb-true, ltb-false}
 use Rattle.weights.specs.declared.Measure.{Measure}
 use Rattle.weights.specs.declared.Measure.TheVariants.{Cost, Days, Grade}
 use Rattle.weights.specs.Figures.{greatest, is_struck_mark}
-use Rattle.columns.specs.Acceptance.{most_vertices}
+use Rattle.columns.specs.Acceptance.{most_vertices, longest_tail}
 use Rattle.columns.proofs.Accepted.{below_at}
 use Rattle.text.specs.Tables.{Edge}
 use Rattle.text.specs.Render.{digits, first_word, word, measure_text, header, mark_text, own_text, tail_text, edge_text}
@@ -34,6 +34,27 @@ width_more x h = ap length (last_digit x h) ∙ length-append (digits (x / 10)) 
 
 pub width_one : (x : ℕ) → x < 10 → length (digits x) ≡ 1
 width_one x h = ap length (digits_one x h)
+
+pub digits_some : (x : ℕ) → 0 < length (digits x)
+digits_some x = go (ltb x 10) refl
+  where
+    go : (b : Bool) → ltb x 10 ≡ b → 0 < length (digits x)
+    go true e = let w = width_one x (ltb-true x 10 e) in omega arith
+    go false e = let w = width_more x (ltb-false x 10 e) in omega arith
+
+pub several_digits : (x : ℕ) → 1 < length (digits x) → 10 ≤ x
+several_digits x h = go (ltb x 10) refl
+  where
+    go : (b : Bool) → ltb x 10 ≡ b → 10 ≤ x
+    go true e = let w = width_one x (ltb-true x 10 e) in absurd (omega arith)
+    go false e = ltb-false x 10 e
+
+pub one_digit : (x : ℕ) → length (digits x) ≤ 1 → x < 10
+one_digit x h = go (ltb x 10) refl
+  where
+    go : (b : Bool) → ltb x 10 ≡ b → x < 10
+    go true e = ltb-true x 10 e
+    go false e = let w = width_more x (ltb-false x 10 e) in let s = digits_some (x / 10) in absurd (omega arith)
 
 -- a number has no more digits than its value and one
 pub width_most : (v : ℕ) → length (digits v) ≤ v + 1
@@ -109,6 +130,11 @@ module _ (vs : List ℕ) (j : ℕ) (h : j < length vs) where
   pub listed_most : TailFits vs → length (digits (get_or vs j 0)) ≤ most_vertices
   listed_most f = let b = below_at most_vertices vs f.below j h in let w = width_most (get_or vs j 0) in omega arith
 
+-- one vertex more, by the digits w of its number
+pub listed_step : (vs : List ℕ) (j width w : ℕ) → j < length vs → TailFits vs → w ≡ length (digits (get_or vs j 0)) → width ≡ length (tail_text (take j vs)) + 1
+    → (w ≤ most_vertices) × (width + (1 + w) ≡ length (tail_text (take (j + 1) vs)) + 1) × (length vs ≤ longest_tail)
+listed_step vs j width w h f e i = let m = listed_most vs j h f in let n = width_listed vs j h in (omega arith, omega arith, f.short)
+
 pub width_tail : (vs : List ℕ) (j : ℕ) → length vs ≤ j → length (tail_text vs ++ 10 ∷ []) ≡ length (tail_text (take j vs)) + 1
 width_tail vs j h = length-append (tail_text vs) (10 ∷ []) ∙ ap (λ (z : List ℕ). length (tail_text z) + 1) (sym (take_all j vs h))
 
@@ -141,6 +167,11 @@ measure_most Grade = omega arith
 pub line_split : (e : Edge) → edge_text e ++ 10 ∷ [] ≡ (digits e.head ++ (32 ∷ own_text e.own e.mark)) ++ (tail_text e.tail ++ 10 ∷ [])
 unfolding edge_text
 line_split e = append_assoc (digits e.head ++ (32 ∷ own_text e.own e.mark)) (tail_text e.tail) (10 ∷ [])
+
+-- room for a line is room for its pieces
+pub line_fits : (e : Edge) (old : List ℕ) → length (edge_text e ++ 10 ∷ []) ≤ length old
+    → length ((digits e.head ++ (32 ∷ own_text e.own e.mark)) ++ (tail_text e.tail ++ 10 ∷ [])) ≤ length old
+line_fits e old h = rw (← line_split e) h
 
 pub line_width : (e : Edge) → length (edge_text e ++ 10 ∷ []) ≡ length (digits e.head) + length (32 ∷ own_text e.own e.mark) + length (tail_text e.tail ++ 10 ∷ [])
 line_width e =

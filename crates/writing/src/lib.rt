@@ -1,5 +1,7 @@
 // Measuring and writing the pieces of a text: a number, an own weight, a line, the first line. Each
 // piece is written from the start of the room that it is lent, and its width is returned.
+//
+// Kept: columns and rooms are lent, or arrays of a fixed size: the library and its programs use no heap.
 
 #![tactic(auto)]
 
@@ -19,8 +21,9 @@ pub fn number_width(v: u64) -> usize
 {
     let mut n: usize = 1;
     let mut rest = v;
+    // Kept: no index is counted; `rest` ends the loop.
     while rest >= 10 {
-        rest = rest / 10;
+        rest /= 10;
         n += 1;
     }
     n
@@ -31,12 +34,10 @@ pub fn put_number(room: &mut [u8], v: u64) -> usize
     ensures { Written (digits v) room.old result room.new }
 {
     let width = number_width(v);
-    let mut i = width;
     let mut x = v;
-    while x >= 10 {
-        i -= 1;
+    for i in (1..width).rev() {
         room[i] = b'0' + (x % 10) as u8;
-        x = x / 10;
+        x /= 10;
     }
     room[0] = b'0' + x as u8;
     width
@@ -47,23 +48,17 @@ pub fn put_spaced(room: &mut [u8], v: u64) -> usize
     requires { length (32 ∷ digits v) ≤ length room.old }
     ensures { Written (32 ∷ digits v) room.old result room.new }
 {
-    room[0] = b' ';
-    let at: usize = 1;
-    let width = put_number(&mut room[at..], v);
-    at + width
+    put_led(room, b" ", v)
 }
 
 // Bytes as they are.
+#[tactic(auto, using(crate::proofs::Laws::bytes_copied))]
 pub fn put_bytes(room: &mut [u8], bytes: &[u8]) -> usize
     requires { length bytes.now ≤ length room.old }
     ensures { Written bytes.now room.old result room.new }
 {
-    let mut i = 0;
-    while i < bytes.len() {
-        room[i] = bytes[i];
-        i += 1;
-    }
-    i
+    room[..bytes.len()].copy_from_slice(bytes);
+    bytes.len()
 }
 
 // A number behind bytes.
@@ -104,10 +99,8 @@ pub fn tail_width(tail: &[u64]) -> usize
     ensures { result ≡ length (tail_text tail.now ++ 10 ∷ []) }
 {
     let mut width: usize = 1;
-    let mut j = 0;
-    while j < tail.len() {
-        width += 1 + number_width(tail[j]);
-        j += 1;
+    for v in tail {
+        width += 1 + number_width(*v);
     }
     width
 }
@@ -117,10 +110,8 @@ pub fn put_tail(room: &mut [u8], tail: &[u64]) -> usize
     ensures { Written (tail_text tail.now ++ 10 ∷ []) room.old result room.new }
 {
     let mut at: usize = 0;
-    let mut j = 0;
-    while j < tail.len() {
-        at += put_spaced(&mut room[at..], tail[j]);
-        j += 1;
+    for v in tail {
+        at += put_spaced(&mut room[at..], *v);
     }
     room[at] = b'\n';
     at + 1
@@ -155,24 +146,14 @@ pub fn put_edge(room: &mut [u8], head: Vertex, own: Weight, mark: Mark, tail: &[
 }
 
 // The end of the first line: the measure's word, and LF.
-fn measure_width(measure: Measure) -> usize
-    ensures { result ≡ length (measure_text measure) }
+#[tactic(auto, unfolding(text::specs::Render::measure_text, text::specs::Render::word))]
+fn word(measure: Measure) -> &'static [u8]
+    ensures { result.now ≡ measure_text measure }
 {
     match measure {
-        Measure::Cost => COST.len(),
-        Measure::Days => DAYS.len(),
-        Measure::Grade => GRADE.len(),
-    }
-}
-
-fn put_measure(room: &mut [u8], measure: Measure) -> usize
-    requires { length (measure_text measure) ≤ length room.old }
-    ensures { Written (measure_text measure) room.old result room.new }
-{
-    match measure {
-        Measure::Cost => put_bytes(room, &COST),
-        Measure::Days => put_bytes(room, &DAYS),
-        Measure::Grade => put_bytes(room, &GRADE),
+        Measure::Cost => &COST,
+        Measure::Days => &DAYS,
+        Measure::Grade => &GRADE,
     }
 }
 
@@ -180,7 +161,7 @@ pub fn header_width(n: u64, measure: Measure) -> usize
     requires { n ≤ most_vertices }
     ensures { result ≡ length (header n measure) }
 {
-    6 + number_width(n) + measure_width(measure)
+    6 + number_width(n) + word(measure).len()
 }
 
 pub fn put_header(room: &mut [u8], n: u64, measure: Measure) -> usize
@@ -188,6 +169,6 @@ pub fn put_header(room: &mut [u8], n: u64, measure: Measure) -> usize
     ensures { Written (header n measure) room.old result room.new }
 {
     let at = put_led(room, b"parts ", n);
-    let width = put_measure(&mut room[at..], measure);
+    let width = put_bytes(&mut room[at..], word(measure));
     at + width
 }

@@ -11,8 +11,8 @@ pub put_refusal-requires : goal.put_refusal-requires
 put_refusal-requires c = omega (arith, c.requires)
 
 -- what could be left to find is given: filled in, each would be a path counted out
-pub returns-in-Refused : goal.returns-in-Refused
-returns-in-Refused c =
+pub returns-in-Err : goal.returns-in-Err
+returns-in-Err c =
     let came : Entries = let a = c.args in entries a.weights.now a.depths.now a.edges.now a.pieces.now in
     let grown : Columns = columns c.args.n c.append-answer.new.heads c.append-answer.new.own c.append-answer.new.strikes c.append-answer.new.spans c.append-answer.new.tails in
     let left : Entries = entries c.append-answer.new.weights c.append-answer.new.depths c.append-answer.new.edges c.append-answer.new.pieces in
@@ -20,7 +20,7 @@ returns-in-Refused c =
     let table_of : Columns = let a = c.args in columns a.n a.heads.now a.own.now a.strikes.now a.spans.now a.tails.now in
     replied_as (appended-refused c.args.measure table_of c.args.in_use came c.args.index.now c.args.list.now line c.append-answer.result grown left
     c.append-answer.new.index c.append-answer.new.list c.append-answer.ensures
-    c.in-Refused.r c.in-Refused.is) refl c.put_refusal.ensures
+    c.in-Err.r c.in-Err.is) refl c.put_refusal.ensures
 
 pub put_in_use-requires : goal.put_in_use-requires
 put_in_use-requires c =
@@ -32,11 +32,11 @@ put_in_use-requires c =
     record {
       most_reply_in_bounds = c.requires;
       placed = counts_placed c.args.measure table_of c.args.in_use came c.args.index.now c.args.list.now line c.append-answer.result grown left
-          c.append-answer.new.index c.append-answer.new.list c.append-answer.ensures c.in-Counts.counts c.in-Counts.is;
+          c.append-answer.new.index c.append-answer.new.list c.append-answer.ensures c.in-Ok.counts c.in-Ok.is;
     }
 
-pub returns-in-Counts : goal.returns-in-Counts
-returns-in-Counts c =
+pub returns-in-Ok : goal.returns-in-Ok
+returns-in-Ok c =
     let came : Entries = let a = c.args in entries a.weights.now a.depths.now a.edges.now a.pieces.now in
     let grown : Columns = columns c.args.n c.append-answer.new.heads c.append-answer.new.own c.append-answer.new.strikes c.append-answer.new.spans c.append-answer.new.tails in
     let left : Entries = entries c.append-answer.new.weights c.append-answer.new.depths c.append-answer.new.edges c.append-answer.new.pieces in
@@ -44,4 +44,4 @@ returns-in-Counts c =
     let table_of : Columns = let a = c.args in columns a.n a.heads.now a.own.now a.strikes.now a.spans.now a.tails.now in
     replied_as (appended-counts c.args.measure table_of c.args.in_use came c.args.index.now c.args.list.now line c.append-answer.result grown left
     c.append-answer.new.index c.append-answer.new.list c.append-answer.ensures
-    c.in-Counts.counts c.in-Counts.is) refl c.put_in_use.ensures
+    c.in-Ok.counts c.in-Ok.is) refl c.put_in_use.ensures

@@ -16,20 +16,20 @@ slice_bounds-write_table-end-2 c =
 pub put_refusal-requires : goal.put_refusal-requires
 put_refusal-requires c =
     let large : most_input ≤ length c.args.room.now = omega (arith, c.requires) in
-    let k = ap length (room_kept _ _ c.args.room.now large _ _ c.write_table-extent.ensures _ c.in-Refused.is) in
+    let k = ap length (room_kept _ _ c.args.room.now large _ _ c.write_table-extent.ensures _ c.in-Err.is) in
     omega (arith, k, c.requires)
 
-pub returns-in-Refused : goal.returns-in-Refused
-returns-in-Refused c =
+pub returns-in-Err : goal.returns-in-Err
+returns-in-Err c =
     let large : most_input ≤ length c.args.room.now = omega (arith, c.requires) in
     let q = c.write_table-extent.ensures in
-    let e = c.in-Refused.is in
+    let e = c.in-Err.is in
     replied_as (text_refused _ _ c.args.room.now large _ _ q _ e) (room_kept _ _ c.args.room.now large _ _ q _ e) c.put_refusal.ensures
 
-pub shape_of-room-in-Refused : goal.shape_of-room-in-Refused
-shape_of-room-in-Refused c = (returns-in-Refused c).written.long
+pub shape_of-room-in-Err : goal.shape_of-room-in-Err
+shape_of-room-in-Err c = (returns-in-Err c).written.long
 
-pub returns-in-Length : goal.returns-in-Length
-returns-in-Length c =
+pub returns-in-Ok : goal.returns-in-Ok
+returns-in-Ok c =
     let large : most_input ≤ length c.args.room.now = omega (arith, c.requires) in
-    text_replied _ _ c.args.room.now large _ _ c.write_table-extent.ensures _ c.in-Length.is
+    text_replied _ _ c.args.room.now large _ _ c.write_table-extent.ensures _ c.in-Ok.is

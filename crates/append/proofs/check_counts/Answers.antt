@@ -4,14 +4,14 @@ use mathlib.Core.Bool.{Bool}
 use Prim.Native.Nat.{◌+◌}
 use lib.Dec.{leb}
 use Rattle.refusal.specs.declared.Refusal.TheVariants.{Lengths}
-use Rattle.refusal.specs.declared.Acceptance.{Acceptance}
-use Rattle.refusal.specs.declared.Acceptance.TheVariants.{Accepted}
 use Rattle.columns.specs.Columns.{columns}
 use Rattle.columns.specs.Acceptance.{most_listed, test}
 use Rattle.columns.specs.Longer.{end_in}
 use Rattle.append.specs.Appending.{counts_acceptance}
 use Rattle.append.proofs.Checks.{tests}
 use Rattle.append.proofs.check_counts.Goals as goal
+use Rattle.refusal.specs.Answers.{Acceptance}
+use Rattle.std.specs.Prelude.{Ok}
 
 pub returns-then-n-gt-MOST_VERTICES : goal.returns-then-n-gt-MOST_VERTICES
 unfolding counts_acceptance
@@ -48,15 +48,15 @@ returns-then-listed c = search tests
 pub returns-then-end_fits : goal.returns-then-end_fits
 unfolding counts_acceptance
 returns-then-end_fits c =
-    let last : Acceptance = let a = c.args in test (leb (end_in a.spans.now a.in_use.edges + a.size) most_listed) Lengths Accepted in
-    let tested : let a = c.args in last ≡ counts_acceptance (columns a.n a.heads.now a.own.now a.strikes.now a.spans.now a.tails.now) a.in_use a.size = search tests in
+    let last : Acceptance = let a = c.args in test (leb (end_in a.table.now.spans.now a.in_use.edges + a.size) most_listed) Lengths (Ok tt) in
+    let tested : let a = c.args in last ≡ counts_acceptance (columns a.table.now.vertices a.table.now.heads.now a.table.now.own.now a.table.now.strikes.now a.table.now.spans.now a.table.now.tails.now) a.in_use a.size = search tests in
     let t = sym c.end_fits.ensures ∙ c.if-end_fits.true in
-    ap (λ (b : Bool). test b Lengths Accepted) (sym t) ∙ tested
+    ap (λ (b : Bool). test b Lengths (Ok tt)) (sym t) ∙ tested
 
 pub returns : goal.returns
 unfolding counts_acceptance
 returns c =
-    let last : Acceptance = let a = c.args in test (leb (end_in a.spans.now a.in_use.edges + a.size) most_listed) Lengths Accepted in
-    let tested : let a = c.args in last ≡ counts_acceptance (columns a.n a.heads.now a.own.now a.strikes.now a.spans.now a.tails.now) a.in_use a.size = search tests in
+    let last : Acceptance = let a = c.args in test (leb (end_in a.table.now.spans.now a.in_use.edges + a.size) most_listed) Lengths (Ok tt) in
+    let tested : let a = c.args in last ≡ counts_acceptance (columns a.table.now.vertices a.table.now.heads.now a.table.now.own.now a.table.now.strikes.now a.table.now.spans.now a.table.now.tails.now) a.in_use a.size = search tests in
     let t = sym c.end_fits.ensures ∙ c.if-end_fits.false in
-    ap (λ (b : Bool). test b Lengths Accepted) (sym t) ∙ tested
+    ap (λ (b : Bool). test b Lengths (Ok tt)) (sym t) ∙ tested

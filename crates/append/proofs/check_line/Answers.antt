@@ -8,17 +8,17 @@ pub returns-then-head-n : goal.returns-then-head-n
 unfolding new_line_acceptance
 returns-then-head-n c = search tests
 
-pub returns-then-figure : goal.returns-then-figure
+pub returns-then-own : goal.returns-then-own
 unfolding new_line_acceptance
-returns-then-figure c = search tests
+returns-then-own c = search tests
 
 pub returns-then-mark : goal.returns-then-mark
 unfolding new_line_acceptance
 returns-then-mark c = search tests
 
-pub returns-then-needed-gt-LONGEST_TAIL : goal.returns-then-needed-gt-LONGEST_TAIL
+pub returns-then-tail-gt-LONGEST_TAIL : goal.returns-then-tail-gt-LONGEST_TAIL
 unfolding new_line_acceptance
-returns-then-needed-gt-LONGEST_TAIL c = search tests
+returns-then-tail-gt-LONGEST_TAIL c = search tests
 
 pub returns-then-all_below : goal.returns-then-all_below
 unfolding new_line_acceptance

@@ -33,12 +33,12 @@ pub returns-then-end-size : goal.returns-then-end-size
 unfolding room_acceptance
 returns-then-end-size c =
     let a = c.args in
-    let h : length a.tails.now < end_in a.spans.now a.lines + a.size = omega (arith, c.end_of-end.ensures, c.if-end-size.true) in
+    let h : length a.table.now.tails.now < end_in a.table.now.spans.now a.lines + a.size = omega (arith, c.end_of-end.ensures, c.if-end-size.true) in
     search tests
 
 pub returns : goal.returns
 unfolding room_acceptance
 returns c =
     let a = c.args in
-    let h : end_in a.spans.now a.lines + a.size ≤ length a.tails.now = omega (arith, c.end_of-end.ensures, c.if-end-size.false) in
+    let h : end_in a.table.now.spans.now a.lines + a.size ≤ length a.table.now.tails.now = omega (arith, c.end_of-end.ensures, c.if-end-size.false) in
     search tests

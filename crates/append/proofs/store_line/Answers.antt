@@ -11,4 +11,4 @@ bounds-spans-i-2 c = simp length-set (omega arith)
 pub returns : goal.returns
 returns c =
     let a = c.args in
-    (refl, (refl, (refl, (refl, put_back a.tails.now a.needed.now _ a.end c.put.ensures))))
+    (refl, (refl, (refl, (refl, put_back a.tails.now a.line.now.tail.now _ a.end c.put.ensures))))

@@ -9,11 +9,11 @@ pub tail_bill-loop-i-init : goal.tail_bill-loop-i-init
 tail_bill-loop-i-init t c = none_written c.requires 0
 
 -- the part of a turn is grounded
-pub tail_bill-offset_bounds-edges-part : goal.tail_bill-offset_bounds-edges-part
-tail_bill-offset_bounds-edges-part t c = omega (arith, (next-below c.requires c.loop-i.i c.loop-i-test.true).vertex)
+pub tail_bill-offset_bounds-edges-v : goal.tail_bill-offset_bounds-edges-v
+tail_bill-offset_bounds-edges-v t c = omega (arith, (next-below c.requires c.loop-i.i c.loop-i-test.true).vertex)
 
-pub tail_bill-bounds-edges-part : goal.tail_bill-bounds-edges-part
-tail_bill-bounds-edges-part t c = (next-below c.requires c.loop-i.i c.loop-i-test.true).vertex
+pub tail_bill-bounds-edges-v : goal.tail_bill-bounds-edges-v
+tail_bill-bounds-edges-v t c = (next-below c.requires c.loop-i.i c.loop-i-test.true).vertex
 
 pub tail_bill-overflow_mul-listed : goal.tail_bill-overflow_mul-listed
 tail_bill-overflow_mul-listed t c = omega (arith, (next-below c.requires c.loop-i.i c.loop-i-test.true).placed.span)

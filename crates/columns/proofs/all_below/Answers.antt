@@ -1,24 +1,14 @@
-use mathlib.Core.Path.{refl, ◌∙◌, ap}
-use Prim.Native.Nat.{ℕ, ◌+◌}
+-- `columns::all_below` meets its contract: the loop is a fold. Assumes nothing.
+use mathlib.Core.Path.{◌≡◌, ◌∙◌}
+use mathlib.Core.Bool.{true, ◌&&◌}
 use native.Mathlib.Omega.{arith}
-use Rattle.columns.proofs.Laws.{below_from, below_more, below_stop, below_end}
+use lib.Dec.{ltb}
+use Rattle.std.specs.List.{fold}
+use Rattle.std.proofs.lemmas.Grind.{common_steps}
+use Rattle.columns.proofs.Laws.{below_fold}
 use Rattle.columns.proofs.all_below.Goals as goal
-use Rattle.columns.proofs.all_below.Goals.{then-list-k, else-list-k}
-
-pub loop-k-init : goal.loop-k-init
-unfolding below_from
-loop-k-init c = (omega arith, refl)
-
-pub loop-k-preserved : goal.loop-k-preserved
-loop-k-preserved c =
-    let a = c.args in
-    let h = c.loop-k-test.true in (
-      omega arith,
-      elim c.if-list-k.branch [
-        | then-list-k w ↦ ap (λ (x : ℕ). below_from a.n a.list.now x (c.loop-k.k + 1)) w.above-is ∙ below_stop _ _ _ _ h w.if-list-k.true ∙ c.loop-k.invariant.1
-        | else-list-k w ↦ ap (λ (x : ℕ). below_from a.n a.list.now x (c.loop-k.k + 1)) w.above-is ∙ below_more _ _ _ _ h w.if-list-k.false ∙ c.loop-k.invariant.1
-      ],
-    )
 
 pub returns : goal.returns
-returns c = below_end _ _ _ _ c.loop-k-test.false ∙ c.loop-k.invariant.1
+returns c =
+    let e : c.fold.result ≡ fold (λ b v. b && ltb v c.args.n) true c.args.list.now = grind (arith, common_steps) in
+    e ∙ below_fold _ _ true

@@ -1,35 +1,18 @@
-use mathlib.Core.Path.{◌≡◌, sym, ◌∙◌}
-use native.Mathlib.Nat.{sub-zero}
+use mathlib.Core.Path.{sym, ◌∙◌}
 use native.Mathlib.Omega.{arith}
-use Rattle.refusal.specs.declared.Acceptance.TheVariants.{Accepted}
-use Rattle.columns.specs.Columns.{Columns, columns}
-use Rattle.columns.specs.Acceptance.{edge_at}
 use Rattle.columns.proofs.Accepted.{edge_accepted}
 use Rattle.columns.proofs.Laws.{edges_step, edges_stop, edges_end}
+use Rattle.refusal.proofs.Passed.{passed_on}
 use Rattle.columns.proofs.check_edges.Goals as goal
 
-pub loop-i-init : goal.loop-i-init
-loop-i-init c = (omega arith, rw sub-zero)
-
-pub returns-in-Refused : goal.returns-in-Refused
-returns-in-Refused c =
-    let table : Columns = let a = c.args in columns a.n a.heads.now a.own.now a.strikes.now a.spans.now a.tails.now in
-    let here = edge_at table c.loop-i.i c.loop-i.end in
-    edges_stop table _ _ _ _ c.loop-i-test.true (◌∙◌ {a = here} (sym {b = here} c.check_edge-a.ensures) c.in-Refused.is) ∙ c.loop-i.invariant.1
+pub returns-in_err-check_edge : goal.returns-in_err-check_edge
+returns-in_err-check_edge c = rw (passed_on _ c.from_residual.ensures.1) (edges_stop _ _ _ _ _ c.loop-i-test.true (sym c.check_edge.ensures ∙ c.in_err-check_edge.was) ∙ c.loop-i.invariant)
 
 pub overflow_add-end : goal.overflow_add-end
-overflow_add-end c =
-    let table : Columns = let a = c.args in columns a.n a.heads.now a.own.now a.strikes.now a.spans.now a.tails.now in
-    let passed : edge_at table c.loop-i.i c.loop-i.end ≡ Accepted = sym c.check_edge-a.ensures ∙ c.in-Accepted.is in
-    omega (arith, (edge_accepted _ _ _ _ _ _ _ _ _ passed).within)
+overflow_add-end c = omega (arith, (edge_accepted _ _ _ _ _ _ _ _ _ (sym c.check_edge.ensures ∙ c.in_ok-check_edge.was)).within)
 
 pub loop-i-preserved : goal.loop-i-preserved
-loop-i-preserved c =
-    let table : Columns = let a = c.args in columns a.n a.heads.now a.own.now a.strikes.now a.spans.now a.tails.now in
-    let passed : edge_at table c.loop-i.i c.loop-i.end ≡ Accepted = sym c.check_edge-a.ensures ∙ c.in-Accepted.is in
-    (omega arith, edges_step table _ _ _ c.loop-i-test.true passed ∙ c.loop-i.invariant.1)
+loop-i-preserved c = edges_step _ _ _ _ c.loop-i-test.true (sym c.check_edge.ensures ∙ c.in_ok-check_edge.was) ∙ c.loop-i.invariant
 
 pub returns : goal.returns
-returns c =
-    let table : Columns = let a = c.args in columns a.n a.heads.now a.own.now a.strikes.now a.spans.now a.tails.now in
-    edges_end table _ _ _ c.loop-i-test.false ∙ c.loop-i.invariant.1
+returns c = edges_end _ _ _ _ c.loop-i-test.false ∙ c.loop-i.invariant

@@ -14,4 +14,4 @@ pub returns : goal.returns
 unfolding found_number
 returns c =
     let n = c.number_at-token in
-    ap (as_next n.result.stop) (sym c.in-Number.is) ∙ ap (λ (t : Token). as_next t.stop t.found) n.ensures
+    ap (as_next n.result.stop) (sym c.in-Some.is) ∙ ap (λ (t : Token). as_next t.stop t.found) n.ensures

@@ -1,14 +1,9 @@
 -- `command::numbers_from` meets its contract. The invariant: what is left gathers what the whole gathers. Assumes nothing.
 use mathlib.Core.Path.{◌≡◌}
-use Prim.Native.Nat.{◌-◌, ◌≤◌}
+use Prim.Native.Nat.{◌-◌}
 use lib.ListN.{length}
 use Rattle.command.specs.Command.{numbers_from}
 use Rattle.command.proofs.numbers_from.Given as goal
 
 abbrev pub invariant-loop-i : goal.invariant-loop-i
-invariant-loop-i l =
-    (l.i ≤ length l.column) × (length l.column ≡ length l.initial.column)
-    × (numbers_from (length l.column - l.i) l.words l.at l.i l.column ≡ numbers_from (length l.initial.column) l.words l.from 0 l.initial.column)
-
-abbrev pub decreases-loop-i : goal.decreases-loop-i
-decreases-loop-i l = length l.column - l.i
+invariant-loop-i l = numbers_from (length l.column - l.i) l.words l.at l.i l.column ≡ numbers_from (length l.initial.column) l.words l.from 0 l.initial.column

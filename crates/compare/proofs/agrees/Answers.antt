@@ -1,9 +1,10 @@
--- `compare::agrees` meets its contract, by the states' numbers. Assumes nothing.
+-- `compare::agrees` meets its contract, by whether the states are equal. Assumes nothing.
+use mathlib.Core.Path.{sym, ◌∙◌}
 use Rattle.compare.proofs.Rows.{state_differs, by_figure}
 use Rattle.compare.proofs.agrees.Goals as goal
 
-pub returns-then-rank : goal.returns-then-rank
-returns-then-rank c = state_differs c.args.first c.args.second _ _ c.rank.ensures c.rank-2.ensures c.if-rank.true
+pub returns-then-eq : goal.returns-then-eq
+returns-then-eq c = c.eq-then-eq.ensures ∙ by_figure c.args.first c.args.second (sym c.eq.ensures ∙ c.if-eq.true)
 
-pub returns : goal.returns
-returns c = by_figure c.args.first c.args.second _ _ c.rank.ensures c.rank-2.ensures c.if-rank.false
+pub returns-else-eq : goal.returns-else-eq
+returns-else-eq c = c.if-eq.false ∙ state_differs c.args.first c.args.second (sym c.eq.ensures ∙ c.if-eq.false)

@@ -1,6 +1,7 @@
 use native.Mathlib.Omega.{arith}
 use borrow.Author.Rules.{rules}
-use Rattle.columns.specs.Columns.{Entries, entries}
+use Rattle.columns.specs.Columns.{Entries}
+use Rattle.columns.specs.Given.{entries_in}
 use Rattle.writing.proofs.Written.{written_none}
 use Rattle.compare.specs.Compare.{differences}
 use Rattle.compare.proofs.Rows.{row_starts, row_room, row_next, rows_all}
@@ -12,8 +13,8 @@ loop-i-init c = (omega arith, written_none _, omega arith)
 
 pub slice_bounds-put_row_if-count : goal.slice_bounds-put_row_if-count
 slice_bounds-put_row_if-count c =
-    let one : Entries = let a = c.args in entries a.weights.now a.depths.now a.edges.now a.pieces.now in
-    let two : Entries = let a = c.args in entries a.figures.now a.levels.now a.roots.now a.counts.now in
+    let one : Entries = entries_in c.args.entries.now in
+    let two : Entries = entries_in c.args.others.now in
     let g = c.loop-i in
     row_starts one two _ _ c.args.n g.i g.at c.loop-i-test.true g.invariant.1 g.invariant.2 c.requires
 
@@ -22,21 +23,15 @@ slice_bounds-put_row_if-start c = let r = slice_bounds-put_row_if-count c in sea
 
 pub put_row_if-at-requires : goal.put_row_if-at-requires
 put_row_if-at-requires c =
-    let one : Entries = let a = c.args in entries a.weights.now a.depths.now a.edges.now a.pieces.now in
-    let two : Entries = let a = c.args in entries a.figures.now a.levels.now a.roots.now a.counts.now in
+    let one : Entries = entries_in c.args.entries.now in
+    let two : Entries = entries_in c.args.others.now in
     let g = c.loop-i in
     row_room one two _ _ c.args.n g.i g.at c.loop-i-test.true g.invariant.1 g.invariant.2 c.requires
 
-pub overflow_add-i : goal.overflow_add-i
-overflow_add-i c =
-    let h = c.loop-i-test.true in
-    let f = c.ranges.n.fits in
-    omega arith
-
 pub loop-i-preserved : goal.loop-i-preserved
 loop-i-preserved c =
-    let one : Entries = let a = c.args in entries a.weights.now a.depths.now a.edges.now a.pieces.now in
-    let two : Entries = let a = c.args in entries a.figures.now a.levels.now a.roots.now a.counts.now in
+    let one : Entries = entries_in c.args.entries.now in
+    let two : Entries = entries_in c.args.others.now in
     let g = c.loop-i in
     let e = c.put_row_if-at.ensures in (
       (let h = c.loop-i-test.true in omega arith),

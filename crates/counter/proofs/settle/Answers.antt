@@ -3,9 +3,9 @@ use mathlib.Core.Path.{sym, ◌∙◌}
 use Rattle.counter.proofs.Laws.{settled_refused, settled_measure}
 use Rattle.counter.proofs.settle.Goals as goal
 
-pub returns-in-Refused : goal.returns-in-Refused
-returns-in-Refused c = settled_refused _ _ (sym c.measure_numbered-choice.ensures ∙ c.in-Refused.is) c.result.ensures
+pub returns-in-Err : goal.returns-in-Err
+returns-in-Err c = settled_refused _ _ (sym c.measure_numbered-choice.ensures ∙ c.in-Err.is) c.result.ensures
 
-pub returns-in-Measure : goal.returns-in-Measure
-returns-in-Measure c =
-    settled_measure _ _ (sym c.measure_numbered-choice.ensures ∙ c.in-Measure.is) c.result-in-Measure.ensures c.settle-a.ensures
+pub returns-in-Ok : goal.returns-in-Ok
+returns-in-Ok c =
+    settled_measure _ _ (sym c.measure_numbered-choice.ensures ∙ c.in-Ok.is) c.result-in-Ok.ensures c.settle-a.ensures

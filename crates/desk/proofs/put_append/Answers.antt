@@ -5,7 +5,6 @@ use Prim.Native.Nat.{ℕ, ◌*◌}
 use lib.ListN.{take, drop, replicate}
 use lib.Seq.{length-take-le}
 use Rattle.weights.specs.Figures.{standing}
-use Rattle.refusal.specs.declared.Reading.TheVariants as reading
 use Rattle.columns.specs.Columns.{Entries, entries}
 use Rattle.columns.specs.Acceptance.{most_vertices, most_listed}
 use Rattle.columns.specs.Longer.{NewLine, new_line}
@@ -16,6 +15,7 @@ use Rattle.desk.specs.Desk.{indexed_said, append_said}
 use Rattle.desk.proofs.Laws.{replied_as}
 use Rattle.desk.proofs.Appending.{append_refused, append_accepted, start_room, start_back, start_long, entries_back}
 use Rattle.desk.proofs.put_append.Goals as goal
+use Rattle.std.specs.Prelude.{Ok}
 
 pub slice_bounds-settle-end-2 : goal.slice_bounds-settle-end-2
 slice_bounds-settle-end-2 c = sym (length-take-le c.args.header.edges c.args.heads.now c.requires.stands.heads)
@@ -44,13 +44,13 @@ slice_bounds-settle-end-13 c = zeros_long c.args.header.vertices c.requires.stan
 pub slice_bounds-settle-end-14 : goal.slice_bounds-settle-end-14
 slice_bounds-settle-end-14 c = zeros_long c.args.header.vertices c.requires.stands.few
 
-pub returns-in-Refused : goal.returns-in-Refused
-returns-in-Refused c =
+pub returns-in-Err : goal.returns-in-Err
+returns-in-Err c =
     let left : Entries = entries c.settle-answer.new.weights c.settle-answer.new.depths c.settle-answer.new.edges c.settle-answer.new.pieces in
-    let lent : ReadOutcome = read_outcome (reading.Table c.args.header) c.args.heads.now c.args.own.now c.args.strikes.now c.args.spans.now c.args.tails.now in
+    let lent : ReadOutcome = read_outcome (Ok c.args.header) c.args.heads.now c.args.own.now c.args.strikes.now c.args.spans.now c.args.tails.now in
     let line : NewLine = new_line c.args.head.0 c.args.figure.0 standing c.args.needed.now in
     let said : Said = append_said c.args.header lent line in
-    let refused : said ≡ refused_by c.in-Refused.r = append_refused c.args.header lent line c.requires.stands.few _ left c.settle-answer.ensures _ c.in-Refused.is in
+    let refused : said ≡ refused_by c.in-Err.r = append_refused c.args.header lent line c.requires.stands.few _ left c.settle-answer.ensures _ c.in-Err.is in
     replied_as _ _ _ (sym refused) c.put_refusal.ensures
 
 pub slice_bounds-weights-end-2 : goal.slice_bounds-weights-end-2
@@ -96,10 +96,10 @@ slice_bounds-put_indexed-end-4 c =
 pub returns : goal.returns
 returns c =
     let left : Entries = entries c.settle-answer.new.weights c.settle-answer.new.depths c.settle-answer.new.edges c.settle-answer.new.pieces in
-    let lent : ReadOutcome = read_outcome (reading.Table c.args.header) c.args.heads.now c.args.own.now c.args.strikes.now c.args.spans.now c.args.tails.now in
+    let lent : ReadOutcome = read_outcome (Ok c.args.header) c.args.heads.now c.args.own.now c.args.strikes.now c.args.spans.now c.args.tails.now in
     let line : NewLine = new_line c.args.head.0 c.args.figure.0 standing c.args.needed.now in
     let said : Said = append_said c.args.header lent line in
-    let accepted : said ≡ indexed_said c.args.header lent left (replicate (2 * most_vertices) 0) (replicate most_listed 0) line = append_accepted c.args.header lent line c.requires.stands.few _ left c.settle-answer.ensures c.in-Accepted.is in
+    let accepted : said ≡ indexed_said c.args.header lent left (replicate (2 * most_vertices) 0) (replicate most_listed 0) line = append_accepted c.args.header lent line c.requires.stands.few _ left c.settle-answer.ensures c.in-Ok.is in
     let rest : List ℕ = drop c.args.header.vertices (replicate most_vertices 0) in
     let passed : let n = c.args.header.vertices in entries (take n (c.settle-answer.new.weights ++ rest)) (take n (c.settle-answer.new.depths ++ rest)) (take n (c.settle-answer.new.edges ++ rest)) (take n (c.settle-answer.new.pieces ++ rest)) ≡ left = let n = c.args.header.vertices in let h = c.requires.stands.few in entries_back (start_back n h c.settle-answer.new.weights rest c.settle-answer.auto.weights) (start_back n h c.settle-answer.new.depths rest c.settle-answer.auto.depths) (start_back n h c.settle-answer.new.edges rest c.settle-answer.auto.edges) (start_back n h c.settle-answer.new.pieces rest c.settle-answer.auto.pieces) in
     replied_as c.args.room.now _ c.put_indexed.new.room

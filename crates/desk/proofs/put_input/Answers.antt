@@ -18,22 +18,22 @@ put_command-requires c =
     let short : length c.args.input.now ≤ most_input = let h = c.if-input-gt-MOST_INPUT.false in omega arith in
     record {
       most_reply_in_bounds = c.requires.most_reply_in_bounds;
-      stands = input_stands c.args.input.now short _ _ _ _ _ _ c.read_table-reading.ensures _ c.in-Table.is;
+      stands = input_stands c.args.input.now short _ _ _ _ _ _ c.read_table-reading.ensures _ c.in-Ok.is;
       takes = c.requires.takes;
     }
 
-pub returns-in-Refused : goal.returns-in-Refused
+pub returns-in-Err : goal.returns-in-Err
 unfolding read_input
-returns-in-Refused c =
+returns-in-Err c =
     let short : length c.args.input.now ≤ most_input = let h = c.if-input-gt-MOST_INPUT.false in omega arith in
     replied_as _ _ _
-    (unread_said c.args.second.now c.args.command c.args.count c.args.numbers.now c.args.input.now short _ _ _ _ _ _ c.read_table-reading.ensures _ c.in-Refused.is)
-    c.put_refusal-in-Refused.ensures
+    (unread_said c.args.second.now c.args.command c.args.count c.args.numbers.now c.args.input.now short _ _ _ _ _ _ c.read_table-reading.ensures _ c.in-Err.is)
+    c.put_refusal-in-Err.ensures
 
-pub returns-in-Table : goal.returns-in-Table
+pub returns-in-Ok : goal.returns-in-Ok
 unfolding read_input
-returns-in-Table c =
+returns-in-Ok c =
     let short : length c.args.input.now ≤ most_input = let h = c.if-input-gt-MOST_INPUT.false in omega arith in
     replied_as _ _ _
-    (table_said_lem c.args.second.now c.args.command c.args.count c.args.numbers.now c.args.input.now short _ _ _ _ _ _ c.read_table-reading.ensures _ c.in-Table.is)
+    (table_said_lem c.args.second.now c.args.command c.args.count c.args.numbers.now c.args.input.now short _ _ _ _ _ _ c.read_table-reading.ensures _ c.in-Ok.is)
     c.put_command.ensures

@@ -12,4 +12,4 @@ returns-in_default c = event_is _ _ c.number_at-token.result _ c.if-at-text.fals
 pub returns : goal.returns
 returns c =
     let a = c.args in
-    c.pieces_at.ensures ∙ event_is a.text.now a.at c.number_at-token.result _ c.if-at-text.false c.number_at-token.ensures c.in-Number.is
+    c.pieces_at.ensures ∙ event_is a.text.now a.at c.number_at-token.result _ c.if-at-text.false c.number_at-token.ensures c.in-Some.is

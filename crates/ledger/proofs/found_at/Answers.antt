@@ -6,4 +6,4 @@ pub returns-in_default : goal.returns-in_default
 returns-in_default c = let n = c.number_at-token in found_is _ _ n.result n.ensures _ c.in_default.is
 
 pub returns : goal.returns
-returns c = let n = c.number_at-token in found_is _ _ n.result n.ensures _ c.in-Number.is
+returns c = let n = c.number_at-token in found_is _ _ n.result n.ensures _ c.in-Some.is

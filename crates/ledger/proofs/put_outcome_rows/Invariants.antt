@@ -1,6 +1,6 @@
 -- `ledger::put_outcome_rows` meets its contract. The invariant: the rows of the events so far are written, in at most as many times the bytes of a row.
 -- Assumes nothing.
-use Prim.Native.Nat.{◌-◌, ◌*◌, ◌≤◌}
+use Prim.Native.Nat.{◌*◌, ◌≤◌}
 use lib.ListN.{length}
 use Rattle.writing.specs.Written.{Written}
 use Rattle.ledger.specs.Ledger.{most_row}
@@ -10,6 +10,3 @@ use Rattle.ledger.proofs.put_outcome_rows.Given as goal
 abbrev pub invariant-loop-i : goal.invariant-loop-i
 invariant-loop-i l =
     (l.i ≤ length l.parts) × Written (rows_to l.parts l.outcomes l.i) l.initial.room l.at l.room × (l.at ≤ most_row * l.i)
-
-abbrev pub decreases-loop-i : goal.decreases-loop-i
-decreases-loop-i l = length l.parts - l.i

@@ -7,8 +7,5 @@ use Rattle.ledger.proofs.read_events.Given as goal
 
 abbrev pub invariant-loop-i : goal.invariant-loop-i
 invariant-loop-i l =
-    (l.i ≤ length l.parts) × (length l.parts ≡ length l.initial.parts) × (length l.received ≡ length l.initial.received) × (l.at ≤ length l.text)
+    (l.at ≤ length l.text)
     × (events_from (length l.parts - l.i) l.text l.at l.i l.parts l.received ≡ events_from (length l.initial.parts) l.text l.from 0 l.initial.parts l.initial.received)
-
-abbrev pub decreases-loop-i : goal.decreases-loop-i
-decreases-loop-i l = length l.parts - l.i

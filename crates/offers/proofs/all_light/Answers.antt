@@ -6,21 +6,17 @@ use Rattle.queue.specs.Keys.{heavy}
 use Rattle.offers.proofs.Passing.{share_more}
 use Rattle.offers.proofs.all_light.Goals as goal
 
-pub loop-i-init : goal.loop-i-init
+pub loop-weight-init : goal.loop-weight-init
 unfolding below_from
-loop-i-init c = (omega arith, omega arith, refl)
+loop-weight-init c = (omega arith, refl)
 
-pub overflow_add-shares : goal.overflow_add-shares
-overflow_add-shares c = omega (arith, c.share-shares.ensures.1, c.loop-i.invariant.1, c.requires, c.loop-i-test.true)
-
-pub loop-i-preserved : goal.loop-i-preserved
-loop-i-preserved c =
+pub loop-weight-preserved : goal.loop-weight-preserved
+loop-weight-preserved c =
     let xs = c.args.weights.now in
-    let i = c.loop-i.i in (
-      omega arith,
-      omega (arith, c.share-shares.ensures.1, c.loop-i.invariant.1),
-      ap (λ (z : ℕ). below_from heavy xs (c.loop-i.shares + z) (i + 1)) c.share-shares.ensures.0 ∙ share_more xs c.loop-i.shares i c.loop-i-test.true ∙ c.loop-i.invariant.2,
+    let i = c.loop-weight.weight-index in (
+      omega (arith, c.share-shares.ensures.1, c.loop-weight.invariant.0),
+      ap (λ (z : ℕ). below_from heavy xs (c.loop-weight.shares + z) (i + 1)) c.share-shares.ensures.0 ∙ share_more xs c.loop-weight.shares i c.loop-weight-test.true ∙ c.loop-weight.invariant.1,
     )
 
 pub returns : goal.returns
-returns c = below_end _ _ _ _ c.loop-i-test.false ∙ c.loop-i.invariant.2
+returns c = below_end _ _ _ _ c.loop-weight-test.false ∙ c.loop-weight.invariant.1

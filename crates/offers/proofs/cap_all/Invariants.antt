@@ -1,7 +1,5 @@
 -- `offers::cap_all` meets its contract. The invariant: the column is filled with the weights so far, capped. Assumes nothing.
 use mathlib.Core.Path.{◌≡◌}
-use Prim.Native.Nat.{◌≤◌, ◌-◌}
-use lib.ListN.{length}
 use Rattle.weights.specs.Figures.{capped}
 use Rattle.columns.specs.Columns.{cell}
 use Rattle.columns.specs.Filled.{filled}
@@ -10,7 +8,4 @@ use Rattle.offers.proofs.cap_all.Given as goal
 
 abbrev pub invariant-loop-i : goal.invariant-loop-i
 invariant-loop-i l =
-    (l.i ≤ length l.weights) × ((length l.column ≡ length l.initial.column) × (l.column ≡ filled (below (λ v. capped (cell l.weights v)) l.i) l.initial.column))
-
-abbrev pub decreases-loop-i : goal.decreases-loop-i
-decreases-loop-i l = length l.weights - l.i
+    l.column ≡ filled (below (λ v. capped (cell l.weights v)) l.i) l.fn.column

@@ -6,14 +6,8 @@ use lib.ListN.{length, take}
 use Rattle.columns.specs.Filled.{filled}
 use Rattle.offers.specs.Passing.{Light}
 use Rattle.offers.specs.Values.{values_of, heights_of, capped_column, Valuable}
-use Rattle.offers.proofs.Capping.{capped_room, capped_part, capped_light, valuable_capped, values_capped, heights_capped}
+use Rattle.offers.proofs.Capping.{capped_part, capped_light, valuable_capped, values_capped, heights_capped}
 use Rattle.offers.proofs.heavy_values.Goals as goal
-
-pub cap_all-requires : goal.cap_all-requires
-cap_all-requires c = c.requires.few
-
-pub slice_bounds-light_values-end : goal.slice_bounds-light_values-end
-slice_bounds-light_values-end c = capped_room c.args.weights.now _ c.requires.few c.cap_all.ensures
 
 pub light_values-requires : goal.light_values-requires
 light_values-requires c =

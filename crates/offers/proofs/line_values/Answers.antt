@@ -3,11 +3,5 @@ use mathlib.Core.Path.{sym, ◌∙◌}
 use Rattle.offers.proofs.Passing.{light_all}
 use Rattle.offers.proofs.line_values.Goals as goal
 
-pub all_light-requires : goal.all_light-requires
-all_light-requires c = c.requires.few
-
 pub light_values-requires : goal.light_values-requires
 light_values-requires c = (c.requires, light_all c.args.weights.now (sym c.all_light.ensures ∙ c.if-all_light.true))
-
-pub heavy_values-requires : goal.heavy_values-requires
-heavy_values-requires c = c.requires

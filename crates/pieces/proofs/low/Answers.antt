@@ -1,16 +1,12 @@
-use mathlib.Core.Path.{refl, ◌∙◌}
-use native.Mathlib.Omega.{arith}
-use Rattle.pieces.proofs.Sums.{low_pass, low_stop, low_end}
+-- `pieces::low` meets its contract: all are low, or one is not. Assumes nothing.
+use Prim.Native.Nat.{◌≤◌, ◌<◌}
+use borrow.Author.Tests.{tests}
+use Rattle.std.proofs.Common.{rules}
+use Rattle.std.proofs.lemmas.Iterator.{cases_from_all, YieldsList-from_slice}
+use Rattle.provenance.specs.Pieces.{most_pieces}
+use Rattle.pieces.proofs.Sums.{low_cases}
 use Rattle.pieces.proofs.low.Goals as goal
 
-pub loop-i-init : goal.loop-i-init
-loop-i-init c = (omega arith, refl)
-
-pub returns-then-pieces-i-gt-MOST_PIECES : goal.returns-then-pieces-i-gt-MOST_PIECES
-returns-then-pieces-i-gt-MOST_PIECES c = low_stop _ _ c.loop-i-test.true c.if-pieces-i-gt-MOST_PIECES.true ∙ c.loop-i.invariant.1
-
-pub loop-i-preserved : goal.loop-i-preserved
-loop-i-preserved c = (omega arith, low_pass _ _ c.loop-i-test.true c.if-pieces-i-gt-MOST_PIECES.false ∙ c.loop-i.invariant.1)
-
 pub returns : goal.returns
-returns c = low_end _ _ c.loop-i-test.false ∙ c.loop-i.invariant.1
+returns c =
+    low_cases _ _ (cases_from_all _ _ _ (λ p. p ≤ most_pieces) (λ p. most_pieces < p) c.all.ensures.ran (YieldsList-from_slice c.args.pieces.now cc) (λ x q k. search (rules, tests)) (λ x q k. search (rules, tests)))

@@ -1,9 +1,7 @@
-use mathlib.Core.Path.{◌≡◌, sym, ◌∙◌}
-use Prim.Native.Nat.{ℕ}
+use mathlib.Core.Path.{sym, ◌∙◌}
 use native.Mathlib.Omega.{arith}
-use Rattle.provenance.specs.Pieces.{piece_local}
-use Rattle.columns.specs.Columns.{cell, tail_of}
-use Rattle.pieces.proofs.Whole.{all_right, one_wrong, high_wrong, passed_more}
+use Rattle.std.proofs.Common.{below_more}
+use Rattle.pieces.proofs.Whole.{all_right, one_wrong, high_wrong}
 use Rattle.pieces.proofs.Sums.{low_is}
 use Rattle.pieces.proofs.pieces_right.Goals as goal
 
@@ -11,20 +9,18 @@ pub returns-then-not-low : goal.returns-then-not-low
 returns-then-not-low c = high_wrong _ _ _ _ _ (sym c.low.ensures ∙ c.if-not-low.true)
 
 pub loop-i-init : goal.loop-i-init
-loop-i-init c = (omega arith, λ u h. absurd (omega arith))
+loop-i-init c u h = absurd (omega arith)
 
 pub count_vertex-count-requires : goal.count_vertex-count-requires
 count_vertex-count-requires c =
-    (c.requires, low_is _ (sym c.low.ensures ∙ c.if-not-low.false), c.loop-i-test.true)
+    (c.requires, low_is _ (sym c.low.ensures ∙ c.if-not-low.false), omega (arith, c.requires.pieces_level, c.loop-i-test.true))
 
 pub returns-then-lent-count : goal.returns-then-lent-count
-returns-then-lent-count c = one_wrong c.requires c.loop-i.i c.loop-i-test.true (λ e. c.if-lent-count.true (e ∙ sym c.count_vertex-count.ensures))
+returns-then-lent-count c =
+    one_wrong c.requires c.loop-i.i (omega (arith, c.requires.pieces_level, c.loop-i-test.true)) (λ e. c.if-lent-count.true (e ∙ sym c.count_vertex-count.ensures))
 
 pub loop-i-preserved : goal.loop-i-preserved
-loop-i-preserved c =
-    -- the rule holds at u
-    let Holds : ℕ → Type 0 = λ u. let a = c.args in cell a.pieces.now u ≡ piece_local (tail_of a.spans.now a.tails.now) (cell a.depths.now) (cell a.edges.now) (cell a.pieces.now) u in
-    (omega arith, passed_more Holds c.loop-i.i c.loop-i.invariant.1 (c.if-lent-count.false ∙ c.count_vertex-count.ensures))
+loop-i-preserved c = below_more _ _ c.loop-i.invariant (c.if-lent-count.false ∙ c.count_vertex-count.ensures)
 
 pub returns : goal.returns
-returns c = all_right c.requires (λ v h. c.loop-i.invariant.1 v (omega arith))
+returns c = all_right c.requires (λ v h. c.loop-i.invariant v (omega (arith, c.requires.pieces_level, c.loop-i-test.false)))

@@ -1,11 +1,11 @@
 use mathlib.Core.Path.{sym, ◌∙◌, ap}
-use Prim.Native.Nat.{◌+◌, ◌-◌, ◌≤◌, ◌<◌}
 use native.Mathlib.Omega.{arith}
 use borrow.Author.Rules.{rules}
-use Rattle.refusal.specs.declared.Reading.TheVariants.{Refused}
-use Rattle.reading.proofs.Scanning.{Scanning, scan-begun}
+use Rattle.reading.proofs.Scanning.{scan-begun}
 use Rattle.reading.proofs.Laws.{refused_there, all_told, full_refused, line_refused, line-next}
+use Rattle.refusal.proofs.Passed.{passed_on}
 use Rattle.reading.proofs.check_lines.Goals as goal
+use Rattle.std.specs.Prelude.{Err}
 
 pub loop-at-init : goal.loop-at-init
 loop-at-init c = (search rules, scan-begun _ _ _ _ c.requires)
@@ -23,31 +23,27 @@ pub slice_bounds-line_at-end : goal.slice_bounds-line_at-end
 slice_bounds-line_at-end c = sym c.loop-at.invariant.0
 
 -- a line that fails
-pub returns-in-Refused : goal.returns-in-Refused
-returns-in-Refused c =
+pub returns-in_err-line : goal.returns-in_err-line
+returns-in_err-line c =
     let r =
-    line_refused _ _ _ _ _ _ c.loop-at.invariant.1 c.loop-at-test.true c.if-edges-ge-MOST_EDGES.false _ c.loop-at.invariant.0 _ _ c.line_at-line.ensures.answer _ c.in-Refused.is in
-    ap Refused r.1 ∙ refused_there _ _ _ _ r.2
+    line_refused _ _ _ _ _ _ c.loop-at.invariant.1 c.loop-at-test.true c.if-edges-ge-MOST_EDGES.false _ c.loop-at.invariant.0 _ _ c.line_at.ensures.answer _ c.in_err-line.was in
+    rw (passed_on _ c.from_residual.ensures.1) (ap Err r.1 ∙ refused_there _ _ _ _ r.2)
 
 pub overflow_add-edges : goal.overflow_add-edges
 overflow_add-edges c =
-    let next-line : let b = c.args in let r = c.in-Edge in (c.loop-at.at < r.next) × (r.count ≤ 16384 - c.loop-at.listed) × Scanning b.text.now b.n b.measure r.next (c.loop-at.edges + 1) (c.loop-at.listed + r.count) = line-next _ _ _ _ _ _ c.loop-at.invariant.1 c.loop-at-test.true c.if-edges-ge-MOST_EDGES.false _ c.loop-at.invariant.0 _ _ c.line_at-line.ensures.answer _ _ _ _ _ c.in-Edge.is in
-    let f = next-line.2.few in omega arith
+    let r = line-next _ _ _ _ _ _ c.loop-at.invariant.1 c.loop-at-test.true c.if-edges-ge-MOST_EDGES.false _ c.loop-at.invariant.0 _ _ c.line_at.ensures.answer _ c.in_ok-line.was in let f = r.2.few in omega arith
 
 pub overflow_add-listed : goal.overflow_add-listed
 overflow_add-listed c =
-    let next-line : let b = c.args in let r = c.in-Edge in (c.loop-at.at < r.next) × (r.count ≤ 16384 - c.loop-at.listed) × Scanning b.text.now b.n b.measure r.next (c.loop-at.edges + 1) (c.loop-at.listed + r.count) = line-next _ _ _ _ _ _ c.loop-at.invariant.1 c.loop-at-test.true c.if-edges-ge-MOST_EDGES.false _ c.loop-at.invariant.0 _ _ c.line_at-line.ensures.answer _ _ _ _ _ c.in-Edge.is in
-    let f = next-line.2.few_listed in omega arith
+    let r = line-next _ _ _ _ _ _ c.loop-at.invariant.1 c.loop-at-test.true c.if-edges-ge-MOST_EDGES.false _ c.loop-at.invariant.0 _ _ c.line_at.ensures.answer _ c.in_ok-line.was in let f = r.2.few_listed in omega arith
 
 pub loop-at-smaller : goal.loop-at-smaller
 loop-at-smaller c =
-    let next-line : let b = c.args in let r = c.in-Edge in (c.loop-at.at < r.next) × (r.count ≤ 16384 - c.loop-at.listed) × Scanning b.text.now b.n b.measure r.next (c.loop-at.edges + 1) (c.loop-at.listed + r.count) = line-next _ _ _ _ _ _ c.loop-at.invariant.1 c.loop-at-test.true c.if-edges-ge-MOST_EDGES.false _ c.loop-at.invariant.0 _ _ c.line_at-line.ensures.answer _ _ _ _ _ c.in-Edge.is in
-    let n = next-line in let h = n.0 in let w = n.2.within in omega arith
+    let r = line-next _ _ _ _ _ _ c.loop-at.invariant.1 c.loop-at-test.true c.if-edges-ge-MOST_EDGES.false _ c.loop-at.invariant.0 _ _ c.line_at.ensures.answer _ c.in_ok-line.was in let h = r.0 in let w = r.2.within in omega arith
 
 pub loop-at-preserved : goal.loop-at-preserved
 loop-at-preserved c =
-    let next-line : let b = c.args in let r = c.in-Edge in (c.loop-at.at < r.next) × (r.count ≤ 16384 - c.loop-at.listed) × Scanning b.text.now b.n b.measure r.next (c.loop-at.edges + 1) (c.loop-at.listed + r.count) = line-next _ _ _ _ _ _ c.loop-at.invariant.1 c.loop-at-test.true c.if-edges-ge-MOST_EDGES.false _ c.loop-at.invariant.0 _ _ c.line_at-line.ensures.answer _ _ _ _ _ c.in-Edge.is in
-    (search rules, next-line.2)
+    let r = line-next _ _ _ _ _ _ c.loop-at.invariant.1 c.loop-at-test.true c.if-edges-ge-MOST_EDGES.false _ c.loop-at.invariant.0 _ _ c.line_at.ensures.answer _ c.in_ok-line.was in (search rules, r.2)
 
 pub returns : goal.returns
 returns c = all_told _ _ _ _ _ _ c.loop-at.invariant.1 c.loop-at-test.false

@@ -3,18 +3,17 @@ use Rattle.std.proofs.Common.{◌≡◌, ℕ, ◌+◌, ◌≤◌, ◌<◌, max, 
 use Rattle.refusal.specs.declared.Refusal.{Refusal}
 use Rattle.columns.specs.Acceptance.{most_vertices}
 use Rattle.text.specs.Render.{word, first_word, measure_text}
-use Rattle.cursor.specs.declared.Found.TheVariants.{Number}
 use Rattle.cursor.specs.Cursor.{token, number_at}
 use Rattle.cursor.proofs.Counts.{number_counts, token_within}
-use Rattle.reading.specs.declared.FirstLine.TheVariants as first
 use Rattle.reading.specs.Lines.{agreeing, Opening, Unopened, first_of, on_count, on_counted, first_line, refused_at}
 use Rattle.reading.proofs.Scanning.{agrees_within}
 use Rattle.reading.proofs.Laws.{in_line, first_unopened, first_opened, count_silent, count_unspaced, count_cost, count_grade}
 use Rattle.reading.proofs.first_line.Goals as goal
+use Rattle.std.specs.Prelude.{Err, Some}
 
 -- what a fault's place says is refused there
-refused : (F : Opening) (place : ℕ) (r : Refusal) → r ≡ refused_at 1 0 place → Unopened place ≡ F → first.Refused r ≡ first_of F
-refused F place r e q = ap first.Refused e ∙ ap first_of q
+refused : (F : Opening) (place : ℕ) (r : Refusal) → r ≡ refused_at 1 0 place → Unopened place ≡ F → Err r ≡ first_of F
+refused F place r e q = ap Err e ∙ ap first_of q
 
 pub returns-then-same-lt6 : goal.returns-then-same-lt6
 unfolding first_word
@@ -47,7 +46,7 @@ returns-then-behind-eq10 c =
     let s = c.args.text.now in
     let t = c.number_at-count.result in
     let opened : on_counted s (number_at s 6 (most_vertices + 1)) ≡ first_line s = first_opened _ (subst (λ (k : ℕ). 6 ≤ k) c.agree-same.ensures c.if-same-lt6.false) in
-    let counted : number_at s 6 (most_vertices + 1) ≡ token t.start t.stop (Number c.in-Number.n) = sym c.number_at-count.ensures ∙ ap (token t.start t.stop) c.in-Number.is in
+    let counted : number_at s 6 (most_vertices + 1) ≡ token t.start t.stop (Some c.in-Some.n) = sym c.number_at-count.ensures ∙ ap (token t.start t.stop) c.in-Some.is in
     let ended : get_or s t.stop 0 ≡ 10 = sym c.byte_at-behind.ensures ∙ c.if-behind-eq10.true in
     ap first_of (count_silent _ _ _ _ _ counted ended ∙ opened)
 
@@ -55,7 +54,7 @@ pub refused_at-requires-then-behind-ne32 : goal.refused_at-requires-then-behind-
 refused_at-requires-then-behind-ne32 c =
     let s = c.args.text.now in
     let t = c.number_at-count.result in
-    let counted : number_at s 6 (most_vertices + 1) ≡ token t.start t.stop (Number c.in-Number.n) = sym c.number_at-count.ensures ∙ ap (token t.start t.stop) c.in-Number.is in
+    let counted : number_at s 6 (most_vertices + 1) ≡ token t.start t.stop (Some c.in-Some.n) = sym c.number_at-count.ensures ∙ ap (token t.start t.stop) c.in-Some.is in
     let h : t.stop ≤ length s = (number_counts _ _ _ _ _ _ counted).2 in
     in_line s 0 _ c.well_formed.0.1 (omega arith) (omega arith)
 
@@ -65,7 +64,7 @@ returns-then-behind-ne32 c =
     let s = c.args.text.now in
     let t = c.number_at-count.result in
     let opened : on_counted s (number_at s 6 (most_vertices + 1)) ≡ first_line s = first_opened _ (subst (λ (k : ℕ). 6 ≤ k) c.agree-same.ensures c.if-same-lt6.false) in
-    let counted : number_at s 6 (most_vertices + 1) ≡ token t.start t.stop (Number c.in-Number.n) = sym c.number_at-count.ensures ∙ ap (token t.start t.stop) c.in-Number.is in
+    let counted : number_at s 6 (most_vertices + 1) ≡ token t.start t.stop (Some c.in-Some.n) = sym c.number_at-count.ensures ∙ ap (token t.start t.stop) c.in-Some.is in
     let unended : get_or s t.stop 0 ≡ 10 → ⊥ = λ e. c.if-behind-eq10.false (c.byte_at-behind.ensures ∙ e) in
     refused _ _ _ c.refused_at-then-behind-ne32.ensures
     (count_unspaced _ _ _ _ _ counted unended (λ z. c.if-behind-ne32.true (c.byte_at-behind.ensures ∙ z)) ∙ opened)
@@ -77,7 +76,7 @@ returns-then-letter-eq99 c =
     let s = c.args.text.now in
     let t = c.number_at-count.result in
     let opened : on_counted s (number_at s 6 (most_vertices + 1)) ≡ first_line s = first_opened _ (subst (λ (k : ℕ). 6 ≤ k) c.agree-same.ensures c.if-same-lt6.false) in
-    let counted : number_at s 6 (most_vertices + 1) ≡ token t.start t.stop (Number c.in-Number.n) = sym c.number_at-count.ensures ∙ ap (token t.start t.stop) c.in-Number.is in
+    let counted : number_at s 6 (most_vertices + 1) ≡ token t.start t.stop (Some c.in-Some.n) = sym c.number_at-count.ensures ∙ ap (token t.start t.stop) c.in-Some.is in
     let unended : get_or s t.stop 0 ≡ 10 → ⊥ = λ e. c.if-behind-eq10.false (c.byte_at-behind.ensures ∙ e) in
     let spaced : get_or s t.stop 0 ≡ 32 = sym c.byte_at-behind.ensures ∙ c.if-behind-ne32.false in
     c.named.ensures
@@ -89,7 +88,7 @@ returns c =
     let s = c.args.text.now in
     let t = c.number_at-count.result in
     let opened : on_counted s (number_at s 6 (most_vertices + 1)) ≡ first_line s = first_opened _ (subst (λ (k : ℕ). 6 ≤ k) c.agree-same.ensures c.if-same-lt6.false) in
-    let counted : number_at s 6 (most_vertices + 1) ≡ token t.start t.stop (Number c.in-Number.n) = sym c.number_at-count.ensures ∙ ap (token t.start t.stop) c.in-Number.is in
+    let counted : number_at s 6 (most_vertices + 1) ≡ token t.start t.stop (Some c.in-Some.n) = sym c.number_at-count.ensures ∙ ap (token t.start t.stop) c.in-Some.is in
     let unended : get_or s t.stop 0 ≡ 10 → ⊥ = λ e. c.if-behind-eq10.false (c.byte_at-behind.ensures ∙ e) in
     let spaced : get_or s t.stop 0 ≡ 32 = sym c.byte_at-behind.ensures ∙ c.if-behind-ne32.false in
     c.named-2.ensures

@@ -5,11 +5,11 @@ use native.Mathlib.Omega.{arith}
 use borrow.Author.Tests.{lt-ltb, le-ltb}
 use lib.ListN.{length, drop, length-drop}
 use Rattle.columns.proofs.Filled.{part_whole}
-use Rattle.reading.specs.declared.FirstLine.TheVariants as first
 use Rattle.reading.specs.Lines.{agreeing, Opens, Unopened, first_of, on_word}
 use Rattle.reading.proofs.Scanning.{agrees_within}
 use Rattle.reading.proofs.Laws.{in_line}
 use Rattle.reading.proofs.named.Goals as goal
+use Rattle.std.specs.Prelude.{Err}
 
 pub overflow_add-place : goal.overflow_add-place
 overflow_add-place c =
@@ -32,7 +32,7 @@ returns-then-same-word c =
     let k = agreeing a.word.now (drop a.at a.text.now) in
     let h : k < length a.word.now = subst (λ (j : ℕ). j < length a.word.now) q c.if-same-word.true in
     let z : Unopened (a.at + k) ≡ on_word a.n a.measure a.at a.word.now k = rw (lt-ltb _ _ h) in
-    ap first.Refused c.refused_at.ensures ∙ ap first_of (ap (λ (j : ℕ). Unopened (a.at + j)) q ∙ z)
+    ap Err c.refused_at.ensures ∙ ap first_of (ap (λ (j : ℕ). Unopened (a.at + j)) q ∙ z)
 
 pub overflow_add-start : goal.overflow_add-start
 overflow_add-start c =

@@ -4,17 +4,16 @@ use Prim.Native.Nat.{ℕ, ◌+◌, ◌≤◌, max}
 use native.Mathlib.Omega.{arith}
 use lib.ListN.{length, get_or}
 use Rattle.refusal.specs.declared.Refusal.{Refusal}
-use Rattle.cursor.specs.declared.Found.TheVariants.{Number}
 use Rattle.cursor.specs.Cursor.{token, number_at, weight_at}
 use Rattle.cursor.proofs.Counts.{byte_within, token_within, weight_within}
-use Rattle.reading.specs.declared.Stem.TheVariants as stem
 use Rattle.reading.specs.Lines.{Stalk, Bare, stem_of, on_own, on_owned, on_head, on_headed, stem_at, refused_at, InLine}
 use Rattle.reading.proofs.Laws.{in_line, stem_none, stem_own}
 use Rattle.reading.proofs.stem_at.Goals as goal
+use Rattle.std.specs.Prelude.{Err, Some}
 
 -- what a fault's place says is refused there
-refused : (line at : ℕ) (S : Stalk) (place : ℕ) (r : Refusal) → r ≡ refused_at line at place → Bare place ≡ S → stem.Refused r ≡ stem_of line at S
-refused line at S place r e q = ap stem.Refused e ∙ ap (stem_of line at) q
+refused : (line at : ℕ) (S : Stalk) (place : ℕ) (r : Refusal) → r ≡ refused_at line at place → Bare place ≡ S → Err r ≡ stem_of line at S
+refused line at S place r e q = ap Err e ∙ ap (stem_of line at) q
 
 pub refused_at-requires : goal.refused_at-requires
 refused_at-requires c =
@@ -35,7 +34,7 @@ refused_at-requires-then-byte_at-ne32 c =
 pub returns-then-byte_at-ne32 : goal.returns-then-byte_at-ne32
 unfolding stem_at
 returns-then-byte_at-ne32 c =
-    let headed : let a = c.args in let t = c.number_at-head.result in number_at a.text.now a.at a.n ≡ token t.start t.stop (Number c.in-Number.v) = let t = c.number_at-head.result in sym c.number_at-head.ensures ∙ ap (token t.start t.stop) c.in-Number.is in
+    let headed : let a = c.args in let t = c.number_at-head.result in number_at a.text.now a.at a.n ≡ token t.start t.stop (Some c.in-Some.v) = let t = c.number_at-head.result in sym c.number_at-head.ensures ∙ ap (token t.start t.stop) c.in-Some.is in
     refused _ _ _ _ _ c.refused_at-then-byte_at-ne32.ensures (stem_none _ _ _ _ _ headed (λ e. c.if-byte_at-ne32.true (c.byte_at.ensures ∙ e)))
 
 pub overflow_add-from : goal.overflow_add-from
@@ -61,16 +60,16 @@ refused_at-requires-in_default-figure c =
 pub returns-in_default-figure : goal.returns-in_default-figure
 unfolding stem_at
 returns-in_default-figure c =
-    let headed : let a = c.args in let t = c.number_at-head.result in number_at a.text.now a.at a.n ≡ token t.start t.stop (Number c.in-Number.v) = let t = c.number_at-head.result in sym c.number_at-head.ensures ∙ ap (token t.start t.stop) c.in-Number.is in
+    let headed : let a = c.args in let t = c.number_at-head.result in number_at a.text.now a.at a.n ≡ token t.start t.stop (Some c.in-Some.v) = let t = c.number_at-head.result in sym c.number_at-head.ensures ∙ ap (token t.start t.stop) c.in-Some.is in
     let spaced : get_or c.args.text.now c.number_at-head.result.stop 0 ≡ 32 = sym c.byte_at.ensures ∙ c.if-byte_at-ne32.false in
-    let v = c.in-Number.v in
+    let v = c.in-Some.v in
     refused _ _ _ _ _ c.refused_at-in_default-figure.ensures
     (ap (on_own v c.weight_at-weight.result.stop) (sym c.in_default-figure.is) ∙ ap (on_owned v) c.weight_at-weight.ensures ∙ stem_own _ _ _ _ _ headed spaced)
 
 pub returns : goal.returns
 unfolding stem_at
 returns c =
-    let headed : let a = c.args in let t = c.number_at-head.result in number_at a.text.now a.at a.n ≡ token t.start t.stop (Number c.in-Number.v) = let t = c.number_at-head.result in sym c.number_at-head.ensures ∙ ap (token t.start t.stop) c.in-Number.is in
+    let headed : let a = c.args in let t = c.number_at-head.result in number_at a.text.now a.at a.n ≡ token t.start t.stop (Some c.in-Some.v) = let t = c.number_at-head.result in sym c.number_at-head.ensures ∙ ap (token t.start t.stop) c.in-Some.is in
     let spaced : get_or c.args.text.now c.number_at-head.result.stop 0 ≡ 32 = sym c.byte_at.ensures ∙ c.if-byte_at-ne32.false in
-    let v = c.in-Number.v in
-    ap (stem_of _ _) (ap (on_own v c.weight_at-weight.result.stop) (sym c.in-Own.is) ∙ ap (on_owned v) c.weight_at-weight.ensures ∙ stem_own _ _ _ _ _ headed spaced)
+    let v = c.in-Some.v in
+    ap (stem_of _ _) (ap (on_own v c.weight_at-weight.result.stop) (sym c.in-Some-figure.is) ∙ ap (on_owned v) c.weight_at-weight.ensures ∙ stem_own _ _ _ _ _ headed spaced)

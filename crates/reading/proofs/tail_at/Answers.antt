@@ -3,19 +3,18 @@ use mathlib.Core.List.{List}
 use Prim.Native.Nat.{ℕ, ◌+◌, ◌≤◌, ◌<◌, min, max}
 use native.Mathlib.Omega.{arith}
 use lib.ListN.{length, get_or}
-use Rattle.cursor.specs.declared.Found.TheVariants.{Number}
 use Rattle.cursor.specs.Cursor.{token, number_at}
 use Rattle.cursor.proofs.Counts.{byte_within, number_counts, token_within}
 use Rattle.refusal.specs.declared.Refusal.{Refusal}
-use Rattle.reading.specs.declared.Tail.TheVariants as tail
 use Rattle.reading.specs.Lines.{Listing, ReadsTail, refused_at, InLine}
 use Rattle.reading.proofs.Laws.{in_line, listed_none, list_full, list_none, list_more, list_broken, list_ends}
 use Rattle.reading.proofs.tail_at.Goals as goal
+use Rattle.std.specs.Prelude.{Err, Some}
 
 -- what a fault's place says is refused there
 refused : (line start : ℕ) (L : Listing) (old new : List ℕ) (place : ℕ) (r : Refusal) → r ≡ refused_at line start place
-    → ReadsTail line start L old (tail.Refused (refused_at line start place)) new → ReadsTail line start L old (tail.Refused r) new
-refused line start L old new place r e t = record { answer = ap tail.Refused e ∙ t.answer; room = t.room }
+    → ReadsTail line start L old (Err (refused_at line start place)) new → ReadsTail line start L old (Err r) new
+refused line start L old new place r e t = record { answer = ap Err e ∙ t.answer; room = t.room }
 
 pub loop-line-init : goal.loop-line-init
 loop-line-init c = (listed_none _ _ _ _ _, c.requires.0, c.requires.1)
@@ -31,7 +30,7 @@ shape_of-room-then-k-limit c = c.loop-line.invariant.0.long
 pub returns-then-k-limit : goal.returns-then-k-limit
 returns-then-k-limit c =
     let spaced : get_or c.args.text.now c.loop-line.next 0 ≡ 32 = sym c.byte_at.ensures ∙ c.loop-line-test.true in
-    refused _ _ _ _ _ _ _ c.refused_at.ensures (list_full _ _ _ _ _ _ _ _ c.loop-line.invariant.0 _ _ spaced (let h = c.if-k-limit.true in let e = c.lesser-limit.ensures in omega arith))
+    refused _ _ _ _ _ _ _ c.refused_at.ensures (list_full _ _ _ _ _ _ _ _ c.loop-line.invariant.0 _ _ spaced (let h = c.if-k-limit.true in let e = c.min-limit.ensures in omega arith))
 
 pub overflow_add-from : goal.overflow_add-from
 overflow_add-from c =
@@ -56,7 +55,7 @@ shape_of-room-in_default c = c.loop-line.invariant.0.long
 
 pub returns-in_default : goal.returns-in_default
 returns-in_default c =
-    let roomy : c.loop-line.k < min c.args.most (length c.args.room.now) = let e = c.lesser-limit.ensures in let h = c.if-k-limit.false in omega arith in
+    let roomy : c.loop-line.k < min c.args.most (length c.args.room.now) = let e = c.min-limit.ensures in let h = c.if-k-limit.false in omega arith in
     let spaced : get_or c.args.text.now c.loop-line.next 0 ≡ 32 = sym c.byte_at.ensures ∙ c.loop-line-test.true in
     let t = c.number_at-vertex.result in
     refused _ _ _ _ _ _ _ c.refused_at-in_default.ensures
@@ -65,13 +64,13 @@ returns-in_default c =
 
 pub loop-line-smaller : goal.loop-line-smaller
 loop-line-smaller c =
-    let listed : let a = c.args in let t = c.number_at-vertex.result in number_at a.text.now (c.loop-line.next + 1) a.n ≡ token t.start t.stop (Number c.in-Number.v) = let t = c.number_at-vertex.result in sym c.number_at-vertex.ensures ∙ ap (token t.start t.stop) c.in-Number.is in
+    let listed : let a = c.args in let t = c.number_at-vertex.result in number_at a.text.now (c.loop-line.next + 1) a.n ≡ token t.start t.stop (Some c.in-Some.v) = let t = c.number_at-vertex.result in sym c.number_at-vertex.ensures ∙ ap (token t.start t.stop) c.in-Some.is in
     let h = number_counts _ _ _ _ _ _ listed in let a = h.1 in let b = h.2 in omega arith
 
 pub loop-line-preserved : goal.loop-line-preserved
 loop-line-preserved c =
-    let listed : let a = c.args in let t = c.number_at-vertex.result in number_at a.text.now (c.loop-line.next + 1) a.n ≡ token t.start t.stop (Number c.in-Number.v) = let t = c.number_at-vertex.result in sym c.number_at-vertex.ensures ∙ ap (token t.start t.stop) c.in-Number.is in
-    let roomy : c.loop-line.k < min c.args.most (length c.args.room.now) = let e = c.lesser-limit.ensures in let h = c.if-k-limit.false in omega arith in
+    let listed : let a = c.args in let t = c.number_at-vertex.result in number_at a.text.now (c.loop-line.next + 1) a.n ≡ token t.start t.stop (Some c.in-Some.v) = let t = c.number_at-vertex.result in sym c.number_at-vertex.ensures ∙ ap (token t.start t.stop) c.in-Some.is in
+    let roomy : c.loop-line.k < min c.args.most (length c.args.room.now) = let e = c.min-limit.ensures in let h = c.if-k-limit.false in omega arith in
     let spaced : get_or c.args.text.now c.loop-line.next 0 ≡ 32 = sym c.byte_at.ensures ∙ c.loop-line-test.true in
     let h = number_counts _ _ _ _ _ _ listed in
     let a = h.1 in

@@ -8,17 +8,17 @@ returns-in_default c = read_wrong _ _ _ _ _ _ _ _ c.check_text-reading.ensures c
 
 pub returns-then-not-room_for : goal.returns-then-not-room_for
 returns-then-not-room_for c =
-    let held : Holding c.args.text.now c.in-Table.header = holding _ _ _ c.check_text-reading.ensures c.in-Table.is in
+    let held : Holding c.args.text.now c.in-Ok.header = holding _ _ _ c.check_text-reading.ensures c.in-Ok.is in
     read_short _ _ held _ _ _ _ _ (sym c.if-not-room_for.true ∙ c.room_for.ensures)
 
 pub fill-requires : goal.fill-requires
 fill-requires c =
-    let held : Holding c.args.text.now c.in-Table.header = holding _ _ _ c.check_text-reading.ensures c.in-Table.is in
+    let held : Holding c.args.text.now c.in-Ok.header = holding _ _ _ c.check_text-reading.ensures c.in-Ok.is in
     let a = c.args in
     read_ready _ _ held a.heads.now a.own.now a.strikes.now a.spans.now a.tails.now (sym c.if-not-room_for.false ∙ c.room_for.ensures)
 
 pub returns : goal.returns
 returns c =
-    let held : Holding c.args.text.now c.in-Table.header = holding _ _ _ c.check_text-reading.ensures c.in-Table.is in
+    let held : Holding c.args.text.now c.in-Ok.header = holding _ _ _ c.check_text-reading.ensures c.in-Ok.is in
     read_whole _ _ held _ _ _ _ _ _ _ _ _ _ (sym c.if-not-room_for.false ∙ c.room_for.ensures) c.fill.ensures _
-    (sym c.in-Table.is ∙ c.check_text-reading.ensures)
+    (sym c.in-Ok.is ∙ c.check_text-reading.ensures)

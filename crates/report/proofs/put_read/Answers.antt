@@ -9,12 +9,12 @@ pub put_priced-requires-clause-a_in_bounds : goal.put_priced-requires-clause-a_i
 put_priced-requires-clause-a_in_bounds c =
     let a = c.args in
     subst (λ (z : List ℕ). length z ≤ length a.room.now)
-    (sym (priced_blank a.header.measure (lent_columns a.header a.heads.now a.own.now a.strikes.now a.spans.now a.tails.now) a.header.vertices c.requires.few))
+    (sym (priced_blank a.header.measure (lent_columns a.header a.table.now.heads.now a.table.now.own.now a.table.now.strikes.now a.table.now.spans.now a.table.now.tails.now) a.header.vertices c.requires.few))
     c.requires.fits
 
 pub returns : goal.returns
 returns c =
     let a = c.args in
     written_as _ _ _
-    (priced_blank a.header.measure (lent_columns a.header a.heads.now a.own.now a.strikes.now a.spans.now a.tails.now) a.header.vertices c.requires.few)
+    (priced_blank a.header.measure (lent_columns a.header a.table.now.heads.now a.table.now.own.now a.table.now.strikes.now a.table.now.spans.now a.table.now.tails.now) a.header.vertices c.requires.few)
     c.put_priced.ensures

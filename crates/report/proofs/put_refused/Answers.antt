@@ -1,9 +1,7 @@
 -- `report::put_refused` meets its contract, by whether the refusal has a column. Assumes nothing.
-use mathlib.Core.Path.{◌≡◌, sym}
-use mathlib.Core.List.{[], ◌∷◌}
+use mathlib.Core.Path.{sym}
 use native.Mathlib.Omega.{arith}
 use Rattle.writing.proofs.Written.{written_as}
-use Rattle.report.specs.Report.{refused_with, refused_line}
 use Rattle.report.proofs.Bounds.{refused_with_two, refused_with_three}
 use Rattle.report.proofs.Pieces.{refused_two, refused_three}
 use Rattle.report.proofs.put_refused.Goals as goal
@@ -15,15 +13,15 @@ put_numbers-requires c =
 
 pub returns-then-column-eq0 : goal.returns-then-column-eq0
 returns-then-column-eq0 c =
-    let two : refused_line c.args.refusal ≡ refused_with (c.number-number.result ∷ c.place-place.result ∷ []) = refused_two c.args.refusal c.number-number.result c.place-place.result c.column-column.result c.number-number.ensures c.place-place.ensures c.column-column.ensures c.if-column-eq0.true in
-    written_as _ _ _ (sym two) c.put_numbers.ensures
+    written_as _ _ _ (sym (refused_two c.args.refusal _ _ _ c.number-number.ensures c.place-place.ensures c.column-column.ensures c.if-column-eq0.true))
+    c.put_numbers.ensures
 
-pub put_numbers-requires-2 : goal.put_numbers-requires-2
-put_numbers-requires-2 c =
+pub put_numbers-requires-else-column-eq0 : goal.put_numbers-requires-else-column-eq0
+put_numbers-requires-else-column-eq0 c =
     let w = refused_with_three _ _ _ c.number-number.type_inv c.place-place.type_inv c.column-column.type_inv in
     omega (arith, w, c.requires)
 
-pub returns : goal.returns
-returns c =
-    let three : refused_line c.args.refusal ≡ refused_with (c.number-number.result ∷ c.place-place.result ∷ c.column-column.result ∷ []) = refused_three c.args.refusal c.number-number.result c.place-place.result c.column-column.result c.number-number.ensures c.place-place.ensures c.column-column.ensures c.if-column-eq0.false in
-    written_as _ _ _ (sym three) c.put_numbers-2.ensures
+pub returns-else-column-eq0 : goal.returns-else-column-eq0
+returns-else-column-eq0 c =
+    written_as _ _ _ (sym (refused_three c.args.refusal _ _ _ c.number-number.ensures c.place-place.ensures c.column-column.ensures c.if-column-eq0.false))
+    c.put_numbers-else-column-eq0.ensures

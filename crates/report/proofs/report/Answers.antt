@@ -18,12 +18,12 @@ returns-then-input-gt-MOST_INPUT c =
     let r = reported _ _ _ _ _ long c.put_refused.ensures in
     record { value = r.0; room_after = r.1 }
 
-pub returns-in-Refused : goal.returns-in-Refused
+pub returns-in-Err : goal.returns-in-Err
 unfolding read_input
-returns-in-Refused c =
+returns-in-Err c =
     let short : length c.args.input.now ≤ most_input = let h = c.if-input-gt-MOST_INPUT.false in omega arith in
-    let wrong : report c.args.input.now ≡ refused_line c.in-Refused.r = report_refused _ short _ _ _ _ _ _ c.read_table-reading.ensures _ c.in-Refused.is in
-    let r = reported _ _ _ _ _ wrong c.put_refused-in-Refused.ensures in
+    let wrong : report c.args.input.now ≡ refused_line c.in-Err.r = report_refused _ short _ _ _ _ _ _ c.read_table-reading.ensures _ c.in-Err.is in
+    let r = reported _ _ _ _ _ wrong c.put_refused-in-Err.ensures in
     record { value = r.0; room_after = r.1 }
 
 pub put_read-requires : goal.put_read-requires
@@ -31,12 +31,12 @@ unfolding read_input
 put_read-requires c =
     let short : length c.args.input.now ≤ most_input = let h = c.if-input-gt-MOST_INPUT.false in omega arith in
     table-lent _ short _ _ _ _ _ _
-    c.read_table-reading.ensures _ _ (search rules) c.in-Table.is
+    c.read_table-reading.ensures _ _ (search rules) c.in-Ok.is
 
-pub returns-in-Table : goal.returns-in-Table
+pub returns-in-Ok : goal.returns-in-Ok
 unfolding read_input
-returns-in-Table c =
+returns-in-Ok c =
     let short : length c.args.input.now ≤ most_input = let h = c.if-input-gt-MOST_INPUT.false in omega arith in
-    let whole : let g = c.in-Table.header in let l = c.read_table-reading.new in report c.args.input.now ≡ priced g.vertices (settled g.measure (lent_columns g l.heads l.own l.strikes l.spans l.tails) (blank_entries g.vertices)) = report-table _ short _ _ _ _ _ _ c.read_table-reading.ensures _ c.in-Table.is in
+    let whole : let g = c.in-Ok.header in let l = c.read_table-reading.new in report c.args.input.now ≡ priced g.vertices (settled g.measure (lent_columns g l.heads l.own l.strikes l.spans l.tails) (blank_entries g.vertices)) = report-table _ short _ _ _ _ _ _ c.read_table-reading.ensures _ c.in-Ok.is in
     let r = reported _ _ _ _ _ whole c.put_read.ensures in
     record { value = r.0; room_after = r.1 }

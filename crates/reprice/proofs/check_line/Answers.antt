@@ -1,43 +1,21 @@
 -- `reprice::check_line` meets its contract: refused as a line that does not exist, or by its mark. Assumes nothing.
-use mathlib.Core.Path.{◌≡◌, sym, ◌∙◌}
-use Prim.Native.Nat.{◌<◌}
+use mathlib.Core.Path.{sym, ◌∙◌}
 use native.Mathlib.Omega.{arith}
-use lib.ListN.{length}
-use Rattle.refusal.specs.declared.Acceptance.TheVariants.{Accepted}
-use Rattle.columns.specs.Columns.{Entries, Columns, columns, entries}
-use Rattle.reprice.specs.Repricing.{numbered_acceptance}
 use Rattle.reprice.proofs.Laws.{numbered_placed, line_refused, line_struck, line_standing}
+use Rattle.refusal.proofs.Passed.{passed_on}
 use Rattle.reprice.proofs.check_line.Goals as goal
 
-pub returns-in-Refused : goal.returns-in-Refused
-returns-in-Refused c = line_refused _ _ _ _ (sym c.check_numbered-a.ensures ∙ c.in-Refused.is)
+pub returns-in_err-check_numbered : goal.returns-in_err-check_numbered
+returns-in_err-check_numbered c = rw (passed_on _ c.from_residual.ensures.1) (line_refused _ _ _ _ (sym c.check_numbered.ensures ∙ c.in_err-check_numbered.was))
 
 pub offset_bounds-strikes-i : goal.offset_bounds-strikes-i
-offset_bounds-strikes-i c =
-    let came : Entries = let a = c.args in entries a.weights.now a.depths.now a.edges.now a.pieces.now in
-    let table_of : Columns = let a = c.args in columns a.n a.heads.now a.own.now a.strikes.now a.spans.now a.tails.now in
-    let accepted : numbered_acceptance table_of came c.args.line.0 ≡ Accepted = sym c.check_numbered-a.ensures ∙ c.in-Accepted.is in
-    let placed : c.args.line.0 < length c.args.strikes.now = numbered_placed table_of came c.args.line.0 accepted in
-    omega (arith, placed)
+offset_bounds-strikes-i c = omega (arith, numbered_placed _ _ _ (sym c.check_numbered.ensures ∙ c.in_ok-check_numbered.was))
 
 pub bounds-strikes-i : goal.bounds-strikes-i
-bounds-strikes-i c =
-    let came : Entries = let a = c.args in entries a.weights.now a.depths.now a.edges.now a.pieces.now in
-    let table_of : Columns = let a = c.args in columns a.n a.heads.now a.own.now a.strikes.now a.spans.now a.tails.now in
-    let accepted : numbered_acceptance table_of came c.args.line.0 ≡ Accepted = sym c.check_numbered-a.ensures ∙ c.in-Accepted.is in
-    let placed : c.args.line.0 < length c.args.strikes.now = numbered_placed table_of came c.args.line.0 accepted in
-    placed
+bounds-strikes-i c = numbered_placed _ _ _ (sym c.check_numbered.ensures ∙ c.in_ok-check_numbered.was)
 
 pub returns-then-is_struck : goal.returns-then-is_struck
-returns-then-is_struck c =
-    let came : Entries = let a = c.args in entries a.weights.now a.depths.now a.edges.now a.pieces.now in
-    let table_of : Columns = let a = c.args in columns a.n a.heads.now a.own.now a.strikes.now a.spans.now a.tails.now in
-    let accepted : numbered_acceptance table_of came c.args.line.0 ≡ Accepted = sym c.check_numbered-a.ensures ∙ c.in-Accepted.is in
-    line_struck _ _ _ accepted (sym c.is_struck.ensures ∙ c.if-is_struck.true)
+returns-then-is_struck c = line_struck _ _ _ (sym c.check_numbered.ensures ∙ c.in_ok-check_numbered.was) (sym c.is_struck.ensures ∙ c.if-is_struck.true)
 
 pub returns : goal.returns
-returns c =
-    let came : Entries = let a = c.args in entries a.weights.now a.depths.now a.edges.now a.pieces.now in
-    let table_of : Columns = let a = c.args in columns a.n a.heads.now a.own.now a.strikes.now a.spans.now a.tails.now in
-    let accepted : numbered_acceptance table_of came c.args.line.0 ≡ Accepted = sym c.check_numbered-a.ensures ∙ c.in-Accepted.is in
-    line_standing _ _ _ accepted (sym c.is_struck.ensures ∙ c.if-is_struck.false)
+returns c = line_standing _ _ _ (sym c.check_numbered.ensures ∙ c.in_ok-check_numbered.was) (sym c.is_struck.ensures ∙ c.if-is_struck.false)

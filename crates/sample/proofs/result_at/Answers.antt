@@ -18,8 +18,8 @@ overflow_add-next c =
 
 pub returns-then-behind-eq10 : goal.returns-then-behind-eq10
 returns-then-behind-eq10 c =
-    result_number _ _ c.number_at-token.result _ c.if-at-text.false c.number_at-token.ensures c.in-Number.is (sym c.byte_at-behind.ensures ∙ c.if-behind-eq10.true)
+    result_number _ _ c.number_at-token.result _ c.if-at-text.false c.number_at-token.ensures c.in-Some.is (sym c.byte_at-behind.ensures ∙ c.if-behind-eq10.true)
 
 pub returns : goal.returns
 returns c =
-    result_other _ _ c.number_at-token.result _ c.if-at-text.false c.number_at-token.ensures c.in-Number.is (λ e. c.if-behind-eq10.false (c.byte_at-behind.ensures ∙ e))
+    result_other _ _ c.number_at-token.result _ c.if-at-text.false c.number_at-token.ensures c.in-Some.is (λ e. c.if-behind-eq10.false (c.byte_at-behind.ensures ∙ e))

@@ -1,8 +1,6 @@
 -- `settle::edges_right` meets its contract: the invariant: every hyperedge passed is right. Assumes nothing.
 use mathlib.Core.Path.{◌≡◌}
 use mathlib.Core.Bool.{true}
-use Prim.Native.Nat.{◌≤◌, ◌-◌}
-use lib.ListN.{length}
 use Rattle.weights.specs.Measures.{algebra}
 use Rattle.columns.specs.Columns.{answers}
 use Rattle.provenance.specs.BestFirst.{labels}
@@ -11,8 +9,4 @@ use Rattle.settle.specs.Comparing.{edge_fits}
 use Rattle.settle.proofs.edges_right.Given as goal
 
 abbrev pub invariant-loop-i : goal.invariant-loop-i
-invariant-loop-i l =
-    (l.i ≤ length l.heads) × (every (edge_fits l.heads l.values l.heights (labels (answers l.weights l.depths l.edges)) (algebra l.measure)) l.i ≡ true)
-
-abbrev pub decreases-loop-i : goal.decreases-loop-i
-decreases-loop-i l = length l.heads - l.i
+invariant-loop-i l = every (edge_fits l.heads l.values l.heights (labels (answers l.weights l.depths l.edges)) (algebra l.measure)) l.i ≡ true

@@ -1,8 +1,6 @@
 -- `settle::vertices_right` meets its contract: the invariant: every vertex passed is right. Assumes nothing.
 use mathlib.Core.Path.{◌≡◌}
 use mathlib.Core.Bool.{true}
-use Prim.Native.Nat.{◌≤◌, ◌-◌}
-use lib.ListN.{length}
 use Rattle.columns.specs.Columns.{answers}
 use Rattle.provenance.specs.BestFirst.{labels}
 use Rattle.provenance.specs.Local.{every}
@@ -10,8 +8,4 @@ use Rattle.settle.specs.Comparing.{vertex_fits}
 use Rattle.settle.proofs.vertices_right.Given as goal
 
 abbrev pub invariant-loop-i : goal.invariant-loop-i
-invariant-loop-i l =
-    (l.i ≤ length l.depths) × (every (vertex_fits l.heads l.values l.heights (labels (answers l.weights l.depths l.edges))) l.i ≡ true)
-
-abbrev pub decreases-loop-i : goal.decreases-loop-i
-decreases-loop-i l = length l.depths - l.i
+invariant-loop-i l = every (vertex_fits l.heads l.values l.heights (labels (answers l.weights l.depths l.edges))) l.i ≡ true

@@ -1,9 +1,9 @@
--- `shuffle::figure_at` meets its contract. No sum wraps: n bytes make a number below 256^n. Assumes nothing.
+use mathlib.Core.Path.{◌∙◌}
 use native.Mathlib.Omega.{arith}
-use Rattle.shuffle.specs.Bytes.{from_bytes}
-use Rattle.shuffle.specs.Shuffled.{strided, gathered}
+use Rattle.shuffle.proofs.Places.{gathered_le}
 use Rattle.shuffle.proofs.figure_at.Goals as goal
 
 pub returns : goal.returns
-unfolding gathered from_bytes strided
-returns c = omega arith
+returns c =
+    let a = c.args in
+    c.from_le_bytes.ensures ∙ gathered_le a.k a.i a.bytes.now c.loop-p.byte-items c.loop-p-test.array_long (λ q h. c.loop-p.invariant q (omega arith))

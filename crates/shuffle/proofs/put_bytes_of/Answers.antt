@@ -1,37 +1,31 @@
--- `shuffle::put_bytes_of` meets its contract: the eight bytes as the code divides are those of the figure. Assumes nothing.
-use mathlib.Core.Path.{sym, ap}
+use mathlib.Core.Path.{refl, sym, ◌∙◌, ap}
 use mathlib.Core.List.{List}
-use Prim.Native.Nat.{ℕ}
+use Prim.Native.Nat.{ℕ, ◌+◌, ◌*◌}
+use native.Mathlib.Numerals.{add-one}
 use native.Mathlib.Omega.{arith}
-use lib.ListN.{length-set}
+use lib.ListN.{length, get_or, set, take}
+use lib.Seq.{take_all}
 use Rattle.shuffle.specs.Places.{spread}
 use Rattle.shuffle.proofs.Bytes.{eight_bytes}
+use Rattle.shuffle.proofs.Places.{spread_more}
 use Rattle.shuffle.proofs.put_bytes_of.Goals as goal
 
-pub bounds-room-second : goal.bounds-room-second
-bounds-room-second c = simp length-set (omega arith)
+pub loop-p-init : goal.loop-p-init
+unfolding spread
+loop-p-init c = refl
 
-pub bounds-room-third : goal.bounds-room-third
-bounds-room-third c = simp length-set (omega arith)
-
-pub bounds-room-fourth : goal.bounds-room-fourth
-bounds-room-fourth c = simp length-set (omega arith)
-
-pub bounds-room-fifth : goal.bounds-room-fifth
-bounds-room-fifth c = simp length-set (omega arith)
-
-pub bounds-room-sixth : goal.bounds-room-sixth
-bounds-room-sixth c = simp length-set (omega arith)
-
-pub bounds-room-seventh : goal.bounds-room-seventh
-bounds-room-seventh c = simp length-set (omega arith)
-
-pub bounds-room-eighth : goal.bounds-room-eighth
-bounds-room-eighth c = simp length-set (omega arith)
-
-pub shape_of-room : goal.shape_of-room
-shape_of-room c = simp length-set
+pub loop-p-preserved : goal.loop-p-preserved
+loop-p-preserved c =
+    let a = c.args in
+    let p = c.loop-p.p in
+    let bs = c.to_le_bytes-bytes.result in
+    ap (λ (z : List ℕ). set z (p * a.k + a.i) (get_or bs p 0)) c.loop-p.invariant
+    ∙ spread_more a.k a.i bs a.room.now p (omega (arith, ap length c.to_le_bytes-bytes.ensures))
+    ∙ ap (λ (z : ℕ). spread a.k a.i (take z bs) a.room.now) (sym (add-one p))
 
 pub returns : goal.returns
-unfolding spread
-returns c = let a = c.args in ap (λ (bs : List ℕ). spread a.k a.i bs a.room.now) (sym (eight_bytes a.figure))
+returns c =
+    let a = c.args in
+    c.loop-p.invariant
+    ∙ ap (λ (z : List ℕ). spread a.k a.i z a.room.now)
+    (take_all c.loop-p.p c.to_le_bytes-bytes.result (omega (arith, ap length c.to_le_bytes-bytes.ensures)) ∙ c.to_le_bytes-bytes.ensures ∙ sym (eight_bytes a.figure))

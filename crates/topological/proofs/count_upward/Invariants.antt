@@ -1,11 +1,6 @@
 -- `topological::count_upward` meets its contract. The invariant: the vertices below i are counted. Assumes nothing.
-use Prim.Native.Nat.{◌-◌, ◌≤◌}
-use lib.ListN.{length}
 use Rattle.topological.proofs.Counting.{Risen}
 use Rattle.topological.proofs.count_upward.Given as goal
 
 abbrev pub invariant-loop-i : goal.invariant-loop-i
-invariant-loop-i l = (l.i ≤ length l.depths) × Risen l.spans l.tails l.depths l.edges l.i l.pieces
-
-abbrev pub decreases-loop-i : goal.decreases-loop-i
-decreases-loop-i l = length l.depths - l.i
+invariant-loop-i l = Risen l.spans l.tails l.depths l.edges l.i l.pieces

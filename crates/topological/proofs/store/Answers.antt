@@ -10,4 +10,4 @@ returns-in_default c = let a = c.args in sym (ap (put_at (answers a.weights.now 
 pub returns : goal.returns
 returns c =
     let a = c.args in
-    sym (ap (put_at (answers a.weights.now a.depths.now a.edges.now) a.v.0) c.in-Found.is)
+    sym (ap (put_at (answers a.weights.now a.depths.now a.edges.now) a.v.0) c.in-Some.is)

@@ -1,20 +1,17 @@
 use mathlib.Core.Path.{refl, ◌∙◌}
-use native.Mathlib.Omega.{arith}
 use Rattle.columns.proofs.Laws.{below_from, below_more, below_stop, below_end}
 use Rattle.topological.proofs.tail_below.Goals as goal
 
-pub loop-k-init : goal.loop-k-init
+pub loop-v-init : goal.loop-v-init
 unfolding below_from
-loop-k-init c = (omega arith, refl)
+loop-v-init c = refl
 
-pub returns-then-tail-k : goal.returns-then-tail-k
+pub returns-then-v-n : goal.returns-then-v-n
 unfolding below_from
-returns-then-tail-k c =
-    let a = c.args in
-    below_stop a.n a.tail.now 0 c.loop-k.k c.loop-k-test.true c.if-tail-k.true ∙ c.loop-k.invariant.1
+returns-then-v-n c = below_stop c.args.n c.args.tail.now 0 c.loop-v.v-index c.loop-v-test.true c.if-v-n.true ∙ c.loop-v.invariant
 
-pub loop-k-preserved : goal.loop-k-preserved
-loop-k-preserved c = (omega arith, below_more _ _ _ _ c.loop-k-test.true c.if-tail-k.false ∙ c.loop-k.invariant.1)
+pub loop-v-preserved : goal.loop-v-preserved
+loop-v-preserved c = below_more _ _ _ _ c.loop-v-test.true c.if-v-n.false ∙ c.loop-v.invariant
 
 pub returns : goal.returns
-returns c = below_end _ _ _ _ c.loop-k-test.false ∙ c.loop-k.invariant.1
+returns c = below_end _ _ _ _ c.loop-v-test.false ∙ c.loop-v.invariant

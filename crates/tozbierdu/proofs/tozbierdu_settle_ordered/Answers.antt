@@ -3,9 +3,9 @@ use mathlib.Core.Path.{sym, ◌∙◌}
 use Rattle.tozbierdu.proofs.Laws.{ordered_refused, ordered_measure}
 use Rattle.tozbierdu.proofs.tozbierdu_settle_ordered.Goals as goal
 
-pub returns-in-Refused : goal.returns-in-Refused
-returns-in-Refused c = ordered_refused _ _ (sym c.measure_numbered-choice.ensures ∙ c.in-Refused.is) c.result.ensures
+pub returns-in-Err : goal.returns-in-Err
+returns-in-Err c = ordered_refused _ _ (sym c.measure_numbered-choice.ensures ∙ c.in-Err.is) c.result.ensures
 
-pub returns-in-Measure : goal.returns-in-Measure
-returns-in-Measure c =
-    ordered_measure _ _ (sym c.measure_numbered-choice.ensures ∙ c.in-Measure.is) c.result-in-Measure.ensures c.settle_ordered-a.ensures
+pub returns-in-Ok : goal.returns-in-Ok
+returns-in-Ok c =
+    ordered_measure _ _ (sym c.measure_numbered-choice.ensures ∙ c.in-Ok.is) c.result-in-Ok.ensures c.settle_ordered-a.ensures

@@ -1,12 +1,8 @@
 -- `uses::distinct` meets its contract. The invariant: as many as there are different vertices so far. Assumes nothing.
 use mathlib.Core.Path.{◌≡◌}
-use Prim.Native.Nat.{◌≤◌, ◌-◌}
-use lib.ListN.{length}
+use Prim.Native.Nat.{◌≤◌}
 use Rattle.uses.specs.Uses.{distinct_in}
 use Rattle.uses.proofs.distinct.Given as goal
 
 abbrev pub invariant-loop-i : goal.invariant-loop-i
-invariant-loop-i l = (l.i ≤ length l.list) × ((l.k ≤ l.i) × (l.k ≡ distinct_in l.list l.i))
-
-abbrev pub decreases-loop-i : goal.decreases-loop-i
-decreases-loop-i l = length l.list - l.i
+invariant-loop-i l = (l.k ≤ l.i) × (l.k ≡ distinct_in l.list l.i)

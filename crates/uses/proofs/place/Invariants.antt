@@ -1,6 +1,5 @@
 -- `uses::place` meets its contract. The invariant: the pairs below v are placed, and `sum` is the sum of their counts. Assumes nothing.
 use mathlib.Core.Path.{◌≡◌}
-use Prim.Native.Nat.{◌-◌, ◌≤◌}
 use Rattle.uses.specs.Uses.{pairs_in}
 use Rattle.uses.specs.Indexable.{running}
 use Rattle.uses.proofs.Placing.{placed_to}
@@ -8,7 +7,4 @@ use Rattle.uses.proofs.place.Given as goal
 
 abbrev pub invariant-loop-v : goal.invariant-loop-v
 invariant-loop-v l =
-    (l.v ≤ pairs_in l.initial.index) × ((l.sum ≡ running l.initial.index l.v) × (l.index ≡ placed_to l.initial.index l.v (pairs_in l.initial.index)))
-
-abbrev pub decreases-loop-v : goal.decreases-loop-v
-decreases-loop-v l = pairs_in l.initial.index - l.v
+    (l.sum ≡ running l.initial.index l.v) × (l.index ≡ placed_to l.initial.index l.v (pairs_in l.initial.index))

@@ -1,16 +1,9 @@
-use mathlib.Core.Path.{refl, ◌∙◌}
-use native.Mathlib.Omega.{arith}
-use Rattle.uses.proofs.Hits.{member_more, member_stop, member_end}
+-- `uses::stands_in` meets its contract: a place holds v, or none does. Assumes nothing.
+use lib.Dec.{eqb}
+use Rattle.std.proofs.lemmas.Bool.Decides.{Decides-eqb}
+use Rattle.std.proofs.lemmas.List.Elements.{contains_decides}
+use Rattle.uses.proofs.Hits.{member_decides}
 use Rattle.uses.proofs.stands_in.Goals as goal
 
-pub loop-i-init : goal.loop-i-init
-loop-i-init c = (omega arith, refl)
-
-pub returns-then-list-i : goal.returns-then-list-i
-returns-then-list-i c = member_stop _ _ _ c.loop-i-test.true c.if-list-i.true ∙ c.loop-i.invariant.1
-
-pub loop-i-preserved : goal.loop-i-preserved
-loop-i-preserved c = (omega arith, member_more _ _ _ c.loop-i-test.true c.if-list-i.false ∙ c.loop-i.invariant.1)
-
 pub returns : goal.returns
-returns c = member_end _ _ _ c.loop-i-test.false ∙ c.loop-i.invariant.1
+returns c = member_decides _ _ _ (contains_decides eqb Decides-eqb c.args.list.now c.args.v.0 c.contains.result c.contains.ensures.cases)

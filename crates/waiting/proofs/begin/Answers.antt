@@ -1,10 +1,7 @@
 -- `waiting::begin` meets its contract: a struck hyperedge is passed over, one with an empty tail is offered, any other waits for the first vertex of its tail.
 -- Assumes nothing.
-use mathlib.Core.Path.{◌≡◌, sym, ◌∙◌}
-use mathlib.Core.Bool.{false}
+use mathlib.Core.Path.{sym, ◌∙◌}
 use native.Mathlib.Omega.{arith}
-use Rattle.weights.specs.Figures.{is_struck_mark}
-use Rattle.columns.specs.Columns.{cell}
 use Rattle.columns.proofs.Usable.{edge_in}
 use Rattle.waiting.proofs.Steps.{tails_few}
 use Rattle.waiting.proofs.Starts.{struck_next, first_linkable, first-waits, own_queueable, own_offered, went_next}
@@ -31,12 +28,12 @@ bounds-tails-offset c = omega (arith, (edge_in c.requires.0.usable c.args.e.0 c.
 
 pub link-requires : goal.link-requires
 link-requires c =
-    let unstruck : is_struck_mark (cell c.args.strikes.now c.args.e.0) ≡ false = sym c.is_struck-struck.ensures ∙ c.if-struck.false in
+    let unstruck = sym c.is_struck-struck.ensures ∙ c.if-struck.false in
     first_linkable c.requires.1.1 c.requires.0 c.requires.1.0 unstruck c.if-size-ne0.true
 
 pub returns-then-size-ne0 : goal.returns-then-size-ne0
 returns-then-size-ne0 c =
-    let unstruck : is_struck_mark (cell c.args.strikes.now c.args.e.0) ≡ false = sym c.is_struck-struck.ensures ∙ c.if-struck.false in
+    let unstruck = sym c.is_struck-struck.ensures ∙ c.if-struck.false in
     let w = first-waits c.requires.1.1 c.requires.0 c.requires.1.0 unstruck c.if-size-ne0.true c.link.ensures in
     went_next c.requires.1.1 c.requires.0 c.requires.1.0 unstruck w
 
@@ -46,11 +43,11 @@ bounds-own-i c = omega (arith, (edge_in c.requires.0.usable c.args.e.0 c.require
 -- no vertex is listed
 pub offer-requires : goal.offer-requires
 offer-requires c =
-    let unstruck : is_struck_mark (cell c.args.strikes.now c.args.e.0) ≡ false = sym c.is_struck-struck.ensures ∙ c.if-struck.false in
+    let unstruck = sym c.is_struck-struck.ensures ∙ c.if-struck.false in
     own_queueable c.requires.1.1 c.requires.0 c.requires.1.0 unstruck c.if-size-ne0.false
 
 pub returns : goal.returns
 returns c =
-    let unstruck : is_struck_mark (cell c.args.strikes.now c.args.e.0) ≡ false = sym c.is_struck-struck.ensures ∙ c.if-struck.false in
+    let unstruck = sym c.is_struck-struck.ensures ∙ c.if-struck.false in
     let w = own_offered c.requires.1.1 c.requires.0 c.requires.1.0 unstruck c.if-size-ne0.false c.offer.ensures in
     went_next c.requires.1.1 c.requires.0 c.requires.1.0 unstruck w

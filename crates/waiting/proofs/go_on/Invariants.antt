@@ -1,6 +1,4 @@
 -- `waiting::go_on` meets its contract. The invariant: what was passed is carried. Assumes nothing.
-use Prim.Native.Nat.{◌-◌}
-use lib.ListN.{length}
 use Rattle.weights.specs.Measures.{algebra}
 use Rattle.columns.specs.Columns.{cell}
 use Rattle.offers.specs.Passing.{Carried}
@@ -8,6 +6,3 @@ use Rattle.waiting.proofs.go_on.Given as goal
 
 abbrev pub invariant-loop-at : goal.invariant-loop-at
 invariant-loop-at l = Carried (algebra l.measure) (cell l.weights) (cell l.depths) l.tail l.at l.joined.0 l.deepest
-
-abbrev pub decreases-loop-at : goal.decreases-loop-at
-decreases-loop-at l = length l.tail - l.at

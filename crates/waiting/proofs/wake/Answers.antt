@@ -21,7 +21,7 @@ returns-then-depths-h-ne0 c =
       moved =
           stays refl (λ z. absurd (c.if-depths-h-ne0.true z));
       heard =
-          heard_made a.measure (lent a.heads.now a.own.now a.strikes.now a.spans.now a.tails.now a.depths.now)
+          heard_made a.measure (lent a.table.now.heads.now a.table.now.own.now a.table.now.strikes.now a.table.now.spans.now a.table.now.tails.now a.depths.now)
           (cell a.weights.now) (cell a.depths.now) a.e.0 a.queue.now c.if-depths-h-ne0.true;
     }
 

@@ -6,7 +6,7 @@ use Rattle.waiting.proofs.wake_all.Given as goal
 
 abbrev pub invariant-loop-l : goal.invariant-loop-l
 invariant-loop-l l =
-    Waking l.measure (lent l.heads l.own l.strikes l.spans l.tails l.depths) l.weights l.depths (lines l.first l.next l.at l.joined l.deepest) l.queue l.place l.l
+    Waking l.measure (lent l.table.heads.now l.table.own.now l.table.strikes.now l.table.spans.now l.table.tails.now l.depths) l.weights l.depths (lines l.first l.next l.at l.joined l.deepest) l.queue l.place l.l
 
 abbrev pub decreases-loop-l : goal.decreases-loop-l
 decreases-loop-l l = steps l.next 4096 l.l

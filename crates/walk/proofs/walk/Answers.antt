@@ -16,10 +16,10 @@ told : (s : List ℕ) (P : Parse) → scan s ≡ P → walked_of P ≡ walked_of
 told s P e = ap walked_of (sym e ∙ scan_is_parse s)
 
 pub returns-in_default : goal.returns-in_default
-returns-in_default g c = told _ (Wrong 1) (scan_unopened _ _ (unopened _ _ (sym c.in_default.is ∙ c.first_line-first.ensures)).1)
+returns-in_default g c = told _ (Wrong 1) (scan_unopened _ _ (unopened _ _ (sym c.in_default.is ∙ c.first_line.ensures)).1)
 
 pub loop-at-init : goal.loop-at-init
-loop-at-init g c = (_, scan-begun _ _ _ _ (opened _ _ _ _ (sym c.in-Read.is ∙ c.first_line-first.ensures)))
+loop-at-init g c = (_, scan-begun _ _ _ _ (opened _ _ (sym c.in-Ok.is ∙ c.first_line.ensures)))
 
 pub overflow_add-here : goal.overflow_add-here
 overflow_add-here g c = let f = c.loop-at.invariant.1.few in omega arith
@@ -31,29 +31,29 @@ returns-then-full g c =
 pub overflow_sub-listed : goal.overflow_sub-listed
 overflow_sub-listed g c = c.loop-at.invariant.1.few_listed
 
-pub returns-in_default-line : goal.returns-in_default-line
-returns-in_default-line g c =
-    let r = line_refused _ _ _ _ _ _ c.loop-at.invariant.1 c.loop-at-test.true c.if-full.false longest_tail refl _ _ c.line_from-line.ensures _ c.in_default-line.is in
+pub returns-in_default-line_from : goal.returns-in_default-line_from
+returns-in_default-line_from g c =
+    let r = line_refused _ _ _ _ _ _ c.loop-at.invariant.1 c.loop-at-test.true c.if-full.false longest_tail refl _ _ c.line_from.ensures _ c.in_default-line_from.is in
     ap walked_of (sym r.2.wrong)
 
 pub overflow_add-edges : goal.overflow_add-edges
 overflow_add-edges g c =
-    let more = line-next _ _ _ _ _ _ c.loop-at.invariant.1 c.loop-at-test.true c.if-full.false longest_tail refl _ _ c.line_from-line.ensures _ _ _ _ _ c.in-Edge.is in
+    let more = line-next _ _ _ _ _ _ c.loop-at.invariant.1 c.loop-at-test.true c.if-full.false longest_tail refl _ _ c.line_from.ensures _ c.in-Ok-line_from.is in
     let f = more.2.few in omega arith
 
 pub overflow_add-listed : goal.overflow_add-listed
 overflow_add-listed g c =
-    let more = line-next _ _ _ _ _ _ c.loop-at.invariant.1 c.loop-at-test.true c.if-full.false longest_tail refl _ _ c.line_from-line.ensures _ _ _ _ _ c.in-Edge.is in
+    let more = line-next _ _ _ _ _ _ c.loop-at.invariant.1 c.loop-at-test.true c.if-full.false longest_tail refl _ _ c.line_from.ensures _ c.in-Ok-line_from.is in
     let f = more.2.few_listed in omega arith
 
 pub loop-at-smaller : goal.loop-at-smaller
 loop-at-smaller g c =
-    let more = line-next _ _ _ _ _ _ c.loop-at.invariant.1 c.loop-at-test.true c.if-full.false longest_tail refl _ _ c.line_from-line.ensures _ _ _ _ _ c.in-Edge.is in
+    let more = line-next _ _ _ _ _ _ c.loop-at.invariant.1 c.loop-at-test.true c.if-full.false longest_tail refl _ _ c.line_from.ensures _ c.in-Ok-line_from.is in
     let n = more in let h = n.0 in let w = n.2.within in omega arith
 
 pub loop-at-preserved : goal.loop-at-preserved
 loop-at-preserved g c =
-    let more = line-next _ _ _ _ _ _ c.loop-at.invariant.1 c.loop-at-test.true c.if-full.false longest_tail refl _ _ c.line_from-line.ensures _ _ _ _ _ c.in-Edge.is in
+    let more = line-next _ _ _ _ _ _ c.loop-at.invariant.1 c.loop-at-test.true c.if-full.false longest_tail refl _ _ c.line_from.ensures _ c.in-Ok-line_from.is in
     (_, more.2)
 
 pub returns : goal.returns

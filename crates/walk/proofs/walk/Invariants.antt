@@ -6,7 +6,7 @@ use Rattle.reading.proofs.Scanning.{Scanning}
 use Rattle.walk.proofs.walk.Given as goal
 
 abbrev pub invariant-loop-at : goal.invariant-loop-at
-invariant-loop-at g l = (m : Measure) × Scanning l.text l.n m l.at l.edges l.listed
+invariant-loop-at g l = (m : Measure) × Scanning l.text l.first.vertices m l.at l.edges l.listed
 
 abbrev pub decreases-loop-at : goal.decreases-loop-at
 decreases-loop-at g l = length l.text - l.at

@@ -2,8 +2,5 @@
 use Rattle.writing.proofs.Laws.{Digits}
 use Rattle.writing.proofs.put_number.Given as goal
 
-abbrev pub invariant-loop-x : goal.invariant-loop-x
-invariant-loop-x l = Digits l.initial.room l.room l.i l.x l.v
-
-abbrev pub decreases-loop-x : goal.decreases-loop-x
-decreases-loop-x l = l.x
+abbrev pub invariant-loop-i : goal.invariant-loop-i
+invariant-loop-i l = Digits l.initial.room l.room l.i l.x l.v
