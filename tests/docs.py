@@ -130,7 +130,6 @@ REPLACED = {
     "queue::mirror",
     "reading::lesser",
     "reading::line_with",
-    "refusal::Passed",
     "right_few",
     "right_many",
     "settle::few_lines",

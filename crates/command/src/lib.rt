@@ -32,7 +32,7 @@ pub enum Name {
     Mean,
     Compare,
     Replay,
-    // Kept: a row of `takes` and `as_command` like the others; as an `Option` both would be asked twice.
+    // Kept: an unknown name leaves its numbers in the column too, as `command_in` says, so it is read like the others.
     Unknown,
 }
 

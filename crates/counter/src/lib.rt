@@ -107,10 +107,7 @@ const MOST_ROOM: usize = 4294967295;
 fn counted(places: usize) -> usize
     ensures { result ≡ min most_room places }
 {
-    if places > MOST_ROOM {
-        return MOST_ROOM;
-    }
-    places
+    places.min(MOST_ROOM)
 }
 
 #[unsafe(no_mangle)]

@@ -81,7 +81,17 @@ fn renew(
         let a' = entries weights.new depths.new edges.new pieces.new in
         a' ≡ entries_of measure c }
 {
-    if settle::line_rests(measure, line, table, weights, depths, edges) {
+    if settle::line_rests(
+        measure,
+        line,
+        table,
+        &Entries {
+            weights,
+            depths,
+            edges,
+            pieces,
+        },
+    ) {
         return;
     }
     settle::label(measure, table, weights, depths, edges, pieces);

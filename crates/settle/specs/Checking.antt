@@ -1,5 +1,5 @@
 -- Checking answers: yes exactly if they are the table's. The paper's "The calls". Assumes nothing: these are definitions.
-use Rattle.std.specs.Prelude.{Bool, true, false, Ok, Err}
+use Rattle.std.specs.Prelude.{Bool, Ok, Err}
 use Rattle.weights.specs.declared.Measure.{Measure}
 use Rattle.refusal.specs.declared.Refusal.TheVariants.{WrongAnswers}
 use Rattle.columns.specs.Columns.{Entries, Columns}
@@ -10,8 +10,7 @@ use Rattle.refusal.specs.Answers.{Acceptance, Verdict}
 
 abbrev pub verdict : Acceptance → Bool → Verdict
 verdict (Err r) b = Err r
-verdict (Ok _) true = Ok true
-verdict (Ok _) false = Ok false
+verdict (Ok _) b = Ok b
 
 -- yes if the lent answers are those of the table, and otherwise no, never 8
 unfoldable pub checked : Measure → Columns → Entries → Verdict

@@ -15,7 +15,7 @@ ghost use Rattle.columns.proofs.Accepted.{AcceptedLabels, AcceptedColumns};
 ghost use Rattle.columns.specs.Same.{same_answers, same_entries};
 ghost use Rattle.columns.specs.Acceptance.{most_edges};
 ghost use Rattle.columns.specs.Lent.{Turning};
-ghost use Rattle.columns.specs.Given.{columns_of, lent_of, entries_in};
+ghost use Rattle.columns.specs.Given.{columns_of, lent_of, entries_in, answers_in};
 ghost use Rattle.settle.specs.Settling.{answers_of, entries_of, entry_at, settled};
 ghost use Rattle.settle.specs.Checking.{checked};
 ghost use Rattle.settle.specs.Resting.{rests};
@@ -102,14 +102,18 @@ fn vertex_right(
     heads: &[u64],
     values: &[u64],
     heights: &[u16],
-    weights: &[u64],
-    depths: &[u64],
-    edges: &[u64],
+    entries: &Entries,
 ) -> bool
-    requires { (Comparable heads.now values.now heights.now (answers weights.now depths.now edges.now)) × (v.0 < length depths.now) }
-    ensures { let a = answers weights.now depths.now edges.now in
+    requires { (Comparable heads.now values.now heights.now (answers_in entries.now)) × (v.0 < length entries.now.depths.now) }
+    ensures { let a = answers_in entries.now in
         result ≡ vertex_fits heads.now values.now heights.now (labels a) v.0 }
 {
+    let Entries {
+        weights,
+        depths,
+        edges,
+        ..
+    } = *entries;
     let i = v.0 as usize;
     let w = weights[i];
     let d = depths[i];
@@ -160,14 +164,18 @@ fn edge_right(
     heads: &[u64],
     values: &[u64],
     heights: &[u16],
-    weights: &[u64],
-    depths: &[u64],
-    edges: &[u64],
+    entries: &Entries,
 ) -> bool
-    requires { (Comparable heads.now values.now heights.now (answers weights.now depths.now edges.now)) × (e.0 < length heads.now) }
-    ensures { let a = answers weights.now depths.now edges.now in
+    requires { (Comparable heads.now values.now heights.now (answers_in entries.now)) × (e.0 < length heads.now) }
+    ensures { let a = answers_in entries.now in
         result ≡ edge_fits heads.now values.now heights.now (labels a) (algebra measure) e.0 }
 {
+    let Entries {
+        weights,
+        depths,
+        edges,
+        ..
+    } = *entries;
     let i = e.0 as usize;
     let v = heads[i] as usize;
     let weight = weights[v];
@@ -186,21 +194,20 @@ fn edge_right(
 // Whether hyperedge e leaves the labels as they are: it is not its head's own, and the label of its
 // head does not come after what it offers. Its value and height are worked out as those of a table of
 // one line.
-pub fn line_rests(
-    measure: Measure,
-    e: Hyperedge,
-    table: &Table,
-    weights: &[u64],
-    depths: &[u64],
-    edges: &[u64],
-) -> bool
-    requires { let c = lent_of table.now depths.now in
-        let a = answers weights.now depths.now edges.now in
+pub fn line_rests(measure: Measure, e: Hyperedge, table: &Table, entries: &Entries) -> bool
+    requires { let c = lent_of table.now entries.now.depths.now in
+        let a = answers_in entries.now in
         (Turning c a) × (e.0 < length table.now.heads.now) }
-    ensures { let c = lent_of table.now depths.now in
-        let a = answers weights.now depths.now edges.now in
+    ensures { let c = lent_of table.now entries.now.depths.now in
+        let a = answers_in entries.now in
         result ≡ rests measure c a e.0 }
 {
+    let Entries {
+        weights,
+        depths,
+        edges,
+        ..
+    } = *entries;
     let Table {
         heads,
         own,
@@ -244,21 +251,15 @@ pub fn line_rests(
 }
 
 // The same of every vertex.
-fn vertices_right(
-    heads: &[u64],
-    values: &[u64],
-    heights: &[u16],
-    weights: &[u64],
-    depths: &[u64],
-    edges: &[u64],
-) -> bool
-    requires { Comparable heads.now values.now heights.now (answers weights.now depths.now edges.now) }
-    ensures { let a = answers weights.now depths.now edges.now in
-        result ≡ every (vertex_fits heads.now values.now heights.now (labels a)) (length depths.now) }
+fn vertices_right(heads: &[u64], values: &[u64], heights: &[u16], entries: &Entries) -> bool
+    requires { Comparable heads.now values.now heights.now (answers_in entries.now) }
+    ensures { let a = answers_in entries.now in
+        result ≡ every (vertex_fits heads.now values.now heights.now (labels a)) (length entries.now.depths.now) }
 {
+    let Entries { depths, .. } = *entries;
     for i in 0..depths.len() {
         let v = Vertex(i as u64);
-        if !vertex_right(v, heads, values, heights, weights, depths, edges) {
+        if !vertex_right(v, heads, values, heights, entries) {
             return false;
         }
     }
@@ -271,17 +272,15 @@ fn edges_right(
     heads: &[u64],
     values: &[u64],
     heights: &[u16],
-    weights: &[u64],
-    depths: &[u64],
-    edges: &[u64],
+    entries: &Entries,
 ) -> bool
-    requires { Comparable heads.now values.now heights.now (answers weights.now depths.now edges.now) }
-    ensures { let a = answers weights.now depths.now edges.now in
+    requires { Comparable heads.now values.now heights.now (answers_in entries.now) }
+    ensures { let a = answers_in entries.now in
         result ≡ every (edge_fits heads.now values.now heights.now (labels a) (algebra measure)) (length heads.now) }
 {
     for i in 0..heads.len() {
         let e = Hyperedge(i as u64);
-        if !edge_right(measure, e, heads, values, heights, weights, depths, edges) {
+        if !edge_right(measure, e, heads, values, heights, entries) {
             return false;
         }
     }
@@ -293,19 +292,22 @@ fn edges_right(
 fn right_in(
     measure: Measure,
     table: &Table,
-    weights: &[u64],
-    depths: &[u64],
-    edges: &[u64],
+    entries: &Entries,
     values: &mut [u64],
     heights: &mut [u16],
 ) -> bool
-    requires { let c = lent_of table.now depths.now in
-        let a = answers weights.now depths.now edges.now in
+    requires { let c = lent_of table.now entries.now.depths.now in
+        let a = answers_in entries.now in
         Weighable c a values.old heights.old }
-    ensures { let c = lent_of table.now depths.now in
-        let a = answers weights.now depths.now edges.now in
+    ensures { let c = lent_of table.now entries.now.depths.now in
+        let a = answers_in entries.now in
         result ≡ all_right measure c a }
 {
+    let Entries {
+        weights,
+        depths,
+        ..
+    } = *entries;
     let Table {
         heads,
         own,
@@ -317,61 +319,42 @@ fn right_in(
     offers::line_values(
         measure, own, strikes, spans, tails, weights, depths, values, heights,
     );
-    if !vertices_right(heads, values, heights, weights, depths, edges) {
+    if !vertices_right(heads, values, heights, entries) {
         return false;
     }
-    edges_right(measure, heads, values, heights, weights, depths, edges)
+    edges_right(measure, heads, values, heights, entries)
 }
 
 // The same with columns of its own, of N places: as few as will do, as every place has to be cleared.
-fn right_with<const N: usize>(
-    measure: Measure,
-    table: &Table,
-    weights: &[u64],
-    depths: &[u64],
-    edges: &[u64],
-) -> bool
-    requires { let c = lent_of table.now depths.now in
-        let a = answers weights.now depths.now edges.now in
+fn right_with<const N: usize>(measure: Measure, table: &Table, entries: &Entries) -> bool
+    requires { let c = lent_of table.now entries.now.depths.now in
+        let a = answers_in entries.now in
         (Turning c a) × ((length table.now.heads.now ≤ N) × (N ≤ most_edges)) }
-    ensures { let c = lent_of table.now depths.now in
-        let a = answers weights.now depths.now edges.now in
+    ensures { let c = lent_of table.now entries.now.depths.now in
+        let a = answers_in entries.now in
         result ≡ all_right measure c a }
 {
     let mut values = [0u64; N];
     let mut heights = [0u16; N];
-    right_in(
-        measure,
-        table,
-        weights,
-        depths,
-        edges,
-        &mut values,
-        &mut heights,
-    )
+    right_in(measure, table, entries, &mut values, &mut heights)
 }
 
 // Whether three of the answer columns hold the labels of an accepted table, whoever wrote them. A depth
 // above n is none of them, so no height wraps.
-fn labels_right(
-    measure: Measure,
-    table: &Table,
-    weights: &[u64],
-    depths: &[u64],
-    edges: &[u64],
-) -> bool
-    requires { AcceptedLabels (columns_of table.now) (answers weights.now depths.now edges.now) }
+fn labels_right(measure: Measure, table: &Table, entries: &Entries) -> bool
+    requires { AcceptedLabels (columns_of table.now) (answers_in entries.now) }
     ensures { let c = columns_of table.now in
-        let a = answers weights.now depths.now edges.now in
+        let a = answers_in entries.now in
         result ≡ same_answers a (answers_of measure c) }
 {
+    let Entries { depths, .. } = *entries;
     if !columns::all_below(table.vertices + 1, depths) {
         return false;
     }
     if table.heads.len() <= 256 {
-        return right_with::<256>(measure, table, weights, depths, edges);
+        return right_with::<256>(measure, table, entries);
     }
-    right_with::<4096>(measure, table, weights, depths, edges)
+    right_with::<4096>(measure, table, entries)
 }
 
 // Whether the answer columns hold the entries of an accepted table, whoever wrote them. The piece
@@ -389,7 +372,7 @@ pub fn answers_right(measure: Measure, table: &Table, entries: &Entries) -> bool
         pieces,
     } = *entries;
     let Table { spans, tails, .. } = *table;
-    if !labels_right(measure, table, weights, depths, edges) {
+    if !labels_right(measure, table, entries) {
         return false;
     }
     pieces::pieces_right(spans, tails, depths, edges, pieces)
@@ -402,10 +385,7 @@ pub fn check_answers(measure: Measure, table: &Table, entries: &Entries) -> Resu
         result ≡ checked measure c a }
 {
     columns::check_lent(table, entries)?;
-    if answers_right(measure, table, entries) {
-        return Ok(true);
-    }
-    Ok(false)
+    Ok(answers_right(measure, table, entries))
 }
 
 // What a column holds for a vertex, and 0 for a vertex beyond its end.

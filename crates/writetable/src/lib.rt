@@ -68,10 +68,7 @@ pub fn write_table(measure: Measure, table: &Table, room: &mut [u8]) -> Result<u
     ensures { let c = columns_of table.now in
         write_outcome result room.new ≡ write_table measure c room.old }
 {
-    let checked = check_table(table);
-    if let Err(r) = checked {
-        return Err(r);
-    }
+    check_table(table)?;
     let width = text_width(measure, table);
     if width > room.len() {
         return Err(Refusal::TextRoom);

@@ -1,6 +1,5 @@
 -- `settle::check_answers` meets its contract: where the table is accepted, what `answers_right` says decides. Assumes nothing.
 use mathlib.Core.Path.{sym, ◌∙◌}
-use mathlib.Core.Bool.{true, false}
 use Rattle.columns.proofs.Accepted.{columns_accepted}
 use Rattle.settle.proofs.Checked.{checked_refused, checked_told}
 use Rattle.refusal.proofs.Passed.{passed_on}
@@ -13,10 +12,6 @@ pub answers_right-requires : goal.answers_right-requires
 answers_right-requires c =
     columns_accepted _ _ (sym c.check_lent.ensures ∙ c.in_ok-check_lent.was)
 
-pub returns-then-answers_right : goal.returns-then-answers_right
-returns-then-answers_right c =
-    checked_told _ _ _ true (sym c.check_lent.ensures ∙ c.in_ok-check_lent.was) (sym c.answers_right.ensures ∙ c.if-answers_right.true)
-
 pub returns : goal.returns
 returns c =
-    checked_told _ _ _ false (sym c.check_lent.ensures ∙ c.in_ok-check_lent.was) (sym c.answers_right.ensures ∙ c.if-answers_right.false)
+    checked_told _ _ _ _ (sym c.check_lent.ensures ∙ c.in_ok-check_lent.was) (sym c.answers_right.ensures)

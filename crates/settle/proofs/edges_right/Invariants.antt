@@ -9,4 +9,4 @@ use Rattle.settle.specs.Comparing.{edge_fits}
 use Rattle.settle.proofs.edges_right.Given as goal
 
 abbrev pub invariant-loop-i : goal.invariant-loop-i
-invariant-loop-i l = every (edge_fits l.heads l.values l.heights (labels (answers l.weights l.depths l.edges)) (algebra l.measure)) l.i ≡ true
+invariant-loop-i l = every (edge_fits l.heads l.values l.heights (labels (answers l.entries.weights.now l.entries.depths.now l.entries.edges.now)) (algebra l.measure)) l.i ≡ true

@@ -21,5 +21,5 @@ loop-i-preserved c = every_more _ _ (sym c.vertex_right.ensures ∙ c.if-not-ver
 
 pub returns : goal.returns
 returns c =
-    let e : c.loop-i.i ≡ length c.args.depths.now = omega arith in
+    let e : c.loop-i.i ≡ length c.args.entries.now.depths.now = omega arith in
     sym c.loop-i.invariant ∙ ap (every _) e

@@ -8,4 +8,4 @@ use Rattle.settle.specs.Comparing.{vertex_fits}
 use Rattle.settle.proofs.vertices_right.Given as goal
 
 abbrev pub invariant-loop-i : goal.invariant-loop-i
-invariant-loop-i l = every (vertex_fits l.heads l.values l.heights (labels (answers l.weights l.depths l.edges))) l.i ≡ true
+invariant-loop-i l = every (vertex_fits l.heads l.values l.heights (labels (answers l.entries.weights.now l.entries.depths.now l.entries.edges.now))) l.i ≡ true
