@@ -1,10 +1,11 @@
 -- The line in its places: the columns then begin with the longer table, and the counts returned are its own. Assumes nothing.
 use mathlib.Core.Path.{◌≡◌, refl, sym, ◌∙◌, ap, ap₂, subst, subst₂}
-use mathlib.Core.List.{List, [], ◌∷◌, ◌++◌, append_assoc}
+use mathlib.Core.List.{List, [], ◌∷◌, ◌++◌, append_assoc, append-nil}
 use Prim.Native.Nat.{ℕ, zero, suc, ◌+◌, ◌-◌, ◌*◌, ◌≤◌, ◌<◌}
+use native.Mathlib.Numerals.{add-one}
 use native.Mathlib.Omega.{arith}
-use lib.ListN.{length, set, take, drop, length-append, take-append-drop}
-use lib.Seq.{get_or-take, take-take, length-take-le}
+use lib.ListN.{length, get_or, set, take, drop, length-append, take-append-drop}
+use lib.Seq.{get_or-take, take-take, length-take-le, take-suc, take_all}
 use Rattle.weights.specs.declared.Measure.{Measure}
 use Rattle.refusal.specs.declared.Refusal.{Refusal}
 use Rattle.refusal.specs.declared.Counts.{Counts}
@@ -13,7 +14,7 @@ use Rattle.columns.specs.Acceptance.{acceptance}
 use Rattle.columns.specs.Filled.{filled}
 use Rattle.columns.specs.Longer.{NewLine, end_in, end_of, longer, in_use_of}
 use Rattle.columns.proofs.Exactly.{accepted_exactly}
-use Rattle.columns.proofs.Filled.{length-filled, take-filled, filled-set, filled_part, part_whole, part_back}
+use Rattle.columns.proofs.Filled.{length-filled, take-filled, filled-set, filled_part}
 use Rattle.columns.proofs.Longer.{end_within, longer-count, longer-listed, longer_accepted}
 use Rattle.settle.specs.Settling.{entries_of}
 use Rattle.indextable.specs.Index.{index_of}
@@ -41,9 +42,20 @@ set_two n xs v w h =
     ∙ filled-set (take n xs ++ v ∷ []) xs (n + 1) w (length-append (take n xs) (v ∷ []) ∙ ap (λ (k : ℕ). k + 1) (length-take-le n xs (omega arith))) (omega arith)
     ∙ ap (λ (z : List ℕ). filled z xs) (append_assoc (take n xs) (v ∷ []) (w ∷ []))
 
--- the part of a column from a place on, lent and filled
-pub put_back : (xs ys zs : List ℕ) (n : ℕ) → zs ≡ filled ys (take (length xs - n) (drop n xs)) → take n xs ++ (zs ++ drop (length xs - n) (drop n xs)) ≡ take n xs ++ filled ys (drop n xs)
-put_back xs ys zs n e = part_back xs zs n ∙ ap (λ (z : List ℕ). take n xs ++ z) (e ∙ ap (filled ys) (part_whole xs n))
+-- from place n on a column is filled by numbers one by one: by none, by one more, and by all
+module _ (xs ys : List ℕ) (n : ℕ) (h : n + length ys ≤ length xs) where
+  pub none_put : xs ≡ filled (take n xs ++ take 0 ys) xs
+  none_put = sym (ap (λ (z : List ℕ). filled z xs) (append-nil (take n xs)) ∙ kept_start n xs (omega arith))
+
+  pub one_put : (k : ℕ) → k < length ys → set (filled (take n xs ++ take k ys) xs) (n + k) (get_or ys k 0) ≡ filled (take n xs ++ take (k + 1) ys) xs
+  one_put k l =
+      filled-set (take n xs ++ take k ys) xs (n + k) (get_or ys k 0)
+      (length-append (take n xs) (take k ys) ∙ ap₂ ◌+◌ (length-take-le n xs (omega arith)) (length-take-le k ys (omega arith))) (omega arith)
+      ∙ ap (λ (z : List ℕ). filled z xs)
+      (append_assoc (take n xs) (take k ys) (get_or ys k 0 ∷ []) ∙ ap (λ (z : List ℕ). take n xs ++ z) (sym (ap (λ (j : ℕ). take j ys) (add-one k) ∙ take-suc ys k 0 l)))
+
+  pub all_put : (k : ℕ) → length ys ≤ k → filled (take n xs ++ take k ys) xs ≡ take n xs ++ filled ys (drop n xs)
+  all_put k l = ap (λ (z : List ℕ). filled (take n xs ++ z) xs) (take_all k ys l) ∙ sym (put_start n xs ys (omega arith))
 
 -- the end of the spans is that of their start
 end_start : (spans : List ℕ) (m : ℕ) → end_in (take (2 * m) spans) m ≡ end_in spans m

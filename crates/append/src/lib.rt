@@ -354,7 +354,10 @@ fn store_line(
     spans[2 * i] = end;
     spans[2 * i + 1] = line.tail.len() as u64;
     let from = end as usize;
-    columns::put(line.tail, &mut tails[from..]);
+    // Kept: by `columns::put`, that is std's `copy_from_slice`, the archive for C would ask for `memmove`.
+    for (k, v) in line.tail.iter().enumerate() {
+        tails[from + k] = *v;
+    }
 }
 
 // Index and answers become those of the table in use, whatever the columns held.

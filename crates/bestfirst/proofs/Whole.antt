@@ -18,27 +18,28 @@ use Rattle.tables.proofs.Formed.{well_formed}
 use Rattle.columns.specs.Lent.{Turning}
 use Rattle.columns.proofs.Usable.{same_table, turning_columns}
 use Rattle.waiting.specs.Lines.{Lines}
-use Rattle.bestfirst.specs.Turns.{Waits, Underway, Begun}
+use Rattle.bestfirst.specs.Turns.{Waits, Underway}
 use Rattle.std.specs.Prelude.{Ok}
 
 -- k turns on a table
 abbrev pub turns_of : Measure → Columns → ℕ → Answers
 turns_of m c = turns (algebra m) (hypergraph c) (own_at c)
 
--- u is what the first turn found
-module _ {m : Measure} {c : Columns} {a₀ : Answers} {s₀ : Lines} {q₀ : List ℕ} (u : Begun m c a₀ s₀ q₀) {a : Answers} (k : ℕ) (q : a ≡ turns_of m c k) where
-  accepted : acceptance c ≡ Ok tt
-  accepted = u.unmade.turning.usable.accepted
+-- a turn for each vertex
+pub all-turns : (m : Measure) (c : Columns) {a : Answers} {k : ℕ} → a ≡ turns_of m c k → k ≡ c.vertices → a ≡ best_first (algebra m) (hypergraph c) (own_at c)
+unfolding best_first
+all-turns m c p e = p ∙ ap (turns_of m c) e
 
+module _ (m : Measure) (c : Columns) (p : acceptance c ≡ Ok tt) {a : Answers} (k : ℕ) (q : a ≡ turns_of m c k) where
   -- after k turns
   so_far : After (algebra m) (hypergraph c) (own_at c) k a
-  so_far = subst (After (algebra m) (hypergraph c) (own_at c) k) (sym q) (after (lawful m) (own_at c) (well_formed c accepted) k)
+  so_far = subst (After (algebra m) (hypergraph c) (own_at c) k) (sym q) (after (lawful m) (own_at c) (well_formed c p) k)
 
-  sizes : Sized c.vertices a
+  pub sizes : Sized c.vertices a
   sizes = so_far.size
 
-  turning : k ≤ c.vertices → Turning (same_table c (length a.depths)) a
-  turning h = turning_columns c a accepted sizes (λ v. omega (arith, so_far.shallow v, (table_accepted c accepted).few))
+  pub turning : k ≤ c.vertices → Turning (same_table c (length a.depths)) a
+  turning h = turning_columns c a p sizes (λ v. omega (arith, so_far.shallow v, (table_accepted c p).few))
 
   -- before the next turn
   pub underway : {s : Lines} {q : List ℕ} → k < c.vertices → Waits m c a.weights a.depths s q → Underway m (same_table c (length a.depths)) a s q
@@ -60,8 +61,3 @@ module _ {m : Measure} {c : Columns} {a₀ : Answers} {s₀ : Lines} {q₀ : Lis
   turns_more {b} t =
       let t' : b ≡ turn (algebra m) (hypergraph c) (own_at c) a = subst (λ (n : ℕ). b ≡ turn (algebra m) (hypergraph (same_table c n)) (own_at c) a) sizes.depths t in
       t' ∙ rw (add-one, ← q)
-
-  -- a turn for each vertex
-  pub all-turns : k ≡ c.vertices → a ≡ best_first (algebra m) (hypergraph c) (own_at c)
-  unfolding best_first
-  all-turns e = q ∙ ap (turns_of m c) e

@@ -60,6 +60,11 @@ pub record Repeatable (at size : ℕ) (room : List ℕ) : Type 0 where
   pub stand : size ≤ at
   pub fits : at + size ≤ length room
 
+-- k of them are copied
+pub record Copied (at size : ℕ) (room : List ℕ) (k : ℕ) (left : List ℕ) : Type 0 where
+  pub within : k ≤ size
+  pub written : WrittenFrom at (take k (standing at size room)) room (at + k) left
+
 -- the bill of v, if its line lists something, has this length
 abbrev pub Long : (spans tails edges : List ℕ) → (depth v size : ℕ) → Type 0
 Long spans tails edges depth v size = ¬ (cell spans (2 * get_or edges v 0 + 1) ≡ 0) → size ≡ length (vertex_bill spans tails edges depth v)

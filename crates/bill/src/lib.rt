@@ -89,7 +89,10 @@ fn repeat(room: &mut [u64], at: usize, size: usize) -> usize
     ensures { WrittenFrom at (standing at size room.old) room.old result room.new }
 {
     let from = at - size;
-    room.copy_within(from..at, at);
+    // Kept: std's `copy_within` goes from the last place down here, which takes up to twice the time.
+    for k in 0..size {
+        room[at + k] = room[from + k];
+    }
     at + size
 }
 

@@ -8,9 +8,7 @@ use native.Mathlib.Decide.{dec_le, dec_lt, ℕ_discrete}
 use native.Mathlib.Omega.{arith}
 use lib.ListN.{length, set, drop, length-set, drop_of_length-le, get_or-eq_default}
 use lib.Seq.{drop-cons, get_or-set_same, get_or-set_other}
-use lib.Dec.{leb, eqb}
-use Rattle.std.specs.Prelude.{cond, count_by}
-use Rattle.std.proofs.lemmas.List.Recursion.{is_count_by}
+use lib.Dec.{leb}
 use borrow.Author.Tests.{leb-true, leb-false, le-leb, lt-leb}
 use Rattle.weights.specs.Choice.{pick}
 use Rattle.weights.proofs.Choice.{apart, both_true}
@@ -19,14 +17,14 @@ use Rattle.provenance.specs.Counting.{once, count}
 use Rattle.provenance.proofs.Counting.{once_same, once_other}
 use Rattle.inventory.specs.Replaying.{holds, suffices, consumed}
 
--- how often a number stands in a list: in as many places as pass the test
-pub count_tested : (v : ℕ) (xs : List ℕ) → count v xs ≡ count_by (λ (x : ℕ). eqb x v) xs
+-- how often a number stands in what is left of a list
+pub count_next : (v : ℕ) (xs : List ℕ) (k : ℕ) → k < length xs → count v (drop k xs) ≡ once v (cell xs k) + count v (drop (k + 1) xs)
 unfolding count
-count_tested v xs = is_count_by (count v) (λ (x : ℕ). eqb x v) refl (λ (x : ℕ) (ys : List ℕ). step (eqb x v) (count v ys)) xs
-  where
-    step : (b : Bool) (n : ℕ) → pick b 1 0 + n ≡ cond b (1 + n) n
-    step true n = refl
-    step false n = omega arith
+count_next v xs k h = rw (add-one k, drop-cons xs k 0 h)
+
+pub count_end : (v : ℕ) (xs : List ℕ) (k : ℕ) → length xs ≤ k → count v (drop k xs) ≡ 0
+unfolding count
+count_end v xs k h = rw (drop_of_length-le xs h)
 
 -- the code's steps along a tail: a part of which there is enough, one of which there is not, and none left
 module _ (stock tail : List ℕ) (k : ℕ) where

@@ -330,11 +330,12 @@ pub fn start(
         let s' = lines first.new next.new at.new joined.new deepest.new in
         Rested measure c weights.now depths.now s' queue.new }
 {
-    let Table { heads, .. } = *table;
-    for i in 0..heads.len() {
+    // A copy, since columns behind a reference are looked up anew for each line, after the stores of the one before.
+    let table = *table;
+    for i in 0..table.heads.len() {
         let e = Hyperedge(i as u64);
         begin(
-            measure, e, table, weights, depths, first, next, at, joined, deepest, queue,
+            measure, e, &table, weights, depths, first, next, at, joined, deepest, queue,
         );
     }
 }

@@ -6,10 +6,13 @@ pub loop-init : goal.loop-init
 loop-init c = (c.requires.unmade.blank, c.requires.waits)
 
 pub turn-requires : goal.turn-requires
-turn-requires c = underway c.requires _ c.loop.invariant.0 c.loop-test.true c.loop.invariant.1
+turn-requires c = underway _ _ c.requires.unmade.turning.usable.accepted _ c.loop.invariant.0 c.loop-test.true c.loop.invariant.1
 
 pub loop-preserved : goal.loop-preserved
-loop-preserved c = (turns_more c.requires _ c.loop.invariant.0 c.turn.ensures.0, waits_on c.requires _ c.loop.invariant.0 c.turn.ensures.1)
+loop-preserved c = (
+  turns_more _ _ c.requires.unmade.turning.usable.accepted _ c.loop.invariant.0 c.turn.ensures.0,
+  waits_on _ _ c.requires.unmade.turning.usable.accepted _ c.loop.invariant.0 c.turn.ensures.1,
+)
 
 pub returns : goal.returns
-returns c = all-turns c.requires _ c.loop.invariant.0 (omega arith)
+returns c = all-turns _ _ c.loop.invariant.0 (omega arith)

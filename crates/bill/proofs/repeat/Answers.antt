@@ -1,11 +1,21 @@
--- `bill::repeat` meets its contract. Assumes nothing.
-use mathlib.Core.Path.{sym, subst}
-use Prim.Native.Nat.{◌+◌}
-use Rattle.bill.specs.Walk.{WrittenFrom, standing}
-use Rattle.bill.proofs.Repeats.{repeated}
+use native.Mathlib.Omega.{arith}
+use Rattle.bill.proofs.Repeats.{none_copied, copy_kept, one_copied, all_copied}
 use Rattle.bill.proofs.repeat.Goals as goal
 
+pub loop-k-init : goal.loop-k-init
+loop-k-init c = none_copied c.requires
+
+pub bounds-room-from : goal.bounds-room-from
+bounds-room-from c = omega (arith, copy_kept c.requires c.loop-k.invariant)
+
+pub bounds-room-at : goal.bounds-room-at
+bounds-room-at c = omega (arith, copy_kept c.requires c.loop-k.invariant)
+
+pub loop-k-preserved : goal.loop-k-preserved
+loop-k-preserved c = one_copied c.requires c.loop-k.invariant c.loop-k-test.true
+
+pub shape_of-room : goal.shape_of-room
+shape_of-room c = copy_kept c.requires c.loop-k.invariant
+
 pub returns : goal.returns
-returns c =
-    let a = c.args in
-    subst (WrittenFrom a.at (standing a.at a.size a.room.now) a.room.now (a.at + a.size)) (sym c.copy_within.ensures.after) (repeated c.requires)
+returns c = all_copied c.requires c.loop-k.invariant c.loop-k-test.false
