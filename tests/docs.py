@@ -76,7 +76,7 @@ def words_of_code():
 
 
 # names that a note on a change cites because they are gone
-GONE = {"TOZBIERDU_STRUCK", "days-is", "days-never-over", "same-graph"}
+GONE = {"TOZBIERDU_STRUCK", "count_tested", "days-is", "days-never-over", "same-graph"}
 
 
 # names that the page on the design pass cites because it replaced them
